@@ -1,0 +1,4 @@
+pub mod Causes
+pub mod Decimal
+pub mod Scripted
+pub mod Told
