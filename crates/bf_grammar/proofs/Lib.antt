@@ -1,1 +1,3 @@
+pub mod Composing
+pub mod Repeating
 mod Rows
