@@ -1,3 +1,4 @@
 pub mod Composing
+pub mod Parts
 pub mod Repeating
 mod Rows

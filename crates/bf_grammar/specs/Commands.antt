@@ -40,8 +40,9 @@ required limits word part = must_be_at limits word >>= λ _. part
 unfoldable pub mark_at : Limits → Reading (Option ℕ)
 mark_at limits = optional limits (codes "mark") mark_of
 
-unfoldable pub original_oid_at : Limits → Reading (Option (List ℕ))
-original_oid_at limits = optional limits (codes "original-oid") (λ line. text_after line (codes "original-oid"))
+-- its text is dropped
+unfoldable pub original_oid_at : Limits → Reading (Unit {0})
+original_oid_at limits = optional limits (codes "original-oid") (λ line. text_after line (codes "original-oid")) >>= (λ _. pure tt)
 
 unfoldable pub author_at : Limits → List ℕ → Reading (Option (List ℕ))
 author_at limits word = optional limits word (λ line. ident_of line word)
