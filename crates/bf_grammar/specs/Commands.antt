@@ -78,13 +78,19 @@ abbrev pub content_at : Limits → ℕ → List ℕ → DataForm → Reading (Li
 content_at limits line text (Counted n) = bytes_at line n
 content_at limits line text Delimited = delimited_at limits line (delimiter_in text)
 
-unfoldable pub data_at : Limits → Reading (List ℕ)
-data_at limits = required limits (codes "data") (with_line (λ line text. do
+-- the bytes that the line in front announces
+unfoldable pub announced_at : Limits → Reading (List ℕ)
+announced_at limits = with_line (λ line text. do
   form ← lifted (data_form limits line text)
   _ ← take_line
-  bytes ← content_at limits line text form
+  content_at limits line text form)
+
+unfoldable pub data_at : Limits → Reading (List ℕ)
+data_at limits = do
+  _ ← must_be_at limits (codes "data")
+  bytes ← announced_at limits
   _ ← skip_end_of_line
-  pure bytes))
+  pure bytes
 
 -- one more item, or the end of the items
 abbrev pub one_more : {X : Type 0} → List X → Option X → Reading (List X ⊎ List X)
@@ -118,7 +124,7 @@ delete_at = with_line (λ line text. do
 
 unfoldable pub delete_all_at : Reading Change
 delete_all_at = with_line (λ line text. do
-  _ ← lifted (where_so (is_text (codes "deleteall") text) (Syntax line) line)
+  _ ← lifted (where_so {X = Unit {0}} (is_text (codes "deleteall") text) (Syntax line) tt)
   _ ← take_line
   pure (DeleteAll line))
 
