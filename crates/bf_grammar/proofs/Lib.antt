@@ -1,4 +1,5 @@
 pub mod Composing
+pub mod Onward
 pub mod Parts
 pub mod Repeating
 mod Rows

@@ -1,5 +1,5 @@
 -- What a part of a command gives, by what its calls give.
-use Rattle.std.proofs.Common.{◌≡◌, ℕ, Bool, true, false, List, Option, Some, None, Result, Ok, Err, refl, sym, ◌∙◌, ap, subst}
+use Rattle.std.proofs.Common.{◌≡◌, ℕ, true, false, List, Option, Some, None, Result, Ok, Err, refl, sym, ◌∙◌, ap}
 use Rattle.std.specs.Option.{option_map, IfSome}
 use Rattle.bf_grammar.specs.declared.fault.Limits.{Limits}
 use Rattle.bf_grammar.specs.declared.fault.StreamFault.{StreamFault}

@@ -1,5 +1,5 @@
 -- Readings never go back, and a repetition unfolds by one step.
-use Rattle.std.proofs.Common.{◌≡◌, ℕ, suc, zero, ◌+◌, ◌-◌, ◌<◌, ◌≤◌, Bool, true, false, cond, List, [], ◌∷◌, ◌++◌, length, take, drop, Option, Some, None, Result, Ok, Err, refl, sym, ◌∙◌, ap, subst, ◌⊎◌, inl, inr, arith, length-drop}
+use Rattle.std.proofs.Common.{◌≡◌, ℕ, suc, zero, ◌<◌, ◌≤◌, Bool, true, false, cond, length, Result, Ok, Err, refl, ◌∙◌, ap, ◌⊎◌, inl, inr, arith, length-drop}
 use Rattle.bf_grammar.specs.declared.fault.StreamFault.{StreamFault}
 use Rattle.bf_grammar.specs.declared.fault.StreamFault.TheVariants as faults
 use Rattle.bf_grammar.specs.Place.{Place, Reading, and_then, pure, lifted, moved, ◌>>=◌, goes_on, repeated, repeat}

@@ -1,15 +1,15 @@
 -- Worked streams, by computation: each is these commands, and ends so.
-use Rattle.std.specs.Prelude.{◌≡◌, ℕ, List, [], ◌∷◌, ◌++◌, codes, Option, Some, None, refl}
+use Rattle.std.specs.Prelude.{[], ◌∷◌, codes, Some, None, refl}
 use Rattle.bf_grammar.specs.declared.command.Change.TheVariants.{Modify}
-use Rattle.bf_grammar.specs.declared.command.Command.TheVariants.{Blob, Commit, Reset, Progress, Feature}
+use Rattle.bf_grammar.specs.declared.command.Command.TheVariants.{Blob, Commit, Progress, Feature}
 use Rattle.bf_grammar.specs.declared.command.DataRef.TheVariants.{Inline}
 use Rattle.bf_grammar.specs.declared.fault.Limit.TheVariants.{Data}
 use Rattle.bf_grammar.specs.declared.fault.StreamFault.TheVariants.{Syntax, Unsupported, Truncated, NoDone, TooLarge}
 use Rattle.bf_grammar.specs.declared.object.Mode.TheVariants.{Plain}
 use Rattle.bf_grammar.specs.Limits.{standard_limits}
 use Rattle.bf_grammar.specs.Lines.{next_front, at_word, must_be_at, at_command, skip_end_of_line, bytes_at, delimited_at}
-use Rattle.bf_grammar.specs.Forms.{mark_of, ident_of, encoding_of, data_form, modify_form, head_of}
-use Rattle.bf_grammar.specs.Commands.{mark_at, original_oid_at, author_at, committer_at, encoding_at, no_signature_at, target_at, from_at, data_at, announced_at, merges_at, modify_at, delete_at, delete_all_at, change_at, changes_at, blob_at, commit_at, tag_at, reset_at, command_at}
+use Rattle.bf_grammar.specs.Forms.{mark_of, ident_of, data_form, modify_form, head_of}
+use Rattle.bf_grammar.specs.Commands.{mark_at, original_oid_at, author_at, committer_at, encoding_at, no_signature_at, target_at, data_at, announced_at, merges_at, modify_at, delete_at, delete_all_at, change_at, changes_at, blob_at, commit_at, command_at}
 use Rattle.bf_grammar.specs.Stream.{IsStream}
 use Rattle.bf_io.specs.Decimal.{decimal_value}
 

@@ -1,10 +1,9 @@
 -- The lines and data parts of a stream (git-fast-import(1)). A line ends with LF, the last one may end without it.
-use Rattle.std.specs.Prelude.{ℕ, ◌+◌, ◌<◌, Bool, true, false, ◌==◌, ◌&&◌, ◌||◌, not, nat_lt, nat_le, List, [], ◌∷◌, ◌++◌, length, take, drop, codes, Option, Some, None, Result, Ok, Err, if◌then◌else◌, ◌⊎◌}
+use Rattle.std.specs.Prelude.{ℕ, ◌+◌, Bool, true, false, ◌==◌, ◌&&◌, ◌||◌, not, nat_lt, nat_le, List, [], ◌∷◌, ◌++◌, length, take, codes, Ok, Err, if◌then◌else◌, ◌⊎◌}
 use Rattle.std.specs.List.{list_any, starts_with, before_first}
 use Rattle.std.proofs.Common.{inl, inr}
 use Rattle.bf_grammar.specs.declared.fault.Limit.TheVariants.{Line, Data, Stream}
 use Rattle.bf_grammar.specs.declared.fault.Limits.{Limits}
-use Rattle.bf_grammar.specs.declared.fault.StreamFault.{StreamFault}
 use Rattle.bf_grammar.specs.declared.fault.StreamFault.TheVariants.{Syntax, Truncated, TooLarge}
 use Rattle.bf_grammar.specs.Place.{Place, Reading, is_end_of_line, moved, pure, refuse, ◌>>=◌, repeat}
 

@@ -1,6 +1,6 @@
 -- Places in a stream, and readings of them: a reading goes from a place to a value and the place behind it, or
 -- to the refusal that stands there. Nothing here knows of windows or of pieces.
-use Rattle.std.specs.Prelude.{◌≡◌, ℕ, suc, zero, ◌+◌, Bool, false, ◌==◌, nat_lt, List, [], ◌∷◌, take, drop, length, count_by, Option, Some, None, Result, Ok, Err, ◌⊎◌}
+use Rattle.std.specs.Prelude.{◌≡◌, ℕ, suc, zero, ◌+◌, Bool, false, ◌==◌, nat_lt, List, take, drop, length, count_by, Option, Some, None, Result, Ok, Err, ◌⊎◌}
 use Rattle.std.proofs.Common.{inl, inr}
 use Rattle.bf_grammar.specs.declared.fault.StreamFault.{StreamFault}
 use Rattle.bf_grammar.specs.declared.fault.StreamFault.TheVariants as faults
