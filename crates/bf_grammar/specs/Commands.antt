@@ -197,8 +197,12 @@ command_of limits line text head.FeatureDone = take_line >>= λ _. done_is_due >
 abbrev pub end_of_input : Reading (Option Command)
 end_of_input p = if p.done_due then Err (NoDone p.line) else Ok (None, p)
 
+-- the command that the line in front begins
+unfoldable pub headed_at : Limits → Reading (Option Command)
+headed_at limits = with_line (λ line text. lifted (head_of line text) >>= command_of limits line text)
+
 -- the next command, or none at the end of the stream
 unfoldable pub command_at : Limits → Reading (Option Command)
 command_at limits = do
   there ← at_command limits
-  if there then with_line (λ line text. lifted (head_of line text) >>= command_of limits line text) else end_of_input
+  if there then headed_at limits else end_of_input
