@@ -3,16 +3,18 @@
 //! A small list type of the product is written in this form. It is a struct over its `Vec` and the
 //! allocator, with an `impl Model` whose `Value` is the list of the items and whose `view` reads that
 //! list from the `Vec`. So in a clause and in a definition a value of the type is just the list, also
-//! inside an enum, a struct or a slice. `PartialEq`, `Eq` and `Hash` can't be derived, because the
-//! view forgets the capacity: they are written by hand over the slice, with the members `eq` and
-//! `hash_input` over the list, and their laws are found by `Prim.search`.
-ghost use Rattle.std.specs.Prelude.{◌≡◌, ◌==◌, ◌↔◌, [], ◌∷◌, ◌++◌, length, IsTrue, IfOk, OnOk, OnErr};
-ghost use Rattle.std.specs.Cmp.Lexicographic.{pointwise};
+//! inside an enum, a struct or a slice. Comparisons and `Hash` can't be derived, because the view
+//! forgets the capacity: they are written by hand over the slice, with their ghost members over the
+//! list; `Prim.search` finds most of the laws, and std has the laws of the order of texts.
+ghost use Rattle.std.specs.Prelude.{◌≡◌, ◌==◌, ◌↔◌, [], ◌∷◌, ◌++◌, length, refl, Some, IsTrue, IfOk, OnOk, OnErr};
+ghost use Rattle.std.specs.Ordering.{nat_cmp};
+ghost use Rattle.std.specs.Cmp.Lexicographic.{pointwise, slice_cmp, nat_list_cmp_total, texts_ties, texts_po};
 ghost use Rattle.std.specs.Cmp.Rules.{comparing, hashing};
 ghost use Rattle.std.specs.Hash as fed;
 ghost use Rattle.std.proofs.Common.{rules};
 
 use std::alloc::{AllocError, Global};
+use std::cmp::Ordering;
 use std::fmt;
 use std::hash::{Hash, Hasher};
 use std::marker::Model;
@@ -138,6 +140,31 @@ impl PartialEq for Bytes {
 
 impl Eq for Bytes {
     ghost laws = { Prim.search (comparing, rules) };
+}
+
+/// Bytes are ordered by the first that differs, and a front comes before what it is a front of.
+impl Ord for Bytes {
+    ghost cmp = { slice_cmp nat_cmp };
+
+    ghost total = { nat_list_cmp_total };
+
+    ghost matches_partial_cmp = { λ a b. refl };
+
+    ghost matches_eq = { texts_ties };
+
+    fn cmp(&self, other: &Bytes) -> Ordering {
+        self.items.as_slice().cmp(&other.items.as_slice())
+    }
+}
+
+impl PartialOrd for Bytes {
+    ghost partial_cmp = { λ a b. Some (slice_cmp nat_cmp a b) };
+
+    ghost laws = { texts_po };
+
+    fn partial_cmp(&self, other: &Bytes) -> Option<Ordering> {
+        Some(self.cmp(other))
+    }
 }
 
 impl Hash for Bytes {

@@ -15,3 +15,6 @@ pub use device::{Failed, Sink, SinkFault, Source, write_whole};
 pub use memory::{MemSink, MemSource, PlainSink, PlainSource};
 pub use real::{StdSink, StdSource};
 pub use text::{decimal, put_decimal};
+
+#[cfg(test)]
+mod tests;

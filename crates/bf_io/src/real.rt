@@ -1,5 +1,10 @@
-//! Devices over the readers and writers of the system. They tell nothing but their count of faults.
-ghost use Rattle.std.specs.Prelude.{◌≡◌, ℕ, None};
+//! Devices over the readers and writers of the system. They tell nothing but their count of faults, and
+//! hand on what the reader or writer does.
+ghost use Rattle.std.specs.Prelude.{◌≡◌, ◌<◌, ◌≤◌, length, None, IfOk, IsErrOf};
+ghost use Rattle.std.specs.Io.{ReadsAtMost};
+ghost use Rattle.std.specs.Io.KnownBytes as known;
+ghost use Rattle.bf_io.specs.Causes.{HasCause, FailsOnlyAt};
+ghost use Rattle.bf_io.specs.Told.{ReadTakes, WriteAppends, Keeps};
 
 use crate::{Failed, Sink, SinkFault, Source};
 use std::io::{Read, Write};
@@ -14,7 +19,7 @@ pub struct StdSource<R: Read + Drop> {
 impl<R: Read + Drop> StdSource<R> {
     /// A source that reads from `reader`, with no fault so far.
     pub fn new(reader: R) -> StdSource<R>
-        ensures { result ≡ record { reader = reader; faults = 0 } }
+        ensures { result.faults ≡ 0 }
     {
         StdSource { reader, faults: 0 }
     }
@@ -25,7 +30,14 @@ impl<R: Read + Drop> Source for StdSource<R> {
 
     ghost faults = { λ s. s.faults };
 
-    fn read(&mut self, buf: &mut [u8]) -> Result<usize, Failed> {
+    /// Reads once from the reader.
+    fn read(&mut self, buf: &mut [u8]) -> Result<usize, Failed>
+        requires { 0 < length buf.old }
+        ensures bound { ReadsAtMost result buf.new }
+        ensures bytes { ReadTakes None None result buf.new }
+        ensures cause { HasCause self.old.faults self.new.faults result }
+        ensures reader { known.ReadConsumes (R.remaining self.old.reader) (R.remaining self.new.reader) result buf.new }
+    {
         match self.reader.read(buf) {
             Ok(count) => Ok(count),
             Err(_) => {
@@ -47,7 +59,7 @@ pub struct StdSink<W: Write + Drop> {
 impl<W: Write + Drop> StdSink<W> {
     /// A sink that writes to `writer`, with no fault so far.
     pub fn new(writer: W) -> StdSink<W>
-        ensures { result ≡ record { writer = writer; faults = 0 } }
+        ensures { result.faults ≡ 0 }
     {
         StdSink { writer, faults: 0 }
     }
@@ -58,7 +70,15 @@ impl<W: Write + Drop> Sink for StdSink<W> {
 
     ghost faults = { λ s. s.faults };
 
-    fn write(&mut self, piece: &[u8]) -> Result<usize, SinkFault> {
+    /// Writes once to the writer.
+    fn write(&mut self, piece: &[u8]) -> Result<usize, SinkFault>
+        requires { 0 < length piece.now }
+        ensures bound { IfOk result (λ n. (0 < n) × (n ≤ length piece.now)) }
+        ensures bytes { WriteAppends None None result piece.now }
+        ensures cause { FailsOnlyAt SinkFault.Failed self.old.faults self.new.faults result }
+        ensures memory { IsErrOf result SinkFault.NoMemory → self.new.faults ≡ self.old.faults }
+        ensures writer { known.WriteAppends (W.contents self.old.writer) (W.contents self.new.writer) result piece.now }
+    {
         match self.writer.write(piece) {
             Ok(count) if count > 0 => Ok(count),
             _ => {
