@@ -1,4 +1,5 @@
--- No reading of a stream goes back, and each that finds a line or a command takes at least a byte.
+-- No look ahead, line or data part goes back, and each line that is passed over or taken, and each part that may
+-- stand and does, takes at least a byte.
 use Rattle.std.proofs.Common.{◌≡◌, ℕ, ◌+◌, ◌<◌, ◌≤◌, Bool, true, false, cond, List, [], ◌∷◌, ◌++◌, length, take, Option, Some, None, Result, Ok, Err, refl, sym, ◌∙◌, ap, subst, ◌⊎◌, inl, inr, arith, length-drop}
 use Rattle.std.specs.Prelude.{if◌then◌else◌, nat_lt, nat_le, ◌==◌, ◌&&◌, ◌||◌, not, codes}
 use Rattle.bf_grammar.specs.declared.command.Change.TheVariants.{Modify, Delete, DeleteAll}
@@ -17,17 +18,14 @@ use Rattle.bf_grammar.specs.Forms.{text_after, where_so, data_form, delimiter_in
 use Rattle.bf_grammar.specs.Commands.{line_as, optional, required, target_of, target_at, content_at, announced_at, data_at, one_more, dataref_at, modify_at, delete_at, delete_all_at, some, change_at}
 use Rattle.bf_grammar.proofs.Repeating.{NeverBack, TakesSome, same_place, same_value, never_back-pure, never_back-lifted, never_back-then, never_back-if, never_back-moved, never_back-repeat, repeat_ends}
 
--- a reading takes at least a byte where it gives a value
-abbrev pub Takes : {X : Type 0} → Reading X → Type 0
-Takes {X} read = (x : X) (p q : Place) → read p ≡ Ok (x, q) → length q.rest < length p.rest
-
--- the same, where something is in front
+-- a reading takes at least a byte, where some byte is left
 abbrev pub TakesThere : {X : Type 0} → Reading X → Type 0
 TakesThere {X} read = (x : X) (p q : Place) → 0 < length p.rest → read p ≡ Ok (x, q) → length q.rest < length p.rest
 
 pub never_back-refuse : {X : Type 0} (fault : ℕ → StreamFault) → NeverBack (refuse {X = X} fault)
 never_back-refuse fault x p q is = absurd (cc)
 
+-- what a reading gives
 abbrev pub Read : Type 0 → Type 0
 Read X = Result (X × Place) StreamFault
 
@@ -39,7 +37,7 @@ then_gave {X} {Y} read next y p q is = go (read p) refl is
     go (Ok (x, m)) at goes = (x, m, at, goes)
     go (Err fault) at goes = absurd (cc)
 
-same_rest : (p q : Place) → p ≡ q → length q.rest ≤ length p.rest
+pub same_rest : (p q : Place) → p ≡ q → length q.rest ≤ length p.rest
 same_rest p q is = omega (arith, ap (λ (r : Place). length r.rest) is)
 
 -- where the front is told, the place stays
@@ -238,13 +236,29 @@ TakesIfSome {X} read = (x : X) (p q : Place) → read p ≡ Ok (Some x, q) → l
 pub takes_if_some-none : {X : Type 0} → TakesIfSome (pure {X = Option X} None)
 takes_if_some-none {X} x p q is = absurd (let e = same_value {X = Option X} None (Some x) p q is in cc)
 
--- where a word stands, one reading, and else another
-pub takes_if_some-where : {X : Type 0} (limits : Limits) (word : List ℕ) (read other : Reading (Option X)) → TakesThere read → TakesIfSome other → TakesIfSome (at_word limits word >>= (λ there. if there then read else other))
-takes_if_some-where {X} limits word read other takes others x p q is = go (then_gave (at_word limits word) (λ there. if there then read else other) (Some x) p q is)
+-- the same, where some byte is left
+abbrev pub TakesThereIfSome : {X : Type 0} → Reading (Option X) → Type 0
+TakesThereIfSome {X} read = (x : X) (p q : Place) → 0 < length p.rest → read p ≡ Ok (Some x, q) → length q.rest < length p.rest
+
+-- where a look ahead finds something, one reading, and else another
+takes_if_some-found : {X : Type 0} (look : Reading Bool) (read other : Reading (Option X)) → ((there : Bool) (p q : Place) → look p ≡ Ok (there, q) → Finds p there q) → TakesThereIfSome read → TakesIfSome other → TakesIfSome (look >>= (λ there. if there then read else other))
+takes_if_some-found {X} look read other finds takes others x p q is = go (then_gave look (λ there. if there then read else other) (Some x) p q is)
   where
-    go : (there : Bool) × (m : Place) × (at_word limits word p ≡ Ok (there, m)) × ((if there then read else other) m ≡ Ok (Some x, q)) → length q.rest < length p.rest
-    go (true, m, at, goes) = let a : length m.rest ≤ length p.rest = never_back-at_word limits word true p m at in let b : length q.rest < length m.rest = takes (Some x) m q (at_word-there limits word p m at) goes in omega arith
-    go (false, m, at, goes) = let a : length m.rest ≤ length p.rest = never_back-at_word limits word false p m at in let b : length q.rest < length m.rest = others x m q goes in omega arith
+    go : (there : Bool) × (m : Place) × (look p ≡ Ok (there, m)) × ((if there then read else other) m ≡ Ok (Some x, q)) → length q.rest < length p.rest
+    go (true, m, at, goes) =
+        let found : Finds p true m = finds true p m at in
+        let h : length q.rest < length m.rest = takes x m q (found.1 refl) goes in
+        omega (arith, found.0)
+    go (false, m, at, goes) =
+        let found : Finds p false m = finds false p m at in
+        let h : length q.rest < length m.rest = others x m q goes in
+        omega (arith, found.0)
+
+pub takes_if_some-where : {X : Type 0} (limits : Limits) (word : List ℕ) (read other : Reading (Option X)) → TakesThere read → TakesIfSome other → TakesIfSome (at_word limits word >>= (λ there. if there then read else other))
+takes_if_some-where limits word read other takes others = takes_if_some-found (at_word limits word) read other (at_word-finds limits word) (λ x. takes (Some x)) others
+
+pub takes_if_some-at_command : {X : Type 0} (limits : Limits) (read other : Reading (Option X)) → TakesThereIfSome read → TakesIfSome other → TakesIfSome (at_command limits >>= (λ there. if there then read else other))
+takes_if_some-at_command limits read other takes others = takes_if_some-found (at_command limits) read other (at_command-finds limits) takes others
 
 pub never_back-where : {X : Type 0} (limits : Limits) (word : List ℕ) (read other : Reading X) → NeverBack read → NeverBack other → NeverBack (at_word limits word >>= (λ there. if there then read else other))
 never_back-where limits word read other first second =

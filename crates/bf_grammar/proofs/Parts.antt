@@ -18,11 +18,11 @@ gives_line (Some p) after number text result read is gives =
     gives_moved (λ x. x) p p after result (read number text) (with_line read) (ap (λ n. read n (front_line p.rest) p) (sym is.0) ∙ ap (λ t. read number t p) (sym is.1)) gives
 
 -- the line in front was refused
-pub line_refused : {X Y : Type 0} (place after : Option Place) (number : ℕ) (text : List ℕ) (fault : StreamFault) (form : ℕ → List ℕ → Result X StreamFault) (next : X → Reading Y) → LineIs place number text → form number text ≡ Err fault → Gives (λ x. x) place after (Err fault) (with_line (λ line text. lifted (form line text) >>= next))
+pub line_refused : {X Y : Type 0} (place after : Option Place) (number : ℕ) (text : List ℕ) (fault : StreamFault) (form : ℕ → List ℕ → Result X StreamFault) (next : ℕ → List ℕ → X → Reading Y) → LineIs place number text → form number text ≡ Err fault → Gives (λ x. x) place after (Err fault) (with_line (λ line text. lifted (form line text) >>= next line text))
 line_refused place after number text fault form next is refused =
-    gives_line place after number text (Err fault) (λ line text. lifted (form line text) >>= next) is
-    (gives_same (λ x. x) place after (Err fault) (lifted (Err fault) >>= next) (lifted (form number text) >>= next)
-    (ap (λ (r : Result _ StreamFault). lifted r >>= next) (sym refused)) (gives_refused (λ x. x) place after fault next))
+    gives_line place after number text (Err fault) (λ line text. lifted (form line text) >>= next line text) is
+      (gives_same (λ x. x) place after (Err fault) (lifted (Err fault) >>= next number text) (lifted (form number text) >>= next number text)
+        (ap (λ (r : Result _ StreamFault). lifted r >>= next number text) (sym refused)) (gives_refused (λ x. x) place after fault (next number text)))
 
 -- the line in front says x, and what follows goes on
 pub line_read : {X Y : Type 0} (place after : Option Place) (number : ℕ) (text : List ℕ) (x : X) (result : Result Y StreamFault) (form : ℕ → List ℕ → Result X StreamFault) (next : ℕ → List ℕ → X → Reading Y) → LineIs place number text → form number text ≡ Ok x → Gives (λ y. y) place after result (next number text x) → Gives (λ y. y) place after result (with_line (λ line text. lifted (form line text) >>= next line text))
@@ -47,7 +47,7 @@ module _ {X : Type 0} (limits : Limits) (word : List ℕ) (form : ℕ → List �
   pub optional_refused : (after : Option Place) (number : ℕ) (text : List ℕ) (fault : StreamFault) → Gives (λ x. x) before mid (Ok true) (at_word limits word) → LineIs mid number text → form number text ≡ Err fault → Gives (λ x. x) before after (Err fault) (optional limits word form)
   optional_refused after number text fault gives is refused =
       gives_then (λ x. x) (λ x. x) before mid after (at_word limits word) _ true (Err fault) gives
-      (gives_stopped (λ x. x) (λ x. x) mid after after (line_as form) (λ x. pure (Some x)) fault (line_refused mid after number text fault form (λ x. take_line >>= (λ _. pure x)) is refused))
+      (gives_stopped (λ x. x) (λ x. x) mid after after (line_as form) (λ x. pure (Some x)) fault (line_refused mid after number text fault form (λ _ _ x. take_line >>= (λ _. pure x)) is refused))
 
   pub optional_taken : (after : Option Place) (number : ℕ) (text : List ℕ) (x : X) → Gives (λ x. x) before mid (Ok true) (at_word limits word) → LineIs mid number text → form number text ≡ Ok x → after ≡ option_map past_line mid → Gives (λ x. x) before after (Ok (Some x)) (optional limits word form)
   optional_taken after number text x gives is says goes =
@@ -59,7 +59,7 @@ module _ {X : Type 0} (limits : Limits) (word : List ℕ) (form : ℕ → List �
 
   pub required_refused : (after : Option Place) (number : ℕ) (text : List ℕ) (fault : StreamFault) → Gives (λ x. x) before mid (Ok tt) (must_be_at limits word) → LineIs mid number text → form number text ≡ Err fault → Gives (λ x. x) before after (Err fault) (required limits word (line_as form))
   required_refused after number text fault gives is refused =
-      gives_then (λ x. x) (λ x. x) before mid after (must_be_at limits word) (λ _. line_as form) tt (Err fault) gives (line_refused mid after number text fault form (λ x. take_line >>= (λ _. pure x)) is refused)
+      gives_then (λ x. x) (λ x. x) before mid after (must_be_at limits word) (λ _. line_as form) tt (Err fault) gives (line_refused mid after number text fault form (λ _ _ x. take_line >>= (λ _. pure x)) is refused)
 
   pub required_taken : (after : Option Place) (number : ℕ) (text : List ℕ) (x : X) → Gives (λ x. x) before mid (Ok tt) (must_be_at limits word) → LineIs mid number text → form number text ≡ Ok x → after ≡ option_map past_line mid → Gives (λ x. x) before after (Ok x) (required limits word (line_as form))
   required_taken after number text x gives is says goes =

@@ -5,10 +5,12 @@
 
 mod command;
 mod fault;
+mod law;
 mod object;
 
 pub use command::{
     Change, Changes, Command, ContentForm, DataForm, DataRef, Head, Target, Targets,
 };
 pub use fault::{Limit, Limits, StreamFault};
+pub use law::{one_reading, own_faults, some_reading};
 pub use object::{Kind, Mode, Oid};
