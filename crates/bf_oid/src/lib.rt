@@ -1,0 +1,12 @@
+//! The names of git's objects: what names an object, and the 40 hexadecimal digits that write a name.
+#![tactic(auto)]
+
+mod hasher;
+mod text;
+
+pub use bf_grammar::{Kind, Mode, Oid};
+pub use hasher::{ObjectHasher, object_name};
+pub use text::{oid_from_hex, oid_hex};
+
+#[cfg(test)]
+mod tests;
