@@ -13,3 +13,6 @@ pub use cuts::{name_after, text_after};
 pub use heads::{head_of, is_ref};
 pub use idents::ident_of;
 pub use parts::{data_form, delimiter_in, encoding_of, mark_of};
+
+#[cfg(test)]
+mod tests;

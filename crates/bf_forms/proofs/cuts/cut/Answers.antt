@@ -1,4 +1,4 @@
-use Rattle.std.proofs.Common.{◌==◌, ℕ}
+use Rattle.std.proofs.Common.{◌==◌}
 use Rattle.bf_forms.proofs.Fronts.{behind_found, not_found}
 use Rattle.bf_forms.proofs.cuts.cut.Goals as goal
 
