@@ -1,0 +1,4 @@
+pub mod Reaching
+pub mod Modes
+pub mod CandidateLemmas
+pub mod Worked
