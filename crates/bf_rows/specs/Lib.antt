@@ -1,0 +1,4 @@
+pub mod Bits
+pub mod Bitwise
+pub mod Blocks
+pub mod Row
