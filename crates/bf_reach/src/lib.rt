@@ -1,0 +1,7 @@
+//! Which commits are ancestors of which: rows of truth values, filled by walks down a graph.
+#![tactic(auto)]
+
+mod marks;
+mod reach;
+
+pub use reach::Reach;
