@@ -12,7 +12,7 @@ use Rattle.bf_search.specs.Choice.{best}
 use Rattle.bf_search.specs.Bases.{common_places, merge_bases, reaches_all, check_bases, check}
 use Rattle.bf_search.specs.Outcomes.{outcomes_of_plan}
 use Rattle.bf_search.specs.State.{Search, best_of, ask, mark}
-use Rattle.bf_search.specs.Run.{End, Answered, Leg, Open, run_within, seq}
+use Rattle.bf_search.specs.Run.{End, Answered, Leg, Open, run_within, run, seq}
 
 -- a root, two branches and their merge
 abbrev diamond : List (List ℕ)
@@ -93,28 +93,28 @@ abbrev plan : List Outcome
 plan = Exit 0 ∷ Exit 0 ∷ Exit 0 ∷ Exit 0 ∷ Exit 1 ∷ Exit 1 ∷ Exit 1 ∷ Exit 1 ∷ []
 
 line_of_eight_entries : (seq line_of_eight (start 7 (0 ∷ []) 8) (outcomes_of_plan plan) 0).entries ≡ Marked Good 3 ∷ Marked Bad 5 ∷ Marked Bad 4 ∷ FirstBadFound 4 ∷ []
-unfolding reaches_within reaches any_reaches is_candidate candidates candidate_row weight weights best common_places merge_bases reaches_all check_bases check best_of ask mark run_within seq
+unfolding reaches_within reaches any_reaches is_candidate candidates candidate_row weight weights best common_places merge_bases reaches_all check_bases check best_of ask mark run_within run
 line_of_eight_entries = refl
 
 line_of_eight_end : (seq line_of_eight (start 7 (0 ∷ []) 8) (outcomes_of_plan plan) 0).end ≡ Answered (FirstBad 4)
-unfolding reaches_within reaches any_reaches is_candidate candidates candidate_row weight weights best common_places merge_bases reaches_all check_bases check best_of ask mark run_within seq
+unfolding reaches_within reaches any_reaches is_candidate candidates candidate_row weight weights best common_places merge_bases reaches_all check_bases check best_of ask mark run_within run
 line_of_eight_end = refl
 
 line_of_eight_leg : (seq line_of_eight (start 7 (0 ∷ []) 8) (outcomes_of_plan plan) 2).end ≡ Leg
-unfolding reaches_within reaches any_reaches is_candidate candidates candidate_row weight weights best common_places merge_bases reaches_all check_bases check best_of ask mark run_within seq
+unfolding reaches_within reaches any_reaches is_candidate candidates candidate_row weight weights best common_places merge_bases reaches_all check_bases check best_of ask mark run_within run
 line_of_eight_leg = refl
 
 -- the base of the fork is good, so the bad branch is at fault
 fork_good_base : (seq fork (start 1 (2 ∷ []) 3) (outcomes_of_plan (Exit 0 ∷ [])) 0).entries ≡ Marked Good 0 ∷ FirstBadFound 1 ∷ []
-unfolding reaches_within reaches any_reaches is_candidate candidates candidate_row weight weights best common_places merge_bases reaches_all check_bases check best_of ask mark run_within seq
+unfolding reaches_within reaches any_reaches is_candidate candidates candidate_row weight weights best common_places merge_bases reaches_all check_bases check best_of ask mark run_within run
 fork_good_base = refl
 
 -- the base is bad, so the change was undone on the good branch
 fork_bad_base : (seq fork (start 1 (2 ∷ []) 3) (outcomes_of_plan (Exit 1 ∷ [])) 0).end ≡ Answered (MergeBaseBad 0)
-unfolding reaches_within reaches any_reaches is_candidate candidates candidate_row weight weights best common_places merge_bases reaches_all check_bases check best_of ask mark run_within seq
+unfolding reaches_within reaches any_reaches is_candidate candidates candidate_row weight weights best common_places merge_bases reaches_all check_bases check best_of ask mark run_within run
 fork_bad_base = refl
 
 -- the base is skipped, and is warned of
 fork_skipped_base : (seq fork (start 1 (2 ∷ []) 3) (outcomes_of_plan (Exit 125 ∷ [])) 0).entries ≡ Marked Skip 0 ∷ SkippedBase 0 ∷ FirstBadFound 1 ∷ []
-unfolding reaches_within reaches any_reaches is_candidate candidates candidate_row weight weights best common_places merge_bases reaches_all check_bases check best_of ask mark run_within seq
+unfolding reaches_within reaches any_reaches is_candidate candidates candidate_row weight weights best common_places merge_bases reaches_all check_bases check best_of ask mark run_within run
 fork_skipped_base = refl

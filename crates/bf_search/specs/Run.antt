@@ -72,7 +72,10 @@ unfoldable pub run_within : ℕ → List (List ℕ) → Outcomes → Option ℕ 
 run_within zero graph known left s = ended [] s Leg
 run_within (suc turns) graph known left s = turn graph known (run_within turns graph known) left s
 
--- The run from a state with both ends, in legs of k marks or, where k is 0, to its end. No place is asked twice, so
--- its turns are never spent.
-unfoldable pub seq : List (List ℕ) → Search → Outcomes → ℕ → Run
-seq graph s known k = run_within (suc (length graph)) graph known (leg_of k) s
+-- A run to its end, or to the end of its leg. No place is asked twice, so there are turns enough: they are never spent.
+unfoldable pub run : List (List ℕ) → Outcomes → Option ℕ → Search → Run
+run graph known left s = run_within (suc (length graph)) graph known left s
+
+-- The run from a state with both ends, in legs of k marks or, where k is 0, to its end.
+abbrev pub seq : List (List ℕ) → Search → Outcomes → ℕ → Run
+seq graph s known k = run graph known (leg_of k) s

@@ -1,8 +1,11 @@
 //! Laws about the definitions. A function here does nothing: its contract is the law.
-ghost use Rattle.std.specs.Prelude.{◌≡◌, ◌↔◌, ℕ, Bool, List, IsTrue};
+ghost use Rattle.std.specs.Prelude.{◌≡◌, ◌↔◌, ℕ, Bool, List, Option, IsTrue};
 ghost use Rattle.bf_graph.specs.Graph.{IsGraph};
 ghost use Rattle.bf_search.specs.Reach.{in_mode, reaches, Reaches};
 ghost use Rattle.bf_search.specs.Candidates.{is_candidate, candidates, candidate_row, places_of};
+ghost use Rattle.bf_search.specs.Outcomes.{Outcomes};
+ghost use Rattle.bf_search.specs.State.{Search, IsSearchOver};
+ghost use Rattle.bf_search.specs.Run.{turn, run};
 
 /// The test for reach says whether a path of parents leads from one place to the other.
 pub fn reach_is_by_a_path()
@@ -23,4 +26,10 @@ pub fn paths_between_candidates()
 pub fn row_of_candidates()
     ensures { (graph : List (List ℕ)) (bad : ℕ) (goods : List ℕ) (first_parent : Bool) →
         places_of (candidate_row graph bad goods first_parent) ≡ candidates graph bad goods first_parent }
+{}
+
+/// A run goes on turn by turn: it has turns enough, since no place is asked twice.
+pub fn turns_are_never_spent()
+    ensures { (graph : List (List ℕ)) (known : Outcomes) (left : Option ℕ) (s : Search) → IsGraph graph → IsSearchOver graph s →
+        run graph known left s ≡ turn graph known (run graph known) left s }
 {}
