@@ -2,14 +2,14 @@
 ghost use Rattle.std.specs.Prelude.{◌≡◌, codes};
 ghost use Rattle.bf_grammar.specs.Forms as forms;
 ghost use Rattle.bf_grammar.specs.Lines as lines;
-ghost use Rattle.bf_grammar.specs.Object.{oid_of_hex};
 ghost use Rattle.bf_grammar.specs.declared.fault.StreamFault.TheVariants as faults;
 ghost use Rattle.bf_forms.specs.Answers.{IsOfText};
 ghost use Rattle.bf_forms.specs.Changes.{content_before_path};
 
 use crate::cuts::{cut, is_text, text_after};
 use crate::parts::colon_number;
-use bf_grammar::{ContentForm, Mode, Oid, StreamFault};
+use bf_grammar::{ContentForm, Mode, StreamFault};
+use bf_oid::oid_from_hex;
 
 /// The mode and the content of a line `M <mode> <dataref> <path>`. The modes 040000 and 40000 are
 /// `Unsupported`, whatever follows them; any other line that is not in the form is `Syntax`. The path
@@ -67,18 +67,6 @@ fn content_of(line: u64, word: &[u8]) -> Result<ContentForm, StreamFault>
             None => Err(StreamFault::Syntax { line }),
         }
     }
-}
-
-// The name that 40 hexadecimal digits of either case write.
-fn oid_from_hex(text: &[u8]) -> Option<Oid>
-    ensures { result ≡ oid_of_hex text.now }
-{
-    if text.len() != 40 {
-        return None;
-    }
-    let mut bytes = [0; 20];
-    hex::decode_to_slice(text, &mut bytes).ok()?;
-    Some(Oid(bytes))
 }
 
 /// The path in a line `M`, as `modify_form` has looked at it: the rest of the line behind the second
