@@ -54,28 +54,55 @@ abbrev pub given_bad : (ℕ → List ℕ) → Option ℕ → List ℕ
 given_bad text None = []
 given_bad text (Some p) = text p
 
--- the words of the start line: the mode, the terms where they were given, the bad name, the good names
-abbrev pub start_words : Commits → Sides → Bool → Bool → Option ℕ → List ℕ → List ℕ
-start_words commits sides first_parent terms_given bad goods =
-    (if first_parent then quoted (codes "--first-parent") else [])
-    ++ (if terms_given then quoted (codes "--term-new") ++ quoted sides.new ++ quoted (codes "--term-old") ++ quoted sides.old else [])
-    ++ given_bad (λ p. quoted (hex_of commits p)) bad
-    ++ flat_map (λ p. quoted (hex_of commits p)) goods
+-- the options of the start line: the mode, and the terms where they were given
+abbrev pub mode_word : Bool → List ℕ
+mode_word first_parent = if first_parent then quoted (codes "--first-parent") else []
+
+unfoldable pub given_terms : Sides → List ℕ
+given_terms sides = quoted (codes "--term-new") ++ quoted sides.new ++ quoted (codes "--term-old") ++ quoted sides.old
+
+abbrev pub term_words : Sides → Bool → List ℕ
+term_words sides terms_given = if terms_given then given_terms sides else []
+
+abbrev pub option_words : Sides → Bool → Bool → List ℕ
+option_words sides first_parent terms_given = mode_word first_parent ++ term_words sides terms_given
+
+-- the ends of a start: as comments, and as words of its line
+unfoldable pub end_lines : Commits → Sides → Option ℕ → List ℕ → List ℕ
+end_lines commits sides bad goods = given_bad (comment_of commits sides.new) bad ++ flat_map (comment_of commits sides.old) goods
+
+unfoldable pub end_words : Commits → Option ℕ → List ℕ → List ℕ
+end_words commits bad goods = given_bad (λ p. quoted (hex_of commits p)) bad ++ flat_map (λ p. quoted (hex_of commits p)) goods
+
+-- a start: its ends as comments, and the command with its options, the bad name and the good names
+unfoldable pub start_lines : Commits → Sides → Bool → Bool → Option ℕ → List ℕ → List ℕ
+start_lines commits sides first_parent terms_given bad goods =
+    end_lines commits sides bad goods ++ codes "git bisect start" ++ option_words sides first_parent terms_given ++ end_words commits bad goods ++ codes "\n"
+
+-- a mark: its commit as a comment, and the command
+unfoldable pub mark_lines : Commits → List ℕ → ℕ → List ℕ
+mark_lines commits word p = comment_of commits word p ++ (codes "git bisect " ++ word ++ codes " ") ++ text_line (hex_of commits p)
+
+-- how a commit is called that is, or may be, the first of the new side
+unfoldable pub first_words : Sides → List ℕ
+first_words sides = codes "first " ++ sides.new ++ codes " commit"
+
+unfoldable pub possible_words : Sides → List ℕ
+possible_words sides = codes "possible " ++ first_words sides
+
+-- the skipped candidates that are left
+unfoldable pub skipped_left_lines : Commits → Sides → List ℕ → List ℕ
+skipped_left_lines commits sides ps =
+    codes "# only skipped commits left to test\n"
+    ++ flat_map (comment_of commits (possible_words sides)) ps
 
 -- the lines of an entry, without its status line
 unfoldable pub entry_lines : Commits → Sides → Entry → List ℕ
-entry_lines commits sides (Start first_parent terms_given bad goods) =
-    given_bad (comment_of commits sides.new) bad
-    ++ flat_map (comment_of commits sides.old) goods
-    ++ text_line (codes "git bisect start" ++ start_words commits sides first_parent terms_given bad goods)
-entry_lines commits sides (Marked mark p) =
-    comment_of commits (word_of_mark sides mark) p
-    ++ text_line (codes "git bisect " ++ word_of_mark sides mark ++ codes " " ++ hex_of commits p)
+entry_lines commits sides (Start first_parent terms_given bad goods) = start_lines commits sides first_parent terms_given bad goods
+entry_lines commits sides (Marked mark p) = mark_lines commits (word_of_mark sides mark) p
 entry_lines commits sides (SkippedBase p) = comment_of commits (codes "skipped merge base") p
-entry_lines commits sides (FirstBadFound p) = comment_of commits (codes "first " ++ sides.new ++ codes " commit") p
-entry_lines commits sides (OnlySkippedLeft ps) =
-    text_line (codes "# only skipped commits left to test")
-    ++ flat_map (comment_of commits (codes "possible first " ++ sides.new ++ codes " commit")) ps
+entry_lines commits sides (FirstBadFound p) = comment_of commits (first_words sides) p
+entry_lines commits sides (OnlySkippedLeft ps) = skipped_left_lines commits sides ps
 
 -- which ends are known: whether a bad commit is, and the good ones, each once
 pub record Known : Type 0 where
@@ -99,11 +126,18 @@ known_after known (Marked Good p) = record known { goods = with_good known.goods
 known_after known other = known
 
 -- what a search waits for
+unfoldable pub waiting_for_old : Sides → List ℕ
+waiting_for_old sides = codes "waiting for " ++ sides.old ++ codes " commits, " ++ sides.new ++ codes " commit known"
+
+unfoldable pub waiting_for_both : Sides → List ℕ
+waiting_for_both sides = codes "waiting for both " ++ sides.old ++ codes " and " ++ sides.new ++ codes " commits"
+
+unfoldable pub waiting_for_new : Sides → ℕ → List ℕ
+waiting_for_new sides good_count = codes "waiting for " ++ sides.new ++ codes " commit, " ++ decimal good_count ++ codes " " ++ sides.old ++ codes " known"
+
 abbrev pub waiting_text : Sides → Bool → ℕ → List ℕ
 waiting_text sides bad good_count =
-    if bad then codes "waiting for " ++ sides.old ++ codes " commits, " ++ sides.new ++ codes " commit known"
-    else if good_count == 0 then codes "waiting for both " ++ sides.old ++ codes " and " ++ sides.new ++ codes " commits"
-    else codes "waiting for " ++ sides.new ++ codes " commit, " ++ decimal good_count ++ codes " " ++ sides.old ++ codes " known"
+    if bad then waiting_for_old sides else if good_count == 0 then waiting_for_both sides else waiting_for_new sides good_count
 
 -- the status line, where an end is not known after a start or a mark
 abbrev pub has_status : Entry → Bool
@@ -131,28 +165,46 @@ abbrev pub outcome_text : Outcome → List ℕ
 outcome_text (Exit status) = codes "exit " ++ decimal status
 outcome_text Killed = codes "killed"
 
+-- the lines that endings answer with
+unfoldable pub merge_base_bad_lines : Commits → Sides → ℕ → List ℕ
+merge_base_bad_lines commits sides p =
+    codes "The merge base " ++ hex_of commits p ++ codes " is " ++ sides.new
+    ++ codes ".\nThe change was undone between it and one of the " ++ sides.old ++ codes " commits.\n"
+
+unfoldable pub not_ancestor_line : Commits → Sides → ℕ → List ℕ
+not_ancestor_line commits sides p =
+    codes "Some " ++ sides.old ++ codes " commits are not ancestors of the " ++ sides.new ++ codes " commit " ++ hex_of commits p ++ codes ".\n"
+
+unfoldable pub both_sides_line : Commits → Sides → ℕ → List ℕ
+both_sides_line commits sides p = hex_of commits p ++ codes " was both " ++ sides.old ++ codes " and " ++ sides.new ++ codes "\n"
+
+unfoldable pub first_bad_line : Commits → Sides → ℕ → List ℕ
+first_bad_line commits sides p = hex_of commits p ++ codes " is the first " ++ sides.new ++ codes " commit\n"
+
+unfoldable pub only_skipped_lines : Commits → Sides → List ℕ → List ℕ
+only_skipped_lines commits sides ps =
+    codes "There are only 'skip'ped commits left to test.\nThe first " ++ sides.new ++ codes " commit could be any of:\n"
+    ++ flat_map (λ p. text_line (hex_of commits p)) ps
+    ++ codes "We cannot bisect more!\n"
+
+unfoldable pub aborted_line : Commits → ℕ → Outcome → List ℕ
+aborted_line commits p outcome = codes "bisect aborted: " ++ outcome_text outcome ++ codes " on " ++ text_line (hex_of commits p)
+
 -- the lines that an ask answers with; one that waits says so by its waiting text alone
 abbrev pub ask_lines : Commits → Sides → Ask → List ℕ
 ask_lines commits sides ask.WaitBoth = []
 ask_lines commits sides ask.WaitBad = []
 ask_lines commits sides ask.WaitGood = []
 ask_lines commits sides (ask.Test p) = text_line (codes "next: " ++ hex_of commits p)
-ask_lines commits sides (ask.MergeBaseBad p) =
-    text_line (codes "The merge base " ++ hex_of commits p ++ codes " is " ++ sides.new ++ codes ".")
-    ++ text_line (codes "The change was undone between it and one of the " ++ sides.old ++ codes " commits.")
-ask_lines commits sides (ask.GoodNotAncestor p) =
-    text_line (codes "Some " ++ sides.old ++ codes " commits are not ancestors of the " ++ sides.new ++ codes " commit " ++ hex_of commits p ++ codes ".")
-ask_lines commits sides (ask.BothSides p) = text_line (hex_of commits p ++ codes " was both " ++ sides.old ++ codes " and " ++ sides.new)
-ask_lines commits sides (ask.FirstBad p) = text_line (hex_of commits p ++ codes " is the first " ++ sides.new ++ codes " commit")
-ask_lines commits sides (ask.OnlySkipped ps) =
-    text_line (codes "There are only 'skip'ped commits left to test.")
-    ++ text_line (codes "The first " ++ sides.new ++ codes " commit could be any of:")
-    ++ flat_map (λ p. text_line (hex_of commits p)) ps
-    ++ text_line (codes "We cannot bisect more!")
+ask_lines commits sides (ask.MergeBaseBad p) = merge_base_bad_lines commits sides p
+ask_lines commits sides (ask.GoodNotAncestor p) = not_ancestor_line commits sides p
+ask_lines commits sides (ask.BothSides p) = both_sides_line commits sides p
+ask_lines commits sides (ask.FirstBad p) = first_bad_line commits sides p
+ask_lines commits sides (ask.OnlySkipped ps) = only_skipped_lines commits sides ps
 
 -- the lines of the answer of a run
 unfoldable pub answer_lines : Commits → Sides → End → List ℕ
 answer_lines commits sides (Answered a) = ask_lines commits sides a
 answer_lines commits sides Leg = []
 answer_lines commits sides (Open p) = []
-answer_lines commits sides (Aborted p outcome) = text_line (codes "bisect aborted: " ++ outcome_text outcome ++ codes " on " ++ hex_of commits p)
+answer_lines commits sides (Aborted p outcome) = aborted_line commits p outcome
