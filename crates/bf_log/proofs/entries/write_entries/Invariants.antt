@@ -1,0 +1,9 @@
+use Rattle.std.proofs.Common.{◌≡◌, ◌++◌, drop}
+use Rattle.bf_history.specs.Texts as texts
+use Rattle.bf_log.specs.Labels.{commits_of, sides_of, known_of}
+use Rattle.bf_log.proofs.entries.write_entries.Given as goal
+
+abbrev pub invariant-loop-entry : goal.invariant-loop-entry
+invariant-loop-entry l =
+    l.out ++ texts.log_from (commits_of l.commits) (sides_of l.sides) (known_of l.known) (drop l.entry-index l.entries)
+    ≡ l.fn.out ++ texts.log (commits_of l.commits) (sides_of l.sides) l.entries

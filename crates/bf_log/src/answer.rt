@@ -1,0 +1,238 @@
+//! The lines of an answer.
+ghost use Rattle.std.specs.Prelude.{◌≡◌, ◌<◌, ◌++◌, length, codes, All, OnOk};
+ghost use Rattle.std.specs.List.{flat_map};
+ghost use Rattle.bf_history.specs.Texts as texts;
+ghost use Rattle.bf_log.specs.Labels.{IsAskWithin, commits_of, sides_of};
+ghost use Rattle.bf_search.specs.Run.{Aborted};
+
+use crate::label::{Commits, Sides, put_hex, put_name_line};
+use bf_io::{Bytes, put_decimal};
+use bf_search::{Ask, Outcome};
+use std::alloc::AllocError;
+
+/// Adds the lines that an ask answers with. An ask that waits has none: `write_waiting` says what is
+/// known.
+pub fn write_ask(
+    commits: Commits<'_>,
+    sides: Sides<'_>,
+    ask: &Ask,
+    out: &mut Bytes,
+) -> Result<(), AllocError>
+    requires { IsAskWithin (length commits.names.now) ask.now }
+    ensures { OnOk result (out.new ≡ out.old ++ texts.ask_lines (commits_of commits.entry) (sides_of sides.entry) ask.now) }
+{
+    match ask {
+        Ask::WaitBoth | Ask::WaitBad | Ask::WaitGood => Ok(()),
+        Ask::Test(place) => put_next(out, commits, *place),
+        Ask::MergeBaseBad(place) => put_merge_base_bad(out, commits, sides, *place),
+        Ask::GoodNotAncestor(place) => put_not_ancestor(out, commits, sides, *place),
+        Ask::BothSides(place) => put_both_sides(out, commits, sides, *place),
+        Ask::FirstBad(place) => put_first_bad(out, commits, sides, *place),
+        Ask::OnlySkipped(places) => put_only_skipped(out, commits, sides, places.as_slice()),
+    }
+}
+
+/// Adds the line of a run that a test aborted.
+#[tactic(auto, unfolding(bf_history::specs::Texts::aborted_line))]
+pub fn write_aborted(
+    commits: Commits<'_>,
+    place: u32,
+    outcome: Outcome,
+    out: &mut Bytes,
+) -> Result<(), AllocError>
+    requires { place < length commits.names.now }
+    ensures { OnOk result (out.new ≡ out.old ++ texts.aborted_line (commits_of commits.entry) place outcome) }
+{
+    out.append(b"bisect aborted: ")?;
+    put_outcome(out, outcome)?;
+    out.append(b" on ")?;
+    put_name_line(out, commits, place)
+}
+
+/// Adds the line that says what a search waits for: whether a bad commit is known, and how many good
+/// ones are.
+pub fn write_waiting(
+    sides: Sides<'_>,
+    bad: bool,
+    good_count: u64,
+    out: &mut Bytes,
+) -> Result<(), AllocError>
+    ensures { OnOk result (out.new ≡ out.old ++ texts.text_line (texts.waiting_text (sides_of sides.entry) bad good_count)) }
+{
+    put_waiting(out, sides, bad, good_count)?;
+    out.append(b"\n")
+}
+
+/// Adds what a search waits for.
+pub(crate) fn put_waiting(
+    out: &mut Bytes,
+    sides: Sides<'_>,
+    bad: bool,
+    good_count: u64,
+) -> Result<(), AllocError>
+    ensures { OnOk result (out.new ≡ out.old ++ texts.waiting_text (sides_of sides.entry) bad good_count) }
+{
+    if bad {
+        put_waiting_for_old(out, sides)
+    } else if good_count == 0 {
+        put_waiting_for_both(out, sides)
+    } else {
+        put_waiting_for_new(out, sides, good_count)
+    }
+}
+
+#[tactic(auto, unfolding(bf_history::specs::Texts::waiting_for_old))]
+fn put_waiting_for_old(out: &mut Bytes, sides: Sides<'_>) -> Result<(), AllocError>
+    ensures { OnOk result (out.new ≡ out.old ++ texts.waiting_for_old (sides_of sides.entry)) }
+{
+    out.append(b"waiting for ")?;
+    out.append(sides.old)?;
+    out.append(b" commits, ")?;
+    out.append(sides.new)?;
+    out.append(b" commit known")
+}
+
+#[tactic(auto, unfolding(bf_history::specs::Texts::waiting_for_both))]
+fn put_waiting_for_both(out: &mut Bytes, sides: Sides<'_>) -> Result<(), AllocError>
+    ensures { OnOk result (out.new ≡ out.old ++ texts.waiting_for_both (sides_of sides.entry)) }
+{
+    out.append(b"waiting for both ")?;
+    out.append(sides.old)?;
+    out.append(b" and ")?;
+    out.append(sides.new)?;
+    out.append(b" commits")
+}
+
+#[tactic(auto, unfolding(bf_history::specs::Texts::waiting_for_new))]
+fn put_waiting_for_new(out: &mut Bytes, sides: Sides<'_>, good_count: u64) -> Result<(), AllocError>
+    ensures { OnOk result (out.new ≡ out.old ++ texts.waiting_for_new (sides_of sides.entry) good_count) }
+{
+    out.append(b"waiting for ")?;
+    out.append(sides.new)?;
+    out.append(b" commit, ")?;
+    put_decimal(out, good_count)?;
+    out.append(b" ")?;
+    out.append(sides.old)?;
+    out.append(b" known")
+}
+
+/// Adds how a test ended.
+fn put_outcome(out: &mut Bytes, outcome: Outcome) -> Result<(), AllocError>
+    ensures { OnOk result (out.new ≡ out.old ++ texts.outcome_text outcome) }
+{
+    match outcome {
+        Outcome::Exit(status) => {
+            out.append(b"exit ")?;
+            put_decimal(out, u64::from(status))
+        }
+        Outcome::Killed => out.append(b"killed"),
+    }
+}
+
+fn put_next(out: &mut Bytes, commits: Commits<'_>, place: u32) -> Result<(), AllocError>
+    requires { place < length commits.names.now }
+    ensures { OnOk result (out.new ≡ out.old ++ texts.text_line (codes "next: " ++ texts.hex_of (commits_of commits.entry) place)) }
+{
+    out.append(b"next: ")?;
+    put_name_line(out, commits, place)
+}
+
+#[tactic(auto, unfolding(bf_history::specs::Texts::merge_base_bad_lines))]
+fn put_merge_base_bad(
+    out: &mut Bytes,
+    commits: Commits<'_>,
+    sides: Sides<'_>,
+    place: u32,
+) -> Result<(), AllocError>
+    requires { place < length commits.names.now }
+    ensures { OnOk result (out.new ≡ out.old ++ texts.merge_base_bad_lines (commits_of commits.entry) (sides_of sides.entry) place) }
+{
+    out.append(b"The merge base ")?;
+    put_hex(out, commits, place)?;
+    out.append(b" is ")?;
+    out.append(sides.new)?;
+    out.append(b".\nThe change was undone between it and one of the ")?;
+    out.append(sides.old)?;
+    out.append(b" commits.\n")
+}
+
+#[tactic(auto, unfolding(bf_history::specs::Texts::not_ancestor_line))]
+fn put_not_ancestor(
+    out: &mut Bytes,
+    commits: Commits<'_>,
+    sides: Sides<'_>,
+    place: u32,
+) -> Result<(), AllocError>
+    requires { place < length commits.names.now }
+    ensures { OnOk result (out.new ≡ out.old ++ texts.not_ancestor_line (commits_of commits.entry) (sides_of sides.entry) place) }
+{
+    out.append(b"Some ")?;
+    out.append(sides.old)?;
+    out.append(b" commits are not ancestors of the ")?;
+    out.append(sides.new)?;
+    out.append(b" commit ")?;
+    put_hex(out, commits, place)?;
+    out.append(b".\n")
+}
+
+#[tactic(auto, unfolding(bf_history::specs::Texts::both_sides_line))]
+fn put_both_sides(
+    out: &mut Bytes,
+    commits: Commits<'_>,
+    sides: Sides<'_>,
+    place: u32,
+) -> Result<(), AllocError>
+    requires { place < length commits.names.now }
+    ensures { OnOk result (out.new ≡ out.old ++ texts.both_sides_line (commits_of commits.entry) (sides_of sides.entry) place) }
+{
+    put_hex(out, commits, place)?;
+    out.append(b" was both ")?;
+    out.append(sides.old)?;
+    out.append(b" and ")?;
+    out.append(sides.new)?;
+    out.append(b"\n")
+}
+
+#[tactic(auto, unfolding(bf_history::specs::Texts::first_bad_line))]
+fn put_first_bad(
+    out: &mut Bytes,
+    commits: Commits<'_>,
+    sides: Sides<'_>,
+    place: u32,
+) -> Result<(), AllocError>
+    requires { place < length commits.names.now }
+    ensures { OnOk result (out.new ≡ out.old ++ texts.first_bad_line (commits_of commits.entry) (sides_of sides.entry) place) }
+{
+    put_hex(out, commits, place)?;
+    out.append(b" is the first ")?;
+    out.append(sides.new)?;
+    out.append(b" commit\n")
+}
+
+#[tactic(auto, unfolding(bf_history::specs::Texts::only_skipped_lines))]
+fn put_only_skipped(
+    out: &mut Bytes,
+    commits: Commits<'_>,
+    sides: Sides<'_>,
+    places: &[u32],
+) -> Result<(), AllocError>
+    requires { All (λ p. p < length commits.names.now) places.now }
+    ensures { OnOk result (out.new ≡ out.old ++ texts.only_skipped_lines (commits_of commits.entry) (sides_of sides.entry) places.now) }
+{
+    out.append(b"There are only 'skip'ped commits left to test.\nThe first ")?;
+    out.append(sides.new)?;
+    out.append(b" commit could be any of:\n")?;
+    put_names(out, commits, places)?;
+    out.append(b"We cannot bisect more!\n")
+}
+
+/// Adds the names of these commits, a line each.
+fn put_names(out: &mut Bytes, commits: Commits<'_>, places: &[u32]) -> Result<(), AllocError>
+    requires { All (λ p. p < length commits.names.now) places.now }
+    ensures { OnOk result (out.new ≡ out.old ++ flat_map (λ p. texts.text_line (texts.hex_of (commits_of commits.entry) p)) places.now) }
+{
+    for place in places {
+        put_name_line(out, commits, *place)?;
+    }
+    Ok(())
+}
