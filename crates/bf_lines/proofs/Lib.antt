@@ -1,0 +1,9 @@
+pub mod Delimited
+pub mod Ends
+pub mod Filled
+pub mod Fronts
+pub mod Holding
+pub mod Looking
+pub mod Passing
+pub mod Pieces
+pub mod Words

@@ -1,0 +1,39 @@
+use Rattle.std.proofs.Common.{ℕ, ◌≡◌, ◌<◌, ◌≤◌, List, Ok, subst, arith, ◌∙◌}
+use Rattle.bf_lines.specs.declared.window.Filled.{Filled}
+use Rattle.bf_lines.specs.Filling.{Fills, Gains}
+use Rattle.bf_lines.proofs.Delimited.{delimiter_ended, delimiter_end, delimiter_longer, delimiter_past}
+use Rattle.bf_lines.proofs.Fronts.{known_more, remaining_more}
+use Rattle.bf_lines.proofs.data.take_delimiter.Goals as goal
+
+pub returns-then-end-held-clause-reading : goal.returns-then-end-held-clause-reading
+returns-then-end-held-clause-reading g c =
+    delimiter_ended c.args.delimiter.now c.reads.window c.take_line_if.new.window (g.S.Source.left c.reads.source) _ c.bytes-bytes.result.now c.end_of_line-end.result c.take_line_if.result
+    c.reads.invariant.place c.bytes-bytes.ensures.bytes c.end_of_line-end.ensures c.if-end-held.true c.take_line_if.ensures.test c.take_line_if.ensures.held
+
+pub returns-then-held-delimiter-clause-reading : goal.returns-then-held-delimiter-clause-reading
+returns-then-held-delimiter-clause-reading g c =
+    delimiter_longer c.args.delimiter.now c.reads.window (g.S.Source.left c.reads.source) _ c.bytes-bytes.result.now c.end_of_line-end.result
+    c.reads.invariant.place c.bytes-bytes.ensures.bytes c.end_of_line-end.ensures c.if-end-held.false c.if-held-delimiter.true
+
+pub reads-preserved : goal.reads-preserved
+reads-preserved g c =
+    let gains = subst (λ (f : Filled). Fills c.reads.window c.fill.new.self (g.S.Source.left c.fill.new.source) (Ok f)) c.in-More.is c.in_ok-fill.ensures.filled in
+    let left = remaining_more _ _ _ gains.1 in
+    record {
+      known = known_more _ _ c.bytes-bytes.result.now _ gains.0 c.bytes-bytes.ensures.bytes c.end_of_line-end.ensures c.if-end-held.false gains.1;
+      place = c.in_ok-fill.ensures.place ∙ c.reads.invariant.place;
+      turns = omega (arith, left.0, c.reads.invariant.turns);
+      later = omega (arith, c.in_ok-fill.ensures.cause.later, c.reads.invariant.later);
+    }
+
+pub returns-in-End-clause-reading : goal.returns-in-End-clause-reading
+returns-in-End-clause-reading g c =
+    let ends = subst (λ (f : Filled). Fills c.reads.window c.fill.new.self (g.S.Source.left c.fill.new.source) (Ok f)) c.in-End.is c.in_ok-fill.ensures.filled in
+    delimiter_end c.args.delimiter.now c.reads.window c.fill.new.self c.take_line_if-in-End.new.window (g.S.Source.left c.fill.new.source) _ c.take_line_if-in-End.result
+    (c.in_ok-fill.ensures.place ∙ c.reads.invariant.place) ends c.take_line_if-in-End.ensures.test c.take_line_if-in-End.ensures.held
+
+pub returns-in-Past-clause-reading : goal.returns-in-Past-clause-reading
+returns-in-Past-clause-reading g c =
+    let passes = subst (λ (f : Filled). Fills c.reads.window c.fill.new.self (g.S.Source.left c.fill.new.source) (Ok f)) c.in-Past.is c.in_ok-fill.ensures.filled in
+    delimiter_past c.args.delimiter.now c.reads.window c.fill.new.self (g.S.Source.left c.fill.new.source) _ c.bytes-bytes.result.now c.end_of_line-end.result
+    (c.in_ok-fill.ensures.place ∙ c.reads.invariant.place) c.bytes-bytes.ensures.bytes c.end_of_line-end.ensures c.if-end-held.false passes

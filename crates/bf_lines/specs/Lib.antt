@@ -1,0 +1,4 @@
+pub mod Data
+pub mod Filling
+pub mod Fronts
+pub mod Held
