@@ -1,0 +1,17 @@
+//! The commands of a git fast-import stream (git-fast-import(1)), read from any source in whatever pieces
+//! the bytes come. The definition of a stream stands in `bf_grammar`; here each reader gives what the
+//! definition reads at the place where the window stands.
+#![tactic(auto)]
+
+mod changes;
+mod commands;
+mod parts;
+mod reader;
+mod reading;
+
+pub use bf_grammar::{
+    Change, Changes, Command, DataRef, Limit, Limits, StreamFault, Target, Targets,
+};
+pub use bf_lines::Window;
+pub use commands::take_command;
+pub use reader::Reader;
