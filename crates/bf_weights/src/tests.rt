@@ -1,0 +1,108 @@
+//! Both bodies over a few graphs.
+ghost use Rattle.std.specs.Prelude.{◌<◌, ◌↔◌, All, IsTrue};
+
+use crate::{weights, weights_plain};
+use bf_cands::candidates;
+use bf_graph::Graph;
+use bf_reach::Reach;
+use std::alloc::{AllocError, Global};
+use std::test::Fail;
+
+fn all_below(places: &[u32], end: u32) -> bool
+    ensures { IsTrue result ↔ All (λ place. place < end) places.now }
+{
+    places.iter().all(|place| *place < end)
+}
+
+fn add(graph: &mut Graph, parents: &[u32]) -> Result<(), AllocError> {
+    let len = graph.len();
+    if len < 10_000 && all_below(parents, len) {
+        graph.push(parents)?;
+    }
+    Ok(())
+}
+
+fn graph_of(alloc: Global, parents: &[&[u32]]) -> Result<Graph, AllocError> {
+    let mut graph = Graph::new(alloc);
+    for list in parents {
+        add(&mut graph, list)?;
+    }
+    Ok(graph)
+}
+
+/// The weights where both bodies agree on them, and else nothing.
+fn agreed(
+    alloc: Global,
+    graph: &Graph,
+    bad: u32,
+    goods: &[u32],
+    first_parent: bool,
+) -> Result<Vec<u32>, AllocError> {
+    if bad >= graph.len() || !all_below(goods, graph.len()) {
+        return Ok(Vec::new(alloc));
+    }
+    let reach = Reach::build(alloc, graph)?;
+    let mask = candidates(alloc, &reach, bad, goods, first_parent)?;
+    let plain = weights_plain(alloc, &reach, &mask, first_parent)?;
+    let mut found = weights(alloc, &reach, &mask, first_parent)?;
+    if plain.as_slice() != found.as_slice() {
+        found.clear();
+    }
+    Ok(found)
+}
+
+#[test]
+fn a_diamond(rt: HostRuntime) -> Result<(), Fail> {
+    let graph = graph_of(rt.alloc(), &[&[], &[0], &[0], &[1, 2]])?;
+    let all = agreed(rt.alloc(), &graph, 3, &[0], false)?;
+    assert_eq!(rt; all.as_slice(), [0, 1, 1, 3].as_slice());
+    let first = agreed(rt.alloc(), &graph, 3, &[0], true)?;
+    assert_eq!(rt; first.as_slice(), [0, 1, 0, 2].as_slice());
+    Ok(())
+}
+
+#[test]
+fn crossed_and_repeated_parents(rt: HostRuntime) -> Result<(), Fail> {
+    let crossed = graph_of(rt.alloc(), &[&[], &[0], &[0], &[1, 2], &[2, 1], &[3, 4]])?;
+    let found = agreed(rt.alloc(), &crossed, 5, &[0], false)?;
+    assert_eq!(rt; found.as_slice(), [0, 1, 1, 3, 3, 5].as_slice());
+    let repeated = graph_of(rt.alloc(), &[&[], &[0], &[1, 1], &[2, 2, 2]])?;
+    let found = agreed(rt.alloc(), &repeated, 3, &[0], false)?;
+    assert_eq!(rt; found.as_slice(), [0, 1, 2, 3].as_slice());
+    Ok(())
+}
+
+#[test]
+fn a_merge_of_six_hundred(rt: HostRuntime) -> Result<(), Fail> {
+    let mut graph = graph_of(rt.alloc(), &[&[]])?;
+    let mut branches = Vec::new(rt.alloc());
+    for place in 1..601 {
+        add(&mut graph, &[0])?;
+        branches.push(place)?;
+    }
+    add(&mut graph, branches.as_slice())?;
+    let found = agreed(rt.alloc(), &graph, 601, &[0], false)?;
+    assert_eq!(rt; found.get(600).copied(), Some(1));
+    assert_eq!(rt; found.get(601).copied(), Some(601));
+    Ok(())
+}
+
+/// A graph of merges, one parent of each some places back.
+fn merges(alloc: Global, halved: bool) -> Result<Graph, AllocError> {
+    let mut graph = graph_of(alloc, &[&[], &[0]])?;
+    for place in 2u32..1_100 {
+        let back = if halved { place / 2 } else { place % 3 };
+        add(&mut graph, &[place - 1, place.saturating_sub(back + 1)])?;
+    }
+    Ok(graph)
+}
+
+#[test]
+fn every_commit_a_merge(rt: HostRuntime) -> Result<(), Fail> {
+    for halved in [false, true] {
+        let graph = merges(rt.alloc(), halved)?;
+        let found = agreed(rt.alloc(), &graph, 1_099, &[2], false)?;
+        assert_eq!(rt; found.len(), 1_100);
+    }
+    Ok(())
+}
