@@ -1,4 +1,4 @@
-use Rattle.std.proofs.Common.{arith, sym, ap, ◌∙◌}
+use Rattle.std.proofs.Common.{sym, ◌∙◌}
 use Rattle.bf_graph.proofs.Layouts.{lists_from-at, EndsRise-at}
 use Rattle.bf_graph.proofs.graph.list_at.Goals as goal
 

@@ -1,4 +1,4 @@
-use Rattle.std.proofs.Common.{◌≡◌, List, ℕ, [], length, sym, ap, ◌∙◌, eqb-true, eq-eqb}
+use Rattle.std.proofs.Common.{◌≡◌, length, sym, ap, ◌∙◌, eqb-true, eq-eqb}
 use Rattle.std.proofs.lemmas.List.{nil_from_length}
 use Rattle.bf_graph.proofs.Layouts.{length-lists_from}
 use Rattle.bf_graph.proofs.graph.Graph.is_empty.Goals as goal

@@ -1,4 +1,4 @@
-use Rattle.std.proofs.Common.{arith, sym, ap, ◌∙◌, length}
+use Rattle.std.proofs.Common.{sym, ap, ◌∙◌, length}
 use Rattle.bf_graph.proofs.Layouts.{length-lists_from}
 use Rattle.bf_graph.proofs.graph.Graph.len.Goals as goal
 

@@ -1,4 +1,4 @@
-use Rattle.std.proofs.Common.{◌≡◌, List, ℕ, length, arith, sym, ap, ◌∙◌}
+use Rattle.std.proofs.Common.{◌≡◌, length, arith, sym, ap, ◌∙◌}
 use Rattle.bf_graph.proofs.Layouts.{length-lists_from}
 use Rattle.bf_graph.proofs.graph.Graph.parents.Goals as goal
 
