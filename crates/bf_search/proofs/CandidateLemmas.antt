@@ -1,16 +1,15 @@
 -- Lemmas on candidates: what the tests say, and that a path between two candidates has candidates alone.
-use Rattle.std.proofs.Common.{◌≡◌, ℕ, zero, suc, ◌+◌, ◌<◌, ◌≤◌, Bool, true, false, not, ◌&&◌, List, [], ◌∷◌, length, get_or, map, refl, ap, sym, ◌∙◌, subst, arith, rules}
-use Rattle.std.proofs.lemmas.Bool.{and_parts, and_from, not-true, not_from_false, false_from_ne_true, both_ways, true≢false}
+use Rattle.std.proofs.Common.{◌≡◌, ℕ, zero, suc, ◌+◌, ◌<◌, ◌≤◌, Bool, true, false, not, List, [], ◌∷◌, length, get_or, refl, arith}
+use Rattle.std.proofs.lemmas.Bool.{and_parts, and_from, not-true, not_from_false, false_from_ne_true, both_ways}
 use Rattle.std.proofs.lemmas.List.FromFn.{length-map-range_with_len, get_or-map-range_with_len}
-use Rattle.std.proofs.lemmas.List.{get_or_past}
 use Rattle.std.proofs.lemmas.List.Folds.{Any-from_list_any, list_any-from_Any}
 use Rattle.std.specs.Bool.{Decides}
-use Rattle.std.specs.List.{All, Any, Contains, list_any, filter, range_with_len}
-use Rattle.bf_graph.specs.Graph.{parents_of, IsGraph}
-use Rattle.bf_search.specs.Reach.{places, in_mode, IsPath, Reaches, reaches, any_reaches, reach_row, reach_row_of}
+use Rattle.std.specs.List.{Any, Contains, filter, range_with_len}
+use Rattle.bf_graph.specs.Graph.{IsGraph}
+use Rattle.bf_search.specs.Reach.{in_mode, IsPath, Reaches, reaches, any_reaches, reach_row, reach_row_of}
 use Rattle.bf_search.specs.Candidates.{is_in, places_of, is_candidate, candidates, candidate_row}
-use Rattle.bf_search.proofs.Reaching.{Reaches-from_test, reaches-true, Reaches-refl, Reaches-front, Reaches-trans, Reaches-le}
-use Rattle.bf_search.proofs.Modes.{IsGraph-in_mode, Reaches-in_mode, length-in_mode}
+use Rattle.bf_search.proofs.Reaching.{Reaches-from_test, reaches-true, Reaches-trans}
+use Rattle.bf_search.proofs.Modes.{IsGraph-in_mode, Reaches-in_mode}
 
 -- ---- some of several places reaches another
 

@@ -1,8 +1,8 @@
 -- Lemmas on the graph of a mode: it has the same places, and its paths are paths of the whole graph.
-use Rattle.std.proofs.Common.{◌≡◌, ℕ, zero, suc, ◌<◌, ◌≤◌, Bool, true, false, List, [], ◌∷◌, length, get_or, take, map, refl, ap, sym, ◌∙◌, subst, arith, rules}
-use Rattle.std.proofs.lemmas.List.{length-map, get_or-take, length-take, get_or_default}
+use Rattle.std.proofs.Common.{◌≡◌, ℕ, zero, suc, ◌<◌, ◌≤◌, Bool, true, false, List, [], ◌∷◌, length, get_or, take, map, refl, sym, ◌∙◌, subst, arith}
+use Rattle.std.proofs.lemmas.List.{length-map, get_or-take, length-take}
 use Rattle.std.proofs.lemmas.List.Elements.{All-take}
-use Rattle.std.specs.List.{All, Contains}
+use Rattle.std.specs.List.{Contains}
 use Rattle.bf_graph.specs.Graph.{parents_of, IsGraph}
 use Rattle.bf_search.specs.Reach.{in_mode, IsPath, Reaches}
 

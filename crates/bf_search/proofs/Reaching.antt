@@ -1,13 +1,13 @@
 -- Lemmas on reach that every crate above needs: paths are joined, places that are reached are not later, and the test
 -- says whether there is a path.
-use Rattle.std.proofs.Common.{◌≡◌, ℕ, zero, suc, ◌+◌, ◌<◌, ◌≤◌, Bool, true, false, ◌||◌, ◌==◌, List, [], ◌∷◌, ◌++◌, length, get_or, take, map, refl, ap, sym, ◌∙◌, subst, inl, inr, ⊎_elim, ◌⊎◌, arith, rules, eqb-true, eq-eqb}
+use Rattle.std.proofs.Common.{◌≡◌, ℕ, zero, suc, ◌+◌, ◌<◌, ◌≤◌, true, ◌==◌, List, [], ◌∷◌, ◌++◌, length, refl, sym, subst, inl, inr, ⊎_elim, ◌⊎◌, arith, eqb-true, eq-eqb}
 use Rattle.std.proofs.lemmas.Bool.{or_cases, or_left, or_right}
-use Rattle.std.proofs.lemmas.List.Elements.{All-contains, All-take}
+use Rattle.std.proofs.lemmas.List.Elements.{All-contains}
 use Rattle.std.proofs.lemmas.List.Folds.{Any-from_list_any, list_any-from_Any}
 use Rattle.std.specs.Bool.{Decides}
-use Rattle.std.specs.List.{All, Any, Contains, list_any}
+use Rattle.std.specs.List.{Any, Contains, list_any}
 use Rattle.bf_graph.specs.Graph.{parents_of, IsGraph}
-use Rattle.bf_search.specs.Reach.{in_mode, IsPath, Reaches, reaches_within, reaches, any_reaches}
+use Rattle.bf_search.specs.Reach.{IsPath, Reaches, reaches_within, reaches}
 
 -- ---- paths
 

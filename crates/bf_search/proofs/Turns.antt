@@ -1,13 +1,12 @@
 -- The turns of a run are never spent: no place is asked twice, so a run goes on turn by turn.
-use Rattle.std.proofs.Common.{◌≡◌, ℕ, zero, suc, ◌+◌, ◌<◌, ◌≤◌, ◌⊎◌, Bool, true, false, not, ◌&&◌, ◌||◌, ◌==◌, cond, List, [], ◌∷◌, ◌++◌, length, get_or, set, map, Option, Some, None, refl, ap, sym, ◌∙◌, subst, inl, inr, ⊎_elim, arith, rules, eqb-true, eq-eqb, zero-add}
-use Rattle.std.proofs.lemmas.Bool.{and_parts, and_from, or_parts, not-true, not_from_false, false_from_ne_true, both_ways, cases_Bool, cond-true, cond-false, eqb-false, ne_eqb}
+use Rattle.std.proofs.Common.{◌≡◌, ℕ, zero, suc, ◌+◌, ◌<◌, ◌≤◌, Bool, true, false, not, ◌&&◌, ◌||◌, ◌==◌, cond, List, [], ◌∷◌, ◌++◌, length, set, map, Option, Some, None, refl, ap, sym, ◌∙◌, subst, ⊎_elim, arith, eqb-true, eq-eqb, zero-add}
+use Rattle.std.proofs.lemmas.Bool.{and_parts, and_from, or_parts, not-true, not_from_false, false_from_ne_true, both_ways, cases_Bool, cond-true, cond-false, ne_eqb}
 use Rattle.std.proofs.lemmas.List.{length-set, get_or-set_same}
-use Rattle.std.proofs.lemmas.List.Elements.{All-contains, All-filter, All-append, All-push, filter_passes}
+use Rattle.std.proofs.lemmas.List.Elements.{All-contains, All-filter, All-push, filter_passes}
 use Rattle.std.proofs.lemmas.List.Folds.{Any-from_list_any, list_any-from_Any, list_any-append}
 use Rattle.std.proofs.lemmas.List.FromFn.{length-range_with_len, get_or-range_with_len}
 use Rattle.std.proofs.lemmas.List.Sums.{count_by-le-length, sum_by-cons}
 use Rattle.std.specs.List.{All, Any, Contains, list_any, filter, find, count_by, range_with_len}
-use Rattle.std.specs.Option.{IfSome}
 use Rattle.bf_graph.specs.Graph.{IsGraph}
 use Rattle.bf_search.specs.declared.asks.Ask.{Ask}
 use Rattle.bf_search.specs.declared.asks.Ask.TheVariants.{WaitBoth, WaitBad, WaitGood, Test, MergeBaseBad, GoodNotAncestor, BothSides, FirstBad, OnlySkipped}
@@ -19,17 +18,17 @@ use Rattle.bf_search.specs.declared.outcomes.Mark.TheVariants.{Good, Bad, Skip}
 use Rattle.bf_search.specs.declared.outcomes.Outcome.{Outcome}
 use Rattle.bf_search.specs.declared.outcomes.Verdict.{Verdict}
 use Rattle.bf_search.specs.declared.outcomes.Verdict.TheVariants.{Mark as MarkOf, Abort}
-use Rattle.bf_search.specs.Reach.{places, in_mode, Reaches, reaches, any_reaches}
-use Rattle.bf_search.specs.Candidates.{is_in, is_candidate, candidates, candidate_row, weights}
+use Rattle.bf_search.specs.Reach.{places, Reaches, reaches, any_reaches}
+use Rattle.bf_search.specs.Candidates.{is_in, candidates, candidate_row}
 use Rattle.bf_search.specs.Choice.{is_eligible, eligible, best}
-use Rattle.bf_search.specs.Bases.{has_place, common_places, tops, merge_bases, reaches_all, check_open, check_bases, check}
+use Rattle.bf_search.specs.Bases.{has_place, common_places, merge_bases, reaches_all, check_open, check_bases, check}
 use Rattle.bf_search.specs.Outcomes.{Outcomes, verdict_of}
 use Rattle.bf_search.specs.State.{Search, IsSearchOver, Asked, with_test, without_test, ask_best, ask_among, best_of, ask_candidates, ask_checked, ask_ends, ask, mark}
-use Rattle.bf_search.specs.Run.{Run, with_entries, with_used, marked_one, after_verdict, after_look, after_step, after_ask, turn, run_within, run}
+use Rattle.bf_search.specs.Run.{Run, with_entries, with_used, marked_one, after_verdict, after_look, after_step, turn, run_within, run}
 use Rattle.bf_search.proofs.Reaching.{Reaches-from_test, reaches-true, Reaches-refl, Reaches-trans, Reaches-le}
 use Rattle.bf_search.proofs.Modes.{Reaches-in_mode}
 use Rattle.bf_search.proofs.CandidateLemmas.{SomeReaches, IsCandidate, IsCandidate-from_test, is_in-candidate_row, length-candidate_row}
-use Rattle.bf_search.proofs.RowLemmas.{is_in-set, set-kept}
+use Rattle.bf_search.proofs.RowLemmas.{set-kept}
 
 -- ---- lists
 

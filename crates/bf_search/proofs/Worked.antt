@@ -1,6 +1,6 @@
 -- Worked examples, by computation.
-use Rattle.std.proofs.Common.{◌≡◌, ℕ, Bool, true, false, List, [], ◌∷◌, Option, Some, None, refl, replicate}
-use Rattle.bf_search.specs.declared.asks.Ask.TheVariants.{Test, FirstBad, MergeBaseBad, GoodNotAncestor, BothSides, OnlySkipped}
+use Rattle.std.proofs.Common.{◌≡◌, ℕ, Bool, true, false, List, [], ◌∷◌, Some, None, refl, replicate}
+use Rattle.bf_search.specs.declared.asks.Ask.TheVariants.{FirstBad, MergeBaseBad}
 use Rattle.bf_search.specs.declared.asks.Check.TheVariants.{Passed, Bad as BaseIsBad, Test as TestBase}
 use Rattle.bf_search.specs.declared.entries.Entry.TheVariants.{Marked, SkippedBase, FirstBadFound}
 use Rattle.bf_search.specs.declared.outcomes.Outcome.{Outcome}
@@ -12,7 +12,7 @@ use Rattle.bf_search.specs.Choice.{best}
 use Rattle.bf_search.specs.Bases.{common_places, merge_bases, reaches_all, check_bases, check}
 use Rattle.bf_search.specs.Outcomes.{outcomes_of_plan}
 use Rattle.bf_search.specs.State.{Search, best_of, ask, mark}
-use Rattle.bf_search.specs.Run.{End, Answered, Leg, Open, run_within, run, seq}
+use Rattle.bf_search.specs.Run.{Answered, Leg, run_within, run, seq}
 
 -- a root, two branches and their merge
 abbrev diamond : List (List ℕ)
