@@ -1,6 +1,5 @@
 -- Lemmas on a walk along first parents.
-use Rattle.std.proofs.Common.{◌≡◌, ℕ, zero, suc, ◌+◌, ◌<◌, ◌≤◌, ◌⊎◌, Bool, true, false, List, [], ◌∷◌, length, get_or, set, take, map, replicate, Option, Some, None, refl, ap, sym, ◌∙◌, subst, inl, inr, ⊎_elim, arith, rules}
-use Rattle.std.proofs.lemmas.Bool.{false≢true}
+use Rattle.std.proofs.Common.{◌≡◌, ℕ, zero, suc, ◌<◌, ◌⊎◌, Bool, true, false, List, [], ◌∷◌, length, set, take, replicate, Option, Some, None, refl, ap, sym, ◌∙◌, subst, inl, inr, ⊎_elim, arith}
 use Rattle.std.proofs.lemmas.Bool.Decides.{same_from_decides}
 use Rattle.std.proofs.lemmas.List.{length-set, get_or-set_same, length-replicate}
 use Rattle.std.proofs.lemmas.List.Elements.{All-head}
@@ -10,9 +9,10 @@ use Rattle.std.specs.Option.{IfSome}
 use Rattle.bf_graph.specs.Graph.{parents_of, IsGraph}
 use Rattle.bf_search.specs.Reach.{in_mode, Reaches, reaches, reach_row}
 use Rattle.bf_search.specs.Candidates.{is_in}
-use Rattle.bf_search.proofs.Reaching.{Reaches-refl, Reaches-back, Reaches-same, StepsTo, first_step, reaches_decides}
+use Rattle.bf_search.proofs.Reaching.{Reaches-refl, Reaches-back, StepsTo, first_step, reaches_decides}
 use Rattle.bf_search.proofs.Modes.{parents_of-in_mode, IsGraph-in_mode, length-in_mode}
-use Rattle.bf_reach.proofs.Marking.{is_in-set, set-kept, none_marked}
+use Rattle.bf_search.proofs.RowLemmas.{is_in-set, set-kept}
+use Rattle.bf_reach.proofs.Marking.{none_marked}
 
 -- what the place that is next reaches
 abbrev pub IsAhead : List (List ℕ) → Option ℕ → ℕ → Type 0

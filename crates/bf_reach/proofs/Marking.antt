@@ -1,33 +1,21 @@
 -- Lemmas on marks: what a walk keeps, and that at its end the row says what is reached.
-use Rattle.std.proofs.Common.{◌≡◌, ℕ, zero, suc, ◌+◌, ◌<◌, ◌≤◌, ◌⊎◌, Bool, true, false, List, [], ◌∷◌, ◌++◌, length, get_or, set, map, replicate, refl, ap, sym, ◌∙◌, subst, inl, inr, ⊎_elim, arith, rules}
-use Rattle.std.proofs.lemmas.Bool.{cases_eq, cases_lt, both_ways, false≢true}
+use Rattle.std.proofs.Common.{◌≡◌, ℕ, zero, suc, ◌+◌, ◌<◌, ◌≤◌, ◌⊎◌, Bool, true, false, List, [], ◌∷◌, ◌++◌, length, get_or, set, replicate, refl, ap, sym, ◌∙◌, subst, inl, inr, ⊎_elim, arith}
+use Rattle.std.proofs.lemmas.Bool.{cases_eq, both_ways, false≢true}
 use Rattle.std.proofs.lemmas.Bool.Decides.{same_from_decides}
-use Rattle.std.proofs.lemmas.List.{length-set, get_or-set_same, get_or-set_other, get_or_past, get_or-replicate, length-replicate}
+use Rattle.std.proofs.lemmas.List.{length-set, get_or-set_same, length-replicate}
 use Rattle.std.proofs.lemmas.List.Elements.{All-head, All-tail, All-contains}
 use Rattle.std.proofs.lemmas.List.FromFn.{fill_by_all}
 use Rattle.std.specs.Bool.{Decides}
-use Rattle.std.specs.List.{All, Contains, range_with_len}
+use Rattle.std.specs.List.{All, Contains}
 use Rattle.bf_graph.specs.Graph.{parents_of, IsGraph}
-use Rattle.bf_search.specs.Reach.{in_mode, Reaches, reaches, any_reaches, reach_row, reach_row_of}
+use Rattle.bf_search.specs.Reach.{Reaches, reaches, any_reaches, reach_row, reach_row_of}
 use Rattle.bf_search.specs.Candidates.{is_in}
-use Rattle.bf_search.proofs.Reaching.{Reaches-refl, Reaches-back, Reaches-trans, Reaches-same, Reaches-le, reaches_decides, closed_under_reach}
+use Rattle.bf_search.proofs.Reaching.{Reaches-refl, Reaches-back, Reaches-trans, Reaches-same, reaches_decides, closed_under_reach}
+use Rattle.bf_search.proofs.RowLemmas.{is_in-lt, is_in-set, set-kept}
 use Rattle.bf_search.proofs.CandidateLemmas.{SomeReaches, any_reaches_decides}
 use Rattle.bf_reach.specs.Marks.{marked, RowReaches, Marks}
 
 -- ---- rows with more places true
-
-pub is_in-lt : (row : List Bool) (q : ℕ) → is_in row q ≡ true → q < length row
-is_in-lt row q h = ⊎_elim (λ l. l) (λ l. absurd (both_ways (is_in row q) (get_or_past row q false l) h)) (cases_lt q (length row))
-
-pub is_in-set : (row : List Bool) (p q : ℕ) → is_in (set row p true) q ≡ true → (is_in row q ≡ true) ⊎ (p ≡ q)
-is_in-set row p q h = ⊎_elim (λ e. inr (sym e)) (λ n. inl (sym (get_or-set_other row p q true false n) ∙ h)) (cases_eq q p)
-
-pub set-kept : (row : List Bool) (p q : ℕ) → is_in row q ≡ true → is_in (set row p true) q ≡ true
-set-kept row p q h =
-    ⊎_elim
-    (λ e. subst (λ (x : ℕ). is_in (set row p true) x ≡ true) (sym e) (get_or-set_same row p true false (subst (λ (x : ℕ). x < length row) e (is_in-lt row q h))))
-    (λ n. get_or-set_other row p q true false n ∙ h)
-    (cases_eq q p)
 
 pub length-marked : (row : List Bool) (ps : List ℕ) → length (marked row ps) ≡ length row
 length-marked row [] = refl

@@ -1,9 +1,8 @@
-use Rattle.std.proofs.Common.{◌≡◌, ◌<◌, ℕ, Bool, true, false, List, length, replicate, set, ap, sym, subst, ◌∙◌, arith}
+use Rattle.std.proofs.Common.{◌≡◌, ◌<◌, Bool, false, List, length, replicate, ap, subst, ◌∙◌, arith}
 use Rattle.std.proofs.lemmas.List.{length-replicate}
-use Rattle.std.specs.List.{All}
-use Rattle.bf_search.specs.Candidates.{is_in}
 use Rattle.bf_reach.specs.Marks.{Marks, marked}
-use Rattle.bf_reach.proofs.Marking.{row_of-from_marks, length-marked, is_in-lt}
+use Rattle.bf_search.proofs.RowLemmas.{is_in-lt}
+use Rattle.bf_reach.proofs.Marking.{row_of-from_marks, length-marked}
 use Rattle.bf_reach.proofs.reach.Reach.fill_from.Goals as goal
 
 start : (c : goal.After-walk-arg-1) → c.mark_all.new.out ≡ marked (replicate (length c.args.out.now) false) c.args.places.now

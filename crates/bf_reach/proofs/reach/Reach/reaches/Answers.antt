@@ -1,4 +1,4 @@
-use Rattle.std.proofs.Common.{◌≡◌, ◌<◌, ℕ, Bool, true, false, List, length, replicate, set, ap, sym, subst, ◌∙◌, arith}
+use Rattle.std.proofs.Common.{◌≡◌, Bool, true, false, List, length, replicate, set, ap, subst, ◌∙◌, arith}
 use Rattle.bf_reach.specs.Marks.{Marks}
 use Rattle.bf_reach.proofs.Marking.{reaches-from_marks}
 use Rattle.bf_reach.proofs.reach.Reach.reaches.Goals as goal

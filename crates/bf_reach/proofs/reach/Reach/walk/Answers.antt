@@ -1,5 +1,5 @@
-use Rattle.std.proofs.Common.{◌≡◌, ℕ, ◌+◌, ◌-◌, ◌<◌, ◌≤◌, Bool, List, length, refl, ap, sym, subst, ◌∙◌, arith}
-use Rattle.bf_reach.specs.Marks.{Marks, marked}
+use Rattle.std.proofs.Common.{ℕ, List, sym, subst, ◌∙◌, arith}
+use Rattle.bf_reach.specs.Marks.{Marks}
 use Rattle.bf_reach.proofs.Marking.{Marks-start, Marks-skip, Marks-more, Marks-down}
 use Rattle.bf_reach.proofs.reach.Reach.walk.Goals as goal
 
