@@ -21,8 +21,8 @@ gives_line (Some p) after number text result read is gives =
 pub line_refused : {X Y : Type 0} (place after : Option Place) (number : ℕ) (text : List ℕ) (fault : StreamFault) (form : ℕ → List ℕ → Result X StreamFault) (next : ℕ → List ℕ → X → Reading Y) → LineIs place number text → form number text ≡ Err fault → Gives (λ x. x) place after (Err fault) (with_line (λ line text. lifted (form line text) >>= next line text))
 line_refused place after number text fault form next is refused =
     gives_line place after number text (Err fault) (λ line text. lifted (form line text) >>= next line text) is
-      (gives_same (λ x. x) place after (Err fault) (lifted (Err fault) >>= next number text) (lifted (form number text) >>= next number text)
-        (ap (λ (r : Result _ StreamFault). lifted r >>= next number text) (sym refused)) (gives_refused (λ x. x) place after fault (next number text)))
+    (gives_same (λ x. x) place after (Err fault) (lifted (Err fault) >>= next number text) (lifted (form number text) >>= next number text)
+    (ap (λ (r : Result _ StreamFault). lifted r >>= next number text) (sym refused)) (gives_refused (λ x. x) place after fault (next number text)))
 
 -- the line in front says x, and what follows goes on
 pub line_read : {X Y : Type 0} (place after : Option Place) (number : ℕ) (text : List ℕ) (x : X) (result : Result Y StreamFault) (form : ℕ → List ℕ → Result X StreamFault) (next : ℕ → List ℕ → X → Reading Y) → LineIs place number text → form number text ≡ Ok x → Gives (λ y. y) place after result (next number text x) → Gives (λ y. y) place after result (with_line (λ line text. lifted (form line text) >>= next line text))

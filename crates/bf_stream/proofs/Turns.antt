@@ -54,7 +54,7 @@ module _ {X : Type 0} (item : Reading (Option X)) (takes : TakesSome (step_of it
   stops_with None now next items fault here gives = tt
   stops_with (Some p) now next items fault (q, here, same) gives =
       fails_alike fault (item q) (all_of item p) (λ is. same ∙ unfolds items q (Err fault) is)
-        (subst (λ (n : Option Place). Gives (λ x. x) n next (Err fault) item) here gives)
+      (subst (λ (n : Option Place). Gives (λ x. x) n next (Err fault) item) here gives)
 
   -- an item that is refused
   pub resumes_stopped : (start now next : Option Place) (items : List X) (fault : StreamFault) (read : Reading (List X)) → read ≡ all_of item → Resumes item start now items → Gives (λ x. x) now next (Err fault) item → Gives (λ x. x) start next (Err fault) read

@@ -5,9 +5,7 @@ ghost use Rattle.bf_grammar.specs.Limits.{IsWithin};
 ghost use Rattle.bf_grammar.specs.Commands as grammar;
 ghost use Rattle.bf_lines.specs.Held.{HasLine, Reads, remaining};
 
-use bf_forms::{
-    data_form, delimiter_in, encoding_of, ident_of, mark_of, text_after,
-};
+use bf_forms::{data_form, delimiter_in, encoding_of, ident_of, mark_of, text_after};
 use bf_grammar::{DataForm, Limits, StreamFault, Target, Targets};
 use bf_io::{Bytes, Source};
 use bf_lines::{Window, at_word, must_be_at, skip_end_of_line, take_bytes, take_delimited};

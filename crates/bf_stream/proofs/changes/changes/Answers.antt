@@ -23,7 +23,7 @@ changes-preserved g c = record {
 pub returns-in_err-change-clause-reading : goal.returns-in_err-change-clause-reading
 returns-in_err-change-clause-reading g c =
     handed_on (place_of c.args.window.now (g.S.Source.left c.args.source.now)) (place_of c.change.new.window (g.S.Source.left c.change.new.source)) c.from_residual.result c.in_err-change.field-0.0 (changes_at c.args.limits) c.from_residual.ensures.1
-      (resumes_stopped (change_at c.args.limits) (changes_take c.args.limits) (place_of c.args.window.now (g.S.Source.left c.args.source.now)) (place_of c.changes.window (g.S.Source.left c.changes.source)) (place_of c.change.new.window (g.S.Source.left c.change.new.source)) c.changes.changes c.in_err-change.field-0.0 (changes_at c.args.limits) (all_changes c.args.limits) c.changes.invariant.taken c.in_err-change.ensures.reading)
+    (resumes_stopped (change_at c.args.limits) (changes_take c.args.limits) (place_of c.args.window.now (g.S.Source.left c.args.source.now)) (place_of c.changes.window (g.S.Source.left c.changes.source)) (place_of c.change.new.window (g.S.Source.left c.change.new.source)) c.changes.changes c.in_err-change.field-0.0 (changes_at c.args.limits) (all_changes c.args.limits) c.changes.invariant.taken c.in_err-change.ensures.reading)
 
 pub returns-in-None-clause-reading : goal.returns-in-None-clause-reading
 returns-in-None-clause-reading g c =

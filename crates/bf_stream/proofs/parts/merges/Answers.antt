@@ -23,7 +23,7 @@ merges-preserved g c = record {
 pub returns-in_err-merge-clause-reading : goal.returns-in_err-merge-clause-reading
 returns-in_err-merge-clause-reading g c =
     handed_on (place_of c.args.window.now (g.S.Source.left c.args.source.now)) (place_of c.target.new.window (g.S.Source.left c.target.new.source)) c.from_residual.result c.in_err-merge.field-0.0 (merges_at c.args.limits) c.from_residual.ensures.1
-      (resumes_stopped (target_at c.args.limits (codes "merge")) (merges_take c.args.limits) (place_of c.args.window.now (g.S.Source.left c.args.source.now)) (place_of c.merges.window (g.S.Source.left c.merges.source)) (place_of c.target.new.window (g.S.Source.left c.target.new.source)) c.merges.merges c.in_err-merge.field-0.0 (merges_at c.args.limits) (all_merges c.args.limits) c.merges.invariant.taken c.in_err-merge.ensures.reading)
+    (resumes_stopped (target_at c.args.limits (codes "merge")) (merges_take c.args.limits) (place_of c.args.window.now (g.S.Source.left c.args.source.now)) (place_of c.merges.window (g.S.Source.left c.merges.source)) (place_of c.target.new.window (g.S.Source.left c.target.new.source)) c.merges.merges c.in_err-merge.field-0.0 (merges_at c.args.limits) (all_merges c.args.limits) c.merges.invariant.taken c.in_err-merge.ensures.reading)
 
 pub returns-in-None-clause-reading : goal.returns-in-None-clause-reading
 returns-in-None-clause-reading g c =
