@@ -15,3 +15,6 @@ pub use bf_grammar::{
 pub use bf_lines::Window;
 pub use commands::take_command;
 pub use reader::Reader;
+
+#[cfg(test)]
+mod tests;
