@@ -1,10 +1,9 @@
 -- Delimited data, which is taken line by line, and a line piece by piece.
-use Rattle.std.proofs.Common.{◌≡◌, ℕ, suc, zero, ◌+◌, ◌-◌, ◌<◌, ◌≤◌, min, Bool, true, false, ◌||◌, ◌&&◌, ◌==◌, not, cond, nat_lt, List, [], ◌∷◌, ◌++◌, length, take, drop, Option, Some, None, Result, Ok, Err, ◌⊎◌, IsTrue, refl, sym, ap, subst, ◌∙◌, arith, inl, inr, append_assoc, length-append, if◌then◌else◌}
-use Rattle.std.specs.List.{list_any, starts_with}
+use Rattle.std.proofs.Common.{◌≡◌, ℕ, ◌+◌, ◌-◌, ◌<◌, ◌≤◌, min, Bool, true, false, ◌||◌, ◌&&◌, not, cond, nat_lt, List, [], ◌++◌, length, take, Option, Some, None, Result, Ok, Err, ◌⊎◌, IsTrue, refl, sym, ap, subst, ◌∙◌, arith, inl, inr, append_assoc, length-append, if◌then◌else◌}
 use Rattle.std.specs.Option.{option_map, IfSome}
 use Rattle.std.specs.Result.{IsErrAnd}
 use Rattle.std.specs.Io.KnownBytes.{IsAtEnd}
-use Rattle.std.proofs.lemmas.Bool.{cases_lt, cases_Bool, cond-true, cond-false, le-ltb, lt-ltb, ltb-true, ltb-false, ne_eqb, and_from, and_left, and_right, or_from, or_left, or_right, not_from_true, not_from_false}
+use Rattle.std.proofs.lemmas.Bool.{cases_lt, cond-true, cond-false, le-ltb, lt-ltb, ltb-true, ltb-false, ne_eqb, and_from, and_left, and_right, or_from, or_left, or_right, not_from_true, not_from_false}
 use Rattle.std.proofs.lemmas.List.{length-take, take_all, take-append-le, drop_at}
 use Rattle.std.proofs.lemmas.List.Folds.{list_any-append}
 use Rattle.std.proofs.Math.Seq.{take-append-add, take-nil}
@@ -12,15 +11,15 @@ use Rattle.bf_grammar.specs.declared.fault.Limit.TheVariants.{Data, Stream}
 use Rattle.bf_grammar.specs.declared.fault.Limits.{Limits}
 use Rattle.bf_grammar.specs.declared.fault.StreamFault.{StreamFault}
 use Rattle.bf_grammar.specs.declared.fault.StreamFault.TheVariants.{Truncated, TooLarge}
-use Rattle.bf_grammar.specs.Place.{Place, Reading, is_end_of_line, moved, and_then, pure, ◌>>=◌, Gives, goes_on, repeat}
+use Rattle.bf_grammar.specs.Place.{Place, Reading, is_end_of_line, moved, and_then, pure, Gives, goes_on, repeat}
 use Rattle.bf_grammar.specs.Lines.{front_line, has_end_of_line, is_text, past_line, delimited_line, delimited_at}
-use Rattle.bf_grammar.proofs.Composing.{fails_here, fails_alike}
+use Rattle.bf_grammar.proofs.Composing.{fails_alike}
 use Rattle.bf_grammar.proofs.Repeating.{repeat-is}
 use Rattle.bf_grammar.proofs.Onward.{delimited_takes}
 use Rattle.bf_lines.specs.Data.{GoesOnAs, past_delimiter, content_line, TakesContent}
 use Rattle.bf_lines.specs.Filling.{Ends, Passes}
 use Rattle.bf_lines.specs.Held.{Held, IsAll, place_of, moved_held, past_held_line}
-use Rattle.bf_lines.proofs.Ends.{end_at, end_at-le, end_at-append_lt, end_at-append_all, front_line-append, length-front_line, has-from_lt, lacks-from_end}
+use Rattle.bf_lines.proofs.Ends.{end_at, end_at-le, end_at-append_lt, end_at-append_all, length-front_line, has-from_lt, lacks-from_end}
 use Rattle.bf_lines.proofs.Holding.{place_of-moved, whole-line, whole-past}
 use Rattle.bf_lines.proofs.Passing.{Read}
 use Rattle.bf_lines.proofs.Pieces.{rest_at_end, rest_at_past, held_front, gives_fault_where, gives_value_where, goes_on_where, goes_on_trans, gives_going_on, moved_moved, with_rest}

@@ -1,12 +1,12 @@
 -- Where a line ends in a list of bytes.
-use Rattle.std.proofs.Common.{◌≡◌, ℕ, suc, zero, ◌+◌, ◌-◌, ◌<◌, ◌≤◌, Bool, true, false, ◌||◌, List, [], ◌∷◌, ◌++◌, length, take, drop, get_or, count_by, Option, Some, None, MatchOption, refl, sym, ap, subst, ◌∙◌, arith, cond, inl, inr, ⊎_elim, append_assoc, length-drop, length-append, not}
-use Rattle.std.specs.List.{position_or_len, prefix_len, list_any}
+use Rattle.std.proofs.Common.{◌≡◌, ℕ, suc, ◌+◌, ◌-◌, ◌<◌, ◌≤◌, true, false, List, [], ◌∷◌, ◌++◌, length, take, drop, get_or, count_by, Option, Some, None, MatchOption, refl, sym, ap, ◌∙◌, arith, cond, inl, inr, length-drop, not}
+use Rattle.std.specs.List.{position_or_len}
 use Rattle.std.proofs.lemmas.Bool.{cases_lt, false_from_ne_true, cases_Bool, false≢true, cond-true, cond-false, ne_eqb, eq-eqb, not_from_true, not_from_false}
-use Rattle.std.proofs.lemmas.List.{take_rest, get_or-drop, take_all, length-take, length-take-le, append-nil, drop-append-le, take-append-le, drop-take, drop-drop, drop_all}
+use Rattle.std.proofs.lemmas.List.{take_rest, get_or-drop, length-take, length-take-le, take-append-le, drop-take, drop-drop, drop_all}
 use Rattle.std.proofs.lemmas.List.Folds.{list_any_none, list_any_at, prefix_len-append}
 use Rattle.std.proofs.lemmas.List.Elements.{All-from_get_or}
-use Rattle.std.proofs.lemmas.List.Sums.{position_or_len_is, fails_before_first, passes_at_first, prefix_len-le-length, sum_by-cons, sum_by-append, count_by_more_yes}
-use Rattle.memchr.specs.Find.{IsFirstByte, is_byte, Passes}
+use Rattle.std.proofs.lemmas.List.Sums.{position_or_len_is, fails_before_first, passes_at_first, prefix_len-le-length, sum_by-cons, count_by_more_yes}
+use Rattle.memchr.specs.Find.{IsFirstByte, is_byte}
 use Rattle.bf_grammar.specs.Place.{is_end_of_line}
 use Rattle.bf_grammar.specs.Lines.{front_line, has_end_of_line}
 

@@ -1,14 +1,13 @@
 -- What a window holds after one more read.
-use Rattle.std.proofs.Common.{◌≡◌, ℕ, suc, zero, ◌+◌, ◌-◌, ◌<◌, ◌≤◌, Bool, true, false, ◌||◌, ltb, nat_lt, List, [], ◌∷◌, ◌++◌, length, take, drop, Option, Some, None, Result, Ok, Err, refl, sym, ap, subst, ◌∙◌, arith, inl, inr, ⊎_elim, length-drop, length-append, append_assoc}
+use Rattle.std.proofs.Common.{◌≡◌, ℕ, ◌+◌, ◌-◌, ◌<◌, ◌≤◌, Bool, ◌||◌, ltb, List, [], ◌++◌, length, take, drop, Option, Some, None, Result, Ok, Err, refl, sym, ap, ◌∙◌, arith, inl, inr, length-drop, length-append, append_assoc}
 use Rattle.std.specs.Result.{IsErr}
 use Rattle.std.proofs.lemmas.Bool.{cases_lt, lt-ltb, le-ltb, false≢true}
-use Rattle.std.proofs.lemmas.List.{take_all, drop_all, append-nil, drop-take, drop-drop, length-take-le}
+use Rattle.std.proofs.lemmas.List.{drop-take, drop-drop, length-take-le}
 use Rattle.std.proofs.Math.Seq.{take-append-add, take-add}
-use Rattle.bf_io.specs.Told.{Takes, ReadTakes}
+use Rattle.bf_io.specs.Told.{Takes}
 use Rattle.bf_io.specs.declared.device.Failed.{Failed}
 use Rattle.bf_lines.specs.declared.window.Filled.{Filled}
-use Rattle.bf_grammar.specs.Place.{Place}
-use Rattle.bf_lines.specs.Filling.{Gains, Ends, Passes, Fills}
+use Rattle.bf_lines.specs.Filling.{Gains, Fills}
 use Rattle.bf_lines.specs.Held.{Held, place_of}
 
 -- bytes behind a part, which were read there

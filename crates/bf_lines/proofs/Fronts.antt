@@ -1,21 +1,19 @@
 -- What stands in front of a place, by what its window holds.
-use Rattle.std.proofs.Common.{◌≡◌, ℕ, suc, zero, ◌+◌, ◌-◌, ◌<◌, ◌≤◌, Bool, true, false, ◌||◌, ◌==◌, nat_lt, List, [], ◌∷◌, ◌++◌, length, take, drop, Option, Some, None, Result, Ok, Err, refl, sym, ap, subst, ◌∙◌, arith, inl, inr, length-append, if◌then◌else◌}
-use Rattle.std.specs.Result.{IfOk}
-use Rattle.std.specs.Option.{MatchOption}
+use Rattle.std.proofs.Common.{◌≡◌, ℕ, suc, zero, ◌+◌, ◌-◌, ◌<◌, ◌≤◌, true, false, ◌||◌, ◌==◌, nat_lt, List, [], ◌++◌, length, take, Option, Some, None, Result, Ok, Err, refl, sym, ap, subst, ◌∙◌, arith, inl, inr, length-append, if◌then◌else◌}
 use Rattle.std.specs.Io.KnownBytes.{IsAtEnd}
-use Rattle.std.proofs.lemmas.Bool.{cases_lt, cond-true, cond-false, lt-ltb, le-ltb, eq-eqb, ne_eqb, cond_both, ltb-true, ltb-false, eqb-true, eqb-false, or_from, or_left}
+use Rattle.std.proofs.lemmas.Bool.{cond-true, cond-false, lt-ltb, le-ltb, eq-eqb, ne_eqb, cond_both, ltb-true, ltb-false, eqb-true, eqb-false, or_from, or_left}
 use Rattle.std.proofs.lemmas.List.{take_all, append-nil, take-append-le, take-take, nil_from_length}
 use Rattle.std.proofs.Math.Seq.{take-nil}
-use Rattle.bf_grammar.specs.declared.fault.Limit.TheVariants.{Line, Stream}
+use Rattle.bf_grammar.specs.declared.fault.Limit.TheVariants.{Stream}
 use Rattle.bf_grammar.specs.declared.fault.Limits.{Limits}
 use Rattle.bf_grammar.specs.declared.fault.StreamFault.{StreamFault}
 use Rattle.bf_grammar.specs.declared.fault.StreamFault.TheVariants.{TooLarge}
-use Rattle.bf_grammar.specs.Place.{Place, Reading, and_then, pure, ◌>>=◌, Gives}
-use Rattle.bf_grammar.specs.Lines.{Front, Nothing, Whole, Long, front, front_line, has_end_of_line}
+use Rattle.bf_grammar.specs.Place.{Place, and_then, pure, ◌>>=◌}
+use Rattle.bf_grammar.specs.Lines.{Front, Nothing, Whole, Long, front, front_line}
 use Rattle.bf_lines.specs.declared.front.Ahead.{Ahead}
 use Rattle.bf_lines.specs.declared.front.Ahead.TheVariants as ahead
 use Rattle.bf_lines.specs.Filling.{Gains, Ends, Passes}
-use Rattle.bf_lines.specs.Fronts.{cut, seen, sized, ended, passed, Finds, FindsFront}
+use Rattle.bf_lines.specs.Fronts.{cut, seen, sized, ended, passed, Finds}
 use Rattle.bf_lines.specs.Held.{Held, HasLine, place_of, remaining}
 use Rattle.bf_lines.proofs.Ends.{end_at, end_at-le, end_at-append_lt, end_at-append_all, front_line-append, length-front_line, has-from_lt, lacks-from_end}
 

@@ -5,10 +5,10 @@ use Rattle.std.specs.Result.{IfOk, IsErrAnd}
 use Rattle.bf_grammar.specs.declared.fault.Limit.TheVariants.{Line}
 use Rattle.bf_grammar.specs.declared.fault.Limits.{Limits}
 use Rattle.bf_grammar.specs.declared.fault.StreamFault.{StreamFault}
-use Rattle.bf_grammar.specs.declared.fault.StreamFault.TheVariants.{Syntax, Truncated, TooLarge}
-use Rattle.bf_grammar.specs.Place.{Place, Reading, and_then, pure, lifted, ◌>>=◌, Fails, Gives}
+use Rattle.bf_grammar.specs.declared.fault.StreamFault.TheVariants.{TooLarge}
+use Rattle.bf_grammar.specs.Place.{Place, Reading, and_then, pure, lifted, ◌>>=◌, Gives}
 use Rattle.bf_grammar.specs.Lines.{Front, Nothing, Whole, Long, text_of, front_line, has_word, next_front, is_at, at_word, missing, must_be_at, is_line, at_command}
-use Rattle.bf_grammar.proofs.Composing.{fails_here, fails_alike, gives_unknown, gives_pure, gives_stopped, gives_then}
+use Rattle.bf_grammar.proofs.Composing.{fails_here, fails_alike, gives_pure, gives_stopped, gives_then}
 use Rattle.bf_lines.specs.declared.front.Ahead.{Ahead}
 use Rattle.bf_lines.specs.declared.front.Ahead.TheVariants as ahead
 use Rattle.bf_lines.specs.Fronts.{cut, seen, Finds, FindsNext, told_word, told_line, told_missing}

@@ -1,7 +1,7 @@
 -- Lines that are passed over, and what stands behind them.
-use Rattle.std.proofs.Common.{◌≡◌, ℕ, ◌<◌, ◌≤◌, Bool, true, false, cond, List, length, take, Option, Some, None, Result, Ok, Err, refl, sym, ap, subst, ◌∙◌, ◌⊎◌, inl, inr, if◌then◌else◌}
+use Rattle.std.proofs.Common.{◌≡◌, ℕ, Bool, true, false, cond, List, take, Option, Some, None, Result, Ok, Err, refl, sym, ap, subst, ◌∙◌, ◌⊎◌, inl, inr, if◌then◌else◌}
 use Rattle.std.specs.Option.{option_map}
-use Rattle.std.specs.Result.{IfOk, IsErrAnd}
+use Rattle.std.specs.Result.{IsErrAnd}
 use Rattle.bf_grammar.specs.declared.fault.Limit.TheVariants.{Line}
 use Rattle.bf_grammar.specs.declared.fault.Limits.{Limits}
 use Rattle.bf_grammar.specs.declared.fault.StreamFault.{StreamFault}

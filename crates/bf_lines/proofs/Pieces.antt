@@ -1,5 +1,5 @@
 -- Data parts that are taken piece by piece.
-use Rattle.std.proofs.Common.{◌≡◌, ℕ, suc, zero, ◌+◌, ◌-◌, ◌<◌, ◌≤◌, Bool, true, false, ◌||◌, ◌==◌, cond, nat_lt, nat_le, List, [], ◌∷◌, ◌++◌, length, take, drop, get_or, count_by, Option, Some, None, Result, Ok, Err, refl, sym, ap, subst, ◌∙◌, arith, inl, inr, append_assoc, length-drop, length-append, if◌then◌else◌}
+use Rattle.std.proofs.Common.{◌≡◌, ℕ, ◌+◌, ◌-◌, ◌<◌, ◌≤◌, Bool, true, false, ◌||◌, cond, nat_lt, List, [], ◌∷◌, ◌++◌, length, take, drop, get_or, count_by, Option, Some, None, Result, Ok, Err, refl, sym, ap, subst, ◌∙◌, arith, inl, inr, append_assoc, length-drop, length-append, if◌then◌else◌}
 use Rattle.std.specs.Option.{option_map}
 use Rattle.std.specs.Io.KnownBytes.{IsAtEnd}
 use Rattle.std.proofs.lemmas.Bool.{cases_lt, cond-true, cond-false, le-leb, lt-leb, le-ltb, or_from, or_left}
@@ -10,7 +10,7 @@ use Rattle.std.proofs.Math.Seq.{take-add}
 use Rattle.bf_grammar.specs.declared.fault.Limit.TheVariants.{Stream}
 use Rattle.bf_grammar.specs.declared.fault.StreamFault.{StreamFault}
 use Rattle.bf_grammar.specs.declared.fault.StreamFault.TheVariants.{Truncated, TooLarge}
-use Rattle.bf_grammar.specs.Place.{Place, Reading, is_end_of_line, moved, and_then, pure, ◌>>=◌, Gives}
+use Rattle.bf_grammar.specs.Place.{Place, Reading, is_end_of_line, moved, and_then, pure, Gives}
 use Rattle.bf_grammar.specs.Lines.{bytes_at, skip_end_of_line}
 use Rattle.bf_grammar.proofs.Composing.{fails_here, gives_unknown, gives_moved}
 use Rattle.bf_lines.specs.Data.{GoesOnAs, bytes_from}

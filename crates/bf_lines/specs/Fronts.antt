@@ -1,5 +1,5 @@
 -- What is found in front of a window. Of a line that is too long the first bytes are told.
-use Rattle.std.specs.Prelude.{◌≡◌, ℕ, Bool, true, false, nat_lt, ◌==◌, List, length, take, Option, Some, None, Result, Ok, Err, IfOk, if◌then◌else◌}
+use Rattle.std.specs.Prelude.{◌≡◌, ℕ, Bool, true, false, nat_lt, ◌==◌, List, take, Option, Some, None, Result, Ok, Err, IfOk, if◌then◌else◌}
 use Rattle.bf_grammar.specs.declared.fault.Limit.TheVariants.{Line, Stream}
 use Rattle.bf_grammar.specs.declared.fault.Limits.{Limits}
 use Rattle.bf_grammar.specs.declared.fault.StreamFault.{StreamFault}

@@ -1,5 +1,5 @@
 -- What a window holds of a source, and where a reading through it stands.
-use Rattle.std.specs.Prelude.{◌≡◌, ℕ, ◌+◌, ◌<◌, Bool, true, false, ◌||◌, nat_lt, List, [], ◌++◌, length, take, drop, count_by, Option, Some, None, IsTrue, ◌⊎◌, MatchOption}
+use Rattle.std.specs.Prelude.{◌≡◌, ℕ, ◌+◌, ◌<◌, Bool, false, ◌||◌, nat_lt, List, [], ◌++◌, length, take, drop, count_by, Option, Some, None, IsTrue, ◌⊎◌}
 use Rattle.std.specs.Prelude.{Result}
 use Rattle.bf_grammar.specs.declared.fault.StreamFault.{StreamFault}
 use Rattle.bf_grammar.specs.Place.{Place, Reading, Gives, is_end_of_line}

@@ -1,7 +1,7 @@
-use Rattle.std.proofs.Common.{ℕ, ◌≡◌, ◌+◌, ◌≤◌, ◌<◌, ◌++◌, min, List, Ok, length, take, subst, refl, ap, sym, ◌∙◌, arith}
+use Rattle.std.proofs.Common.{◌+◌, min, Ok, length, subst, ap, ◌∙◌, arith}
 use Rattle.bf_lines.specs.declared.window.Filled.{Filled}
 use Rattle.bf_lines.specs.Filling.{IsReady}
-use Rattle.bf_lines.proofs.Ends.{end_at, end_at-le}
+use Rattle.bf_lines.proofs.Ends.{end_at-le}
 use Rattle.bf_lines.proofs.Delimited.{content_end, content_past, content_large, content_piece}
 use Rattle.bf_lines.proofs.data.take_content_piece.Goals as goal
 

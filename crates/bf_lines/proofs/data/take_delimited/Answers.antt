@@ -1,8 +1,8 @@
-use Rattle.std.proofs.Common.{ℕ, ◌≡◌, ◌≤◌, Bool, false, true, Ok, length, subst, ap, refl, arith}
+use Rattle.std.proofs.Common.{Bool, Ok, length, subst, ap, arith}
 use Rattle.bf_grammar.specs.Place.{Gives}
 use Rattle.bf_lines.specs.Data.{past_delimiter}
 use Rattle.bf_lines.specs.Held.{place_of}
-use Rattle.bf_lines.proofs.Delimited.{lines_here, lines_end, lines_more, lines_refused_on, lines_stopped_on}
+use Rattle.bf_lines.proofs.Delimited.{lines_here, lines_more, lines_refused_on}
 use Rattle.bf_lines.proofs.data.take_delimited.Goals as goal
 
 pub lines-init : goal.lines-init

@@ -1,6 +1,6 @@
-use Rattle.std.proofs.Common.{ℕ, ◌≡◌, ◌<◌, ◌≤◌, List, Ok, subst, arith, ◌∙◌}
+use Rattle.std.proofs.Common.{Ok, subst, arith, ◌∙◌}
 use Rattle.bf_lines.specs.declared.window.Filled.{Filled}
-use Rattle.bf_lines.specs.Filling.{Fills, Gains}
+use Rattle.bf_lines.specs.Filling.{Fills}
 use Rattle.bf_lines.proofs.Delimited.{delimiter_ended, delimiter_end, delimiter_longer, delimiter_past}
 use Rattle.bf_lines.proofs.Fronts.{known_more, remaining_more}
 use Rattle.bf_lines.proofs.data.take_delimiter.Goals as goal

@@ -1,4 +1,4 @@
-use Rattle.std.proofs.Common.{ℕ, ◌≡◌, ◌≤◌, ◌++◌, List, Ok, take, subst, refl, ap, ◌∙◌, arith, length}
+use Rattle.std.proofs.Common.{ℕ, ◌≡◌, ◌++◌, List, Ok, take, subst, refl, ap, ◌∙◌, arith, length}
 use Rattle.bf_grammar.specs.declared.fault.Limit.TheVariants.{Stream}
 use Rattle.bf_grammar.specs.declared.fault.StreamFault.TheVariants.{Truncated, TooLarge}
 use Rattle.bf_lines.specs.declared.window.Filled.{Filled}

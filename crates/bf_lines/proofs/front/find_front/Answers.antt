@@ -1,7 +1,6 @@
-use Rattle.std.proofs.Common.{ℕ, ◌≡◌, ◌<◌, ◌≤◌, List, Ok, subst, arith, ◌∙◌}
+use Rattle.std.proofs.Common.{Ok, subst, arith, ◌∙◌}
 use Rattle.bf_lines.specs.declared.window.Filled.{Filled}
-use Rattle.bf_lines.specs.Filling.{Fills, Gains}
-use Rattle.bf_lines.specs.Held.{remaining}
+use Rattle.bf_lines.specs.Filling.{Fills}
 use Rattle.bf_lines.proofs.Fronts.{answer_ended, answer_long, answer_end, answer_past, known_more, remaining_more}
 use Rattle.bf_lines.proofs.front.find_front.Goals as goal
 

@@ -1,4 +1,4 @@
-use Rattle.std.proofs.Common.{ℕ, ◌≡◌, List, Ok, sym, ap, ◌∙◌}
+use Rattle.std.proofs.Common.{ℕ, List, Ok, sym, ap, ◌∙◌}
 use Rattle.bf_lines.specs.Fronts.{told_passed}
 use Rattle.bf_lines.proofs.Passing.{step_stopped_on, step_refused_on, step_passed, step_ends}
 use Rattle.bf_lines.proofs.front.pass_line.Goals as goal

@@ -1,8 +1,6 @@
-use Rattle.std.proofs.Common.{◌≡◌, ◌+◌, ◌-◌, ◌≤◌, ◌<◌, List, ℕ, false, length, take, drop, refl, sym, ap, ◌∙◌, arith}
+use Rattle.std.proofs.Common.{◌+◌, ◌-◌, ◌≤◌, take, drop, refl, arith}
 use Rattle.std.proofs.lemmas.Bool.{false_from_ne_true}
 use Rattle.bf_lines.specs.contracts.window.Window.{the_view}
-use Rattle.bf_lines.specs.Filling.{Gains}
-use Rattle.bf_lines.specs.Held.{Held}
 use Rattle.bf_lines.proofs.Filled.{Fills-err, view-kept, view-grown, Gains-place, Ends-place}
 use Rattle.bf_lines.proofs.window.Window.fill.Goals as goal
 
