@@ -1,0 +1,5 @@
+pub mod Listed
+pub mod Rows
+pub mod Parents
+pub mod Tops
+pub mod Checked
