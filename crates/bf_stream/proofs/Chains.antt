@@ -1,7 +1,6 @@
 -- What a command of several parts gives, by what its parts give: each refusal, and the whole.
 use Rattle.std.proofs.Common.{ℕ, List, Option, Ok, Err, refl, codes}
 use Rattle.bf_grammar.specs.declared.command.Change.{Change}
-use Rattle.bf_grammar.specs.declared.command.Command.{Command}
 use Rattle.bf_grammar.specs.declared.command.Command.TheVariants.{Blob, Commit, Tag, Reset}
 use Rattle.bf_grammar.specs.declared.command.Target.{Target}
 use Rattle.bf_grammar.specs.declared.fault.Limits.{Limits}

@@ -1,5 +1,5 @@
 -- What a reader gives that looks for one of several lines, and what the lines of changes give.
-use Rattle.std.proofs.Common.{◌≡◌, ℕ, true, false, List, Option, Some, None, Result, Ok, Err, refl, sym, ◌∙◌, ap, subst, codes}
+use Rattle.std.proofs.Common.{◌≡◌, ℕ, true, false, List, Option, Some, None, Result, Ok, Err, refl, sym, ap, subst, codes}
 use Rattle.std.specs.Prelude.{if◌then◌else◌}
 use Rattle.std.specs.Option.{option_map}
 use Rattle.bf_grammar.specs.declared.command.Change.{Change}
@@ -13,7 +13,7 @@ use Rattle.bf_grammar.specs.declared.fault.StreamFault.{StreamFault}
 use Rattle.bf_grammar.specs.declared.fault.StreamFault.TheVariants as faults
 use Rattle.bf_grammar.specs.declared.object.Mode.{Mode}
 use Rattle.bf_grammar.specs.declared.object.Oid.{Oid}
-use Rattle.bf_grammar.specs.Place.{Place, Reading, pure, lifted, ◌>>=◌, Gives}
+use Rattle.bf_grammar.specs.Place.{Place, Reading, pure, ◌>>=◌, Gives}
 use Rattle.bf_grammar.specs.Lines.{is_text, past_line, take_line, at_word}
 use Rattle.bf_grammar.specs.Forms.{where_so, text_after, modify_form, modified_path}
 use Rattle.bf_grammar.specs.Commands.{some, data_at, dataref_at, modify_at, delete_at, delete_all_at, change_at}

@@ -7,13 +7,11 @@ use Rattle.std.proofs.lemmas.Result.{err_from_is_err_and}
 use Rattle.bf_grammar.specs.declared.fault.StreamFault.{StreamFault}
 use Rattle.bf_grammar.specs.Place.{Place, Reading, refuse, Gives}
 use Rattle.bf_grammar.specs.Lines.{front_line}
-use Rattle.bf_grammar.specs.declared.command.Target.{Target}
 use Rattle.bf_grammar.specs.declared.fault.StreamFault.TheVariants as faults
 use Rattle.bf_grammar.specs.Forms.{text_after}
 use Rattle.bf_grammar.specs.Commands.{target_of}
-use Rattle.bf_grammar.proofs.Composing.{fails_here}
 use Rattle.bf_grammar.proofs.Parts.{LineIs}
-use Rattle.bf_lines.specs.Held.{Held, HasLine, place_of}
+use Rattle.bf_lines.specs.Held.{Held, place_of}
 
 -- the line in front of the window is the line in front of its place
 pub line_in_front : (held : Held) (left : Option (List ℕ)) (number : ℕ) (text : List ℕ) → number ≡ held.line → IfSome (place_of held left) (λ p. text ≡ front_line p.rest) → LineIs (place_of held left) number text

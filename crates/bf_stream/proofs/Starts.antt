@@ -1,19 +1,17 @@
 -- What the first line of a command gives, and the end of the input.
-use Rattle.std.proofs.Common.{◌≡◌, ℕ, Bool, true, false, List, Option, Some, None, Result, Ok, Err, refl, sym, ◌∙◌, ap, subst, codes, cond}
+use Rattle.std.proofs.Common.{◌≡◌, ℕ, Bool, true, false, List, Option, Some, None, Result, Ok, Err, refl, sym, ◌∙◌, ap, cond}
 use Rattle.std.specs.Prelude.{◌++◌, ◌||◌, take, length, nat_lt, if◌then◌else◌}
 use Rattle.std.specs.Option.{option_map}
 use Rattle.bf_grammar.specs.declared.command.Command.{Command}
-use Rattle.bf_grammar.specs.declared.command.Command.TheVariants.{Progress, Feature}
 use Rattle.bf_grammar.specs.declared.command.Head.{Head}
-use Rattle.bf_grammar.specs.declared.command.Head.TheVariants as head
 use Rattle.bf_grammar.specs.declared.fault.Limits.{Limits}
 use Rattle.bf_grammar.specs.declared.fault.StreamFault.{StreamFault}
 use Rattle.bf_grammar.specs.declared.fault.StreamFault.TheVariants as faults
-use Rattle.bf_grammar.specs.Place.{Place, Reading, pure, lifted, ◌>>=◌, Gives}
+use Rattle.bf_grammar.specs.Place.{Place, Reading, pure, ◌>>=◌, Gives}
 use Rattle.bf_grammar.specs.Lines.{past_line, take_line, at_command}
-use Rattle.bf_grammar.specs.Forms.{head_of, name_after}
-use Rattle.bf_grammar.specs.Commands.{some, blob_at, commit_at, tag_at, reset_at, done_is_due, command_of, end_of_input, headed_at, command_at}
-use Rattle.bf_grammar.proofs.Composing.{gives_stopped, gives_then, gives_pure, gives_past_line, gives_moved, gives_unknown}
+use Rattle.bf_grammar.specs.Forms.{head_of}
+use Rattle.bf_grammar.specs.Commands.{some, done_is_due, command_of, end_of_input, headed_at, command_at}
+use Rattle.bf_grammar.proofs.Composing.{gives_stopped, gives_then, gives_pure, gives_past_line}
 use Rattle.bf_grammar.proofs.Parts.{LineIs, line_refused, line_read}
 use Rattle.bf_lines.specs.Held.{Held, place_of}
 use Rattle.bf_stream.proofs.Choices.{some_whole, some_stopped}

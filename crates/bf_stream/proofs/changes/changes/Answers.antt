@@ -1,4 +1,4 @@
-use Rattle.std.proofs.Common.{arith, sym}
+use Rattle.std.proofs.Common.{arith}
 use Rattle.bf_grammar.specs.Commands.{change_at, changes_at}
 use Rattle.bf_grammar.proofs.Onward.{changes_take}
 use Rattle.bf_lines.specs.Held.{place_of}

@@ -3,7 +3,7 @@ use Rattle.bf_grammar.specs.Forms.{ident_of}
 use Rattle.bf_grammar.specs.Commands.{committer_at}
 use Rattle.bf_grammar.proofs.Parts.{required_stopped, required_refused, required_taken}
 use Rattle.bf_lines.specs.Held.{place_of}
-use Rattle.bf_stream.proofs.Fronts.{line_in_front, handed_on, at_true}
+use Rattle.bf_stream.proofs.Fronts.{line_in_front, handed_on}
 use Rattle.bf_stream.proofs.parts.committer.Goals as goal
 
 pub returns-in_err-must_be_at-clause-reading : goal.returns-in_err-must_be_at-clause-reading

@@ -1,4 +1,4 @@
-use Rattle.std.proofs.Common.{◌≡◌, ◌<◌, ℕ, List, length, drop, arith, sym, ap, ◌∙◌, Ok, length-drop}
+use Rattle.std.proofs.Common.{◌≡◌, ℕ, List, length, drop, arith, sym, ap, ◌∙◌, Ok, length-drop}
 use Rattle.bf_grammar.specs.declared.command.DataForm.{DataForm}
 use Rattle.bf_grammar.specs.declared.command.DataForm.TheVariants.{Counted, Delimited}
 use Rattle.bf_grammar.specs.Place.{◌>>=◌}

@@ -1,4 +1,4 @@
-use Rattle.std.proofs.Common.{arith, sym, codes}
+use Rattle.std.proofs.Common.{arith, codes}
 use Rattle.bf_grammar.specs.Commands.{target_at, merges_at}
 use Rattle.bf_grammar.proofs.Onward.{merges_take}
 use Rattle.bf_lines.specs.Held.{place_of}

@@ -1,4 +1,4 @@
-use Rattle.std.proofs.Common.{true, false, Ok, Err, refl, codes}
+use Rattle.std.proofs.Common.{true, false, refl, codes}
 use Rattle.bf_grammar.specs.Lines.{at_word}
 use Rattle.bf_grammar.specs.Commands.{no_signature_at}
 use Rattle.bf_grammar.proofs.Composing.{gives_stopped, gives_then, gives_pure}

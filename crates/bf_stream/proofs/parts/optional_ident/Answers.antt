@@ -1,4 +1,4 @@
-use Rattle.std.proofs.Common.{sym, ap, ◌∙◌, Ok, codes, List, ℕ}
+use Rattle.std.proofs.Common.{sym, ap, ◌∙◌, Ok, List, ℕ}
 use Rattle.bf_grammar.specs.Forms.{ident_of}
 use Rattle.bf_grammar.specs.Commands.{author_at}
 use Rattle.bf_grammar.proofs.Parts.{optional_stopped, optional_absent, optional_refused, optional_taken}

@@ -2,7 +2,7 @@ use Rattle.std.proofs.Common.{sym, ap, ◌∙◌, Ok, codes, List, ℕ}
 use Rattle.bf_grammar.specs.Commands.{target_of, from_at}
 use Rattle.bf_grammar.proofs.Parts.{required_stopped, required_refused, required_taken}
 use Rattle.bf_lines.specs.Held.{place_of}
-use Rattle.bf_stream.proofs.Fronts.{line_in_front, handed_on, at_true, target_ok, target_err}
+use Rattle.bf_stream.proofs.Fronts.{line_in_front, handed_on, target_ok, target_err}
 use Rattle.bf_stream.proofs.parts.required_from.Goals as goal
 
 pub returns-in_err-must_be_at-clause-reading : goal.returns-in_err-must_be_at-clause-reading

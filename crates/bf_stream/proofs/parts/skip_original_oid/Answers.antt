@@ -1,4 +1,4 @@
-use Rattle.std.proofs.Common.{true, false, Ok, Err, Some, None, refl, codes}
+use Rattle.std.proofs.Common.{Some, None, refl, codes}
 use Rattle.bf_grammar.specs.Place.{pure}
 use Rattle.bf_grammar.specs.Forms.{text_after}
 use Rattle.bf_grammar.specs.Commands.{optional, original_oid_at}

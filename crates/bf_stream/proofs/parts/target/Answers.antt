@@ -1,5 +1,4 @@
-use Rattle.std.proofs.Common.{sym, ap, ◌∙◌, Ok, codes, List, ℕ}
-use Rattle.bf_grammar.specs.declared.command.Target.{Target}
+use Rattle.std.proofs.Common.{sym, ap, ◌∙◌, Ok, List, ℕ}
 use Rattle.bf_grammar.specs.Commands.{target_of, target_at}
 use Rattle.bf_grammar.proofs.Parts.{optional_stopped, optional_absent, optional_refused, optional_taken}
 use Rattle.bf_lines.specs.Held.{place_of}
