@@ -9,3 +9,6 @@ mod label;
 pub use answer::{write_aborted, write_ask, write_waiting};
 pub use entries::write_entries;
 pub use label::{Commits, Sides};
+
+#[cfg(test)]
+mod tests;

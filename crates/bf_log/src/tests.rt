@@ -1,0 +1,78 @@
+//! A log and an answer, whole.
+use super::*;
+use bf_grammar::Oid;
+use bf_graph::Places;
+use bf_io::Bytes;
+use bf_search::{Ask, Entry, Mark, Outcome};
+use std::test::Fail;
+
+// What a search waits for, by whether a bad commit is known and how many good ones are.
+#[test]
+fn what_a_search_waits_for_is_said(rt: HostRuntime) -> Result<(), Fail> {
+    let sides = Sides {
+        new: b"slow",
+        old: b"fast",
+    };
+    let mut out = Bytes::new(rt.alloc());
+    write_waiting(sides, false, 0, &mut out)?;
+    write_waiting(sides, false, 12, &mut out)?;
+    write_waiting(sides, true, 0, &mut out)?;
+    assert_eq!(rt;
+        out.as_slice(),
+        b"waiting for both fast and slow commits
+waiting for slow commit, 12 fast known
+waiting for fast commits, slow commit known
+"
+            .as_slice()
+    );
+    Ok(())
+}
+
+// A search in which a commit is marked after the start, skipped, and found.
+#[test]
+fn a_log_and_its_answer(rt: HostRuntime) -> Result<(), Fail> {
+    let names = [Oid([0x11; 20]), Oid([0x2a; 20])];
+    let subjects = [
+        Bytes::from_slice(rt.alloc(), b"c1")?,
+        Bytes::from_slice(rt.alloc(), b"c2")?,
+    ];
+    let commits = Commits {
+        names: &names,
+        subjects: &subjects,
+    };
+    let sides = Sides {
+        new: b"bad",
+        old: b"good",
+    };
+    let entries = [
+        Entry::Start {
+            first_parent: true,
+            terms_given: false,
+            bad: Some(1),
+            goods: Places::new(rt.alloc()),
+        },
+        Entry::Marked {
+            mark: Mark::Good,
+            place: 0,
+        },
+        Entry::FirstBadFound { place: 1 },
+    ];
+    let mut out = Bytes::new(rt.alloc());
+    write_entries(rt.alloc(), commits, sides, &entries, &mut out)?;
+    write_ask(commits, sides, &Ask::FirstBad(1), &mut out)?;
+    write_aborted(commits, 0, Outcome::Exit(128), &mut out)?;
+    assert_eq!(rt;
+        out.as_slice(),
+        b"# bad: [2a2a2a2a2a2a2a2a2a2a2a2a2a2a2a2a2a2a2a2a] c2
+git bisect start '--first-parent' '2a2a2a2a2a2a2a2a2a2a2a2a2a2a2a2a2a2a2a2a'
+# status: waiting for good commits, bad commit known
+# good: [1111111111111111111111111111111111111111] c1
+git bisect good 1111111111111111111111111111111111111111
+# first bad commit: [2a2a2a2a2a2a2a2a2a2a2a2a2a2a2a2a2a2a2a2a] c2
+2a2a2a2a2a2a2a2a2a2a2a2a2a2a2a2a2a2a2a2a is the first bad commit
+bisect aborted: exit 128 on 1111111111111111111111111111111111111111
+"
+            .as_slice()
+    );
+    Ok(())
+}
