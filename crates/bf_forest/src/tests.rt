@@ -84,52 +84,71 @@ fn trees_have_the_names_of_git(rt: HostRuntime) -> Result<(), Fail> {
     Ok(())
 }
 
-#[test]
-fn modes_and_the_order_of_directories_are_those_of_git(rt: HostRuntime) -> Result<(), Fail> {
-    let alloc = rt.alloc();
-    let mut forest = Forest::new(alloc, 100)?;
-    let content = object_name(Kind::Blob, b"");
-    let other = oid_from_hex(b"1111111111111111111111111111111111111111").unwrap_or(content);
+/// Edits that set files.
+fn sets(alloc: Global, files: &[(&[u8], Mode, Oid)]) -> Result<Vec<Edit>, PathFault> {
     let mut edits = Vec::new(alloc);
-    edits.push(edit(alloc, b"hello.txt", Some(b"hello\n"))?)?;
-    edits.push(Edit::Set {
-        path: read_path(alloc, b"\"tools/b\\303\\244r.sh\"")?,
-        mode: Mode::Exec,
-        oid: content,
-    })?;
-    edits.push(Edit::Set {
-        path: read_path(alloc, b"lib/ext")?,
-        mode: Mode::Module,
-        oid: other,
-    })?;
-    let first = forest.apply(0, edits.as_slice())?;
+    for (path, mode, oid) in files {
+        let path = read_path(alloc, path)?;
+        edits.push(Edit::Set {
+            path,
+            mode: *mode,
+            oid: *oid,
+        })?;
+    }
+    Ok(edits)
+}
+
+#[test]
+fn modes_are_those_of_git(rt: HostRuntime) -> Result<(), Fail> {
+    let mut forest = Forest::new(rt.alloc(), 100)?;
+    let empty = object_name(Kind::Blob, b"");
+    let module = oid_from_hex(b"1111111111111111111111111111111111111111").unwrap_or(empty);
+    let files: [(&[u8], Mode, Oid); 4] = [
+        (
+            b"hello.txt",
+            Mode::Plain,
+            object_name(Kind::Blob, b"hello\n"),
+        ),
+        (b"\"tools/b\\303\\244r.sh\"", Mode::Exec, empty),
+        (b"lib/ext", Mode::Module, module),
+        (b"link", Mode::Link, empty),
+    ];
+    let edits = sets(rt.alloc(), &files)?;
+    let tree = forest.apply(0, edits.as_slice())?;
     assert_eq!(rt;
-        hex(forest.name(first)).as_slice(),
-        b"18b0f3ea1c000c8f67230a3eef19fc4a30ff98d4".as_slice()
-    );
-    edits.push(Edit::Set {
-        path: read_path(alloc, b"link")?,
-        mode: Mode::Link,
-        oid: content,
-    })?;
-    let second = forest.apply(first, edits.as_slice())?;
-    assert_eq!(rt;
-        hex(forest.name(second)).as_slice(),
+        hex(forest.name(tree)).as_slice(),
         b"65709010445ee8275c519b73e4d83ae7e56c7f94".as_slice()
     );
-    edits.push(Edit::Clear)?;
-    edits.push(edit(alloc, b"a/x", Some(b"x"))?)?;
-    edits.push(edit(alloc, b"a.b", Some(b"x"))?)?;
-    let third = forest.apply(second, edits.as_slice())?;
+    Ok(())
+}
+
+#[test]
+fn a_directory_is_ordered_as_if_its_name_ended_with_a_slash(rt: HostRuntime) -> Result<(), Fail> {
+    let mut forest = Forest::new(rt.alloc(), 100)?;
+    let content = object_name(Kind::Blob, b"x");
+    let files: [(&[u8], Mode, Oid); 2] = [
+        (b"a/x", Mode::Plain, content),
+        (b"a.b", Mode::Plain, content),
+    ];
+    let edits = sets(rt.alloc(), &files)?;
+    let tree = forest.apply(0, edits.as_slice())?;
     assert_eq!(rt;
-        hex(forest.name(third)).as_slice(),
+        hex(forest.name(tree)).as_slice(),
         b"88c054a6bbc12c6e95c38cc47d57fd9fc4ce5bc1".as_slice()
     );
-    let files = forest.files(third)?;
+    let files = forest.files(tree)?;
     assert_eq!(rt;
-        listing(alloc, files.as_slice())?.as_slice(),
+        listing(rt.alloc(), files.as_slice())?.as_slice(),
         b" a.b a/x".as_slice()
     );
+    Ok(())
+}
+
+#[test]
+fn clear_removes_all_files(rt: HostRuntime) -> Result<(), Fail> {
+    let mut forest = Forest::new(rt.alloc(), 100)?;
+    let edits = vec![in rt.alloc(); edit(rt.alloc(), b"a/x", Some(b"x"))?, Edit::Clear]?;
+    assert_eq!(rt; forest.apply(0, edits.as_slice()), Ok(0));
     Ok(())
 }
 
