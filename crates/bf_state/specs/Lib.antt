@@ -1,0 +1,5 @@
+pub mod Session
+pub mod FirstBad
+pub mod Steps
+pub mod Runs
+pub mod Guesses

@@ -1,0 +1,214 @@
+//! The state of a search.
+ghost use Rattle.std.specs.Prelude.{◌≡◌, ℕ, ◌<◌, true, false, length, Some, None, All, IfSome, IfOk, OnOk, OnErr};
+ghost use Rattle.bf_history.specs.Texts.{with_good};
+ghost use Rattle.bf_search.specs.Bases.{has_place};
+ghost use Rattle.bf_search.specs.State as searches;
+ghost use Rattle.bf_search.specs.declared.asks.Ask.TheVariants.{Test, FirstBad};
+ghost use Rattle.bf_state.specs.Session.{with_search, begun, IsSearchBelow};
+ghost use Rattle.bf_state.specs.FirstBad.{IsFirstBad};
+ghost use Rattle.bf_state.specs.Steps as steps;
+
+use crate::asking::{Decision, decide, tested};
+use crate::goods::{add_good, each_once};
+use bf_graph::Places;
+use bf_reach::Reach;
+use bf_rows::Row;
+use bf_search::{Mark, Step};
+use bf_terms::Terms;
+use std::alloc::{AllocError, Global};
+use std::marker::Model;
+
+/// What a search knows of the commits of a graph: its ends, the skipped ones, and what was asked last.
+///
+/// The places are below `len`, the good ones stand in the order in which they were marked, each once,
+/// and `skips` has a truth value for each commit. Contracts see the search with `len` and the terms.
+#[derive(Drop)]
+pub struct State {
+    /// The number of commits.
+    pub len: u32,
+    /// The words for the two sides.
+    pub terms: Terms,
+    /// Whether the first mark may still choose the terms.
+    pub terms_open: bool,
+    /// Whether the bad side follows first parents alone.
+    pub first_parent: bool,
+    /// The bad place.
+    pub bad: Option<u32>,
+    /// The good places.
+    pub goods: Places,
+    /// By place, whether it is skipped.
+    pub skips: Row,
+    /// Whether the check of the merge bases has passed.
+    pub checked: bool,
+    /// The place that was asked last, where it was not marked since.
+    pub expected: Option<u32>,
+    /// Whether the last good or bad mark said that the place that was asked is bad.
+    pub bad_asked: bool,
+}
+
+impl Model for State {
+    ghost use Rattle.bf_state.specs.Session.{Session, IsSearchBelow};
+
+    ghost Value = { Session };
+
+    ghost view = { λ s. record {
+      len = s.len;
+      terms = s.terms;
+      terms_open = s.terms_open;
+      search = record { first_parent = s.first_parent; bad = s.bad; goods = s.goods; skips = s.skips; checked = s.checked; expected = s.expected; bad_asked = s.bad_asked };
+    } };
+
+    ghost invariant = { λ s. IsSearchBelow s.len (record { first_parent = s.first_parent; bad = s.bad; goods = s.goods; skips = s.skips; checked = s.checked; expected = s.expected; bad_asked = s.bad_asked }) };
+}
+
+impl State {
+    /// A search with these ends, of which nothing was asked yet. Of equal good places the first is kept.
+    pub fn new(
+        alloc: Global,
+        len: u32,
+        terms: Terms,
+        terms_open: bool,
+        first_parent: bool,
+        bad: Option<u32>,
+        goods: &[u32],
+    ) -> Result<State, AllocError>
+        requires bad { IfSome bad (λ bad. bad < len) }
+        requires goods { All (λ good. good < len) goods.now }
+        ensures { IfOk result (λ state. state ≡ record { len = len; terms = terms; terms_open = terms_open; search = begun len first_parent bad goods.now }) }
+    {
+        let goods = each_once(alloc, len, goods)?;
+        let skips = Row::new(alloc, len)?;
+        Ok(State {
+            len,
+            terms,
+            terms_open,
+            first_parent,
+            bad,
+            goods,
+            skips,
+            checked: false,
+            expected: None,
+            bad_asked: false,
+        })
+    }
+
+    /// The number of commits.
+    pub fn len(&self) -> u32
+        ensures len { result ≡ self.now.len }
+        ensures below { IsSearchBelow self.now.len self.now.search }
+    {
+        self.len
+    }
+
+    /// An equal state.
+    pub fn try_clone(&self) -> Result<State, AllocError>
+        ensures { IfOk result (λ copy. copy ≡ self.now) }
+    {
+        Ok(State {
+            len: self.len,
+            terms: self.terms.try_clone()?,
+            terms_open: self.terms_open,
+            first_parent: self.first_parent,
+            bad: self.bad,
+            goods: self.goods.try_clone()?,
+            skips: self.skips.try_clone()?,
+            checked: self.checked,
+            expected: self.expected,
+            bad_asked: self.bad_asked,
+        })
+    }
+
+    /// Asks what comes next, over the reach of a graph of `len` commits. While no check of the merge
+    /// bases has passed, one is made. After an error the state is as before.
+    pub fn advance(&mut self, reach: &Reach) -> Result<Step, AllocError>
+        requires { length reach.now ≡ self.old.len }
+        ensures step { IfOk result (λ step. step ≡ (searches.ask reach.now self.old.search).step) }
+        ensures state { OnOk result (self.new ≡ with_search self.old (searches.ask reach.now self.old.search).search) }
+        ensures err { OnErr result (self.new ≡ self.old) }
+        ensures asked { IfOk result (λ step. (p : ℕ) → step.ask ≡ Test p → p < self.old.len) }
+        ensures first_bad { IfOk result (λ step. (p : ℕ) → step.ask ≡ FirstBad p → IsFirstBad reach.now self.old.search p) }
+    {
+        let decision = decide(self, reach)?;
+        self.follow(&decision);
+        Ok(decision.step)
+    }
+
+    /// Marks a place. After an error the state is as before.
+    pub fn mark(&mut self, mark: Mark, place: u32) -> Result<(), AllocError>
+        requires { place < self.old.len }
+        ensures ok { OnOk result (self.new ≡ with_search self.old (searches.mark self.old.search mark place)) }
+        ensures err { OnErr result (self.new ≡ self.old) }
+    {
+        self.add_if_good(mark, place)?;
+        self.settle(mark, place);
+        Ok(())
+    }
+
+    /// Asks what comes next and then marks a place, whatever was asked. It gives the skipped merge bases
+    /// to warn of, by place. After an error the state is as before.
+    pub fn take(&mut self, reach: &Reach, mark: Mark, place: u32) -> Result<Vec<u32>, AllocError>
+        requires len { length reach.now ≡ self.old.len }
+        requires place { place < self.old.len }
+        ensures warned { IfOk result (λ warned. warned.items ≡ (searches.ask reach.now self.old.search).step.warned) }
+        ensures state { OnOk result (self.new ≡ with_search self.old (searches.mark (searches.ask reach.now self.old.search).search mark place)) }
+        ensures err { OnErr result (self.new ≡ self.old) }
+    {
+        let decision = decide(self, reach)?;
+        self.add_if_good(mark, place)?;
+        self.follow(&decision);
+        self.settle(mark, place);
+        Ok(decision.step.warned.into_vec())
+    }
+
+    /// Adds a place that is marked good. After an error the state is as before.
+    fn add_if_good(&mut self, mark: Mark, place: u32) -> Result<(), AllocError>
+        requires { place < self.old.len }
+        ensures ok { OnOk result (self.new ≡ with_search self.old (steps.with_marked_good self.old.search mark place)) }
+        ensures err { OnErr result (self.new ≡ self.old) }
+    {
+        match mark {
+            Mark::Good => add_good(&mut self.goods, place),
+            Mark::Bad | Mark::Skip => Ok(()),
+        }
+    }
+
+    /// Keeps what an ask leaves.
+    fn follow(&mut self, decision: &Decision)
+        requires { IfSome (steps.tested decision.now.step.ask) (λ p. p < self.old.len) }
+        ensures { self.new ≡ with_search self.old (steps.followed self.old.search decision.now.checked (steps.tested decision.now.step.ask)) }
+    {
+        self.checked = decision.checked;
+        self.expected = tested(&decision.step.ask);
+    }
+
+    /// Marks a place, which is among the good ones if it is marked good.
+    fn settle(&mut self, mark: Mark, place: u32)
+        requires place { place < self.old.len }
+        requires added { mark ≡ Mark.Good → has_place self.old.search.goods place ≡ true }
+        ensures { self.new ≡ with_search self.old (searches.mark self.old.search mark place) }
+    {
+        let asked = is_place(self.expected, place);
+        match mark {
+            Mark::Good => {
+                self.checked &= asked;
+                self.bad_asked = false;
+            }
+            Mark::Bad => {
+                self.bad = Some(place);
+                self.checked &= asked;
+                self.bad_asked = asked;
+            }
+            Mark::Skip => self.skips.set(place, true),
+        }
+        self.expected = None;
+    }
+}
+
+fn is_place(found: Option<u32>, place: u32) -> bool
+    ensures { result ≡ searches.is_place found place }
+{
+    match found {
+        Some(other) => other == place,
+        None => false,
+    }
+}
