@@ -1,0 +1,14 @@
+//! A whole run of a search that tests one commit at a time, over a written plan of outcomes.
+#![tactic(auto)]
+
+mod ending;
+mod entries;
+mod plan;
+mod run;
+#[cfg(test)]
+mod tests;
+mod turn;
+
+pub use ending::Ending;
+pub use entries::Entries;
+pub use run::{Ran, run_plan};
