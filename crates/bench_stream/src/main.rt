@@ -3,12 +3,12 @@
 #![tactic(auto)]
 
 mod count;
-mod input;
 
+use bf_io::StdSource;
 use std::io;
 
 fn main(rt: HostRuntime) -> io::Result<()> {
-    let mut source = input::Input::new(rt.reader());
+    let mut source = StdSource::new(rt.reader());
     match count::count_commands(rt.alloc(), &mut source) {
         Ok(count) => println!(rt; "{count} commands"),
         Err(fault) => println!(rt; "{fault}"),
