@@ -2,7 +2,7 @@
 use Rattle.std.specs.Prelude.{◌≡◌, ℕ, ◌<◌, List, length, map, All}
 use Rattle.std.specs.Option.{ForSome}
 use Rattle.bf_grammar.specs.declared.object.Oid.{Oid}
-use Rattle.bf_history.specs.Texts as texts
+use Rattle.bf_texts.specs.Texts as texts
 use Rattle.bf_log.specs.declared.entries.Known.{Known}
 use Rattle.bf_log.specs.declared.label.Commits.{Commits}
 use Rattle.bf_log.specs.declared.label.Sides.{Sides}

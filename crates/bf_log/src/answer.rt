@@ -1,7 +1,7 @@
 //! The lines of an answer.
 ghost use Rattle.std.specs.Prelude.{◌≡◌, ◌<◌, ◌++◌, length, codes, All, OnOk};
 ghost use Rattle.std.specs.List.{flat_map};
-ghost use Rattle.bf_history.specs.Texts as texts;
+ghost use Rattle.bf_texts.specs.Texts as texts;
 ghost use Rattle.bf_log.specs.Labels.{IsAskWithin, commits_of, sides_of};
 ghost use Rattle.bf_search.specs.Run.{Aborted};
 
@@ -33,7 +33,7 @@ pub fn write_ask(
 }
 
 /// Adds the line of a run that a test aborted.
-#[tactic(auto, unfolding(bf_history::specs::Texts::aborted_line))]
+#[tactic(auto, unfolding(bf_texts::specs::Texts::aborted_line))]
 pub fn write_aborted(
     commits: Commits<'_>,
     place: u32,
@@ -81,7 +81,7 @@ pub(crate) fn put_waiting(
     }
 }
 
-#[tactic(auto, unfolding(bf_history::specs::Texts::waiting_for_old))]
+#[tactic(auto, unfolding(bf_texts::specs::Texts::waiting_for_old))]
 fn put_waiting_for_old(out: &mut Bytes, sides: Sides<'_>) -> Result<(), AllocError>
     ensures { OnOk result (out.new ≡ out.old ++ texts.waiting_for_old (sides_of sides.entry)) }
 {
@@ -92,7 +92,7 @@ fn put_waiting_for_old(out: &mut Bytes, sides: Sides<'_>) -> Result<(), AllocErr
     out.append(b" commit known")
 }
 
-#[tactic(auto, unfolding(bf_history::specs::Texts::waiting_for_both))]
+#[tactic(auto, unfolding(bf_texts::specs::Texts::waiting_for_both))]
 fn put_waiting_for_both(out: &mut Bytes, sides: Sides<'_>) -> Result<(), AllocError>
     ensures { OnOk result (out.new ≡ out.old ++ texts.waiting_for_both (sides_of sides.entry)) }
 {
@@ -103,7 +103,7 @@ fn put_waiting_for_both(out: &mut Bytes, sides: Sides<'_>) -> Result<(), AllocEr
     out.append(b" commits")
 }
 
-#[tactic(auto, unfolding(bf_history::specs::Texts::waiting_for_new))]
+#[tactic(auto, unfolding(bf_texts::specs::Texts::waiting_for_new))]
 fn put_waiting_for_new(out: &mut Bytes, sides: Sides<'_>, good_count: u64) -> Result<(), AllocError>
     ensures { OnOk result (out.new ≡ out.old ++ texts.waiting_for_new (sides_of sides.entry) good_count) }
 {
@@ -137,7 +137,7 @@ fn put_next(out: &mut Bytes, commits: Commits<'_>, place: u32) -> Result<(), All
     put_name_line(out, commits, place)
 }
 
-#[tactic(auto, unfolding(bf_history::specs::Texts::merge_base_bad_lines))]
+#[tactic(auto, unfolding(bf_texts::specs::Texts::merge_base_bad_lines))]
 fn put_merge_base_bad(
     out: &mut Bytes,
     commits: Commits<'_>,
@@ -156,7 +156,7 @@ fn put_merge_base_bad(
     out.append(b" commits.\n")
 }
 
-#[tactic(auto, unfolding(bf_history::specs::Texts::not_ancestor_line))]
+#[tactic(auto, unfolding(bf_texts::specs::Texts::not_ancestor_line))]
 fn put_not_ancestor(
     out: &mut Bytes,
     commits: Commits<'_>,
@@ -175,7 +175,7 @@ fn put_not_ancestor(
     out.append(b".\n")
 }
 
-#[tactic(auto, unfolding(bf_history::specs::Texts::both_sides_line))]
+#[tactic(auto, unfolding(bf_texts::specs::Texts::both_sides_line))]
 fn put_both_sides(
     out: &mut Bytes,
     commits: Commits<'_>,
@@ -193,7 +193,7 @@ fn put_both_sides(
     out.append(b"\n")
 }
 
-#[tactic(auto, unfolding(bf_history::specs::Texts::first_bad_line))]
+#[tactic(auto, unfolding(bf_texts::specs::Texts::first_bad_line))]
 fn put_first_bad(
     out: &mut Bytes,
     commits: Commits<'_>,
@@ -209,7 +209,7 @@ fn put_first_bad(
     out.append(b" commit\n")
 }
 
-#[tactic(auto, unfolding(bf_history::specs::Texts::only_skipped_lines))]
+#[tactic(auto, unfolding(bf_texts::specs::Texts::only_skipped_lines))]
 fn put_only_skipped(
     out: &mut Bytes,
     commits: Commits<'_>,

@@ -2,7 +2,7 @@
 ghost use Rattle.std.specs.Prelude.{◌≡◌, ◌<◌, ◌++◌, length, codes, [], All, IfOk, OnOk};
 ghost use Rattle.std.specs.List.{flat_map};
 ghost use Rattle.std.specs.Option.{ForSome};
-ghost use Rattle.bf_history.specs.Texts as texts;
+ghost use Rattle.bf_texts.specs.Texts as texts;
 ghost use Rattle.bf_log.specs.Labels.{AreCommits, IsEntryWithin, commits_of, known_of, sides_of};
 
 use crate::answer::put_waiting;
@@ -47,7 +47,7 @@ pub fn write_entries(
 }
 
 /// Adds the lines of an entry, without its status line.
-#[tactic(auto, unfolding(bf_history::specs::Texts::entry_lines))]
+#[tactic(auto, unfolding(bf_texts::specs::Texts::entry_lines))]
 fn put_entry(
     out: &mut Bytes,
     commits: Commits<'_>,
@@ -83,7 +83,7 @@ fn put_entry(
 }
 
 /// Adds the lines of a start entry.
-#[tactic(auto, unfolding(bf_history::specs::Texts::start_lines))]
+#[tactic(auto, unfolding(bf_texts::specs::Texts::start_lines))]
 fn put_start(
     out: &mut Bytes,
     commits: Commits<'_>,
@@ -106,7 +106,7 @@ fn put_start(
 }
 
 /// Adds the ends of a start as comments.
-#[tactic(auto, unfolding(bf_history::specs::Texts::end_lines))]
+#[tactic(auto, unfolding(bf_texts::specs::Texts::end_lines))]
 fn put_ends(
     out: &mut Bytes,
     commits: Commits<'_>,
@@ -129,7 +129,7 @@ fn put_ends(
 }
 
 /// Adds the names of the ends of a start as words.
-#[tactic(auto, unfolding(bf_history::specs::Texts::end_words))]
+#[tactic(auto, unfolding(bf_texts::specs::Texts::end_words))]
 fn put_start_names(
     out: &mut Bytes,
     commits: Commits<'_>,
@@ -299,7 +299,7 @@ fn put_first_bad(
 }
 
 /// Adds the lines that name the skipped commits that are left.
-#[tactic(auto, unfolding(bf_history::specs::Texts::skipped_left_lines))]
+#[tactic(auto, unfolding(bf_texts::specs::Texts::skipped_left_lines))]
 fn put_skipped_left(
     out: &mut Bytes,
     commits: Commits<'_>,

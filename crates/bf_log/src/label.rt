@@ -2,7 +2,7 @@
 ghost use Rattle.std.specs.Prelude.{◌≡◌, ◌<◌, ◌++◌, length, codes, OnOk};
 ghost use Rattle.std.specs.List.{slice_index_or};
 ghost use Rattle.hex.specs.Hex.{encode_lower};
-ghost use Rattle.bf_history.specs.Texts as texts;
+ghost use Rattle.bf_texts.specs.Texts as texts;
 ghost use Rattle.bf_log.specs.Labels.{commits_of, sides_of};
 
 use bf_io::Bytes;

@@ -1,7 +1,7 @@
 -- A search with what belongs to it: how many commits there are, and the words for its two sides.
 use Rattle.std.specs.Prelude.{◌≡◌, ◌≢◌, ℕ, ◌<◌, Bool, false, List, [], length, replicate, All, IfSome, Option, None}
 use Rattle.std.specs.List.{AllPairs}
-use Rattle.bf_history.specs.Texts.{Sides, with_goods}
+use Rattle.bf_texts.specs.Texts.{Sides, with_goods}
 use Rattle.bf_search.specs.State.{Search}
 
 pub record Session : Type 0 where

@@ -6,7 +6,7 @@ use Rattle.bf_search.specs.declared.asks.Step.{Step}
 use Rattle.bf_search.specs.declared.outcomes.Mark.{Mark}
 use Rattle.bf_search.specs.declared.outcomes.Mark.TheVariants.{Good}
 use Rattle.bf_search.specs.State.{Search, Asked}
-use Rattle.bf_history.specs.Texts.{with_good}
+use Rattle.bf_texts.specs.Texts.{with_good}
 
 -- the place that an ask asks to test
 abbrev pub tested : Ask → Option ℕ

@@ -1,7 +1,7 @@
 //! Lists of good places, in which no place stands twice.
 ghost use Rattle.std.specs.Prelude.{◌≡◌, ◌≢◌, ◌<◌, length, All, IfOk, OnOk, OnErr, []};
 ghost use Rattle.std.specs.List.{AllPairs};
-ghost use Rattle.bf_history.specs.Texts.{with_good, with_goods};
+ghost use Rattle.bf_texts.specs.Texts.{with_good, with_goods};
 
 use bf_graph::Places;
 use bf_rows::Row;

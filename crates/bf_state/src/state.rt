@@ -1,6 +1,6 @@
 //! The state of a search.
 ghost use Rattle.std.specs.Prelude.{◌≡◌, ℕ, ◌<◌, true, false, length, Some, None, All, IfSome, IfOk, OnOk, OnErr};
-ghost use Rattle.bf_history.specs.Texts.{with_good};
+ghost use Rattle.bf_texts.specs.Texts.{with_good};
 ghost use Rattle.bf_search.specs.Bases.{has_place};
 ghost use Rattle.bf_search.specs.State as searches;
 ghost use Rattle.bf_search.specs.declared.asks.Ask.TheVariants.{Test, FirstBad};

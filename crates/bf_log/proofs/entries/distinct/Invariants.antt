@@ -1,5 +1,5 @@
 use Rattle.std.proofs.Common.{◌≡◌, [], drop}
-use Rattle.bf_history.specs.Texts as texts
+use Rattle.bf_texts.specs.Texts as texts
 use Rattle.bf_log.proofs.entries.distinct.Given as goal
 
 abbrev pub invariant-loop-place : goal.invariant-loop-place

@@ -1,5 +1,5 @@
 use Rattle.std.proofs.Common.{◌≡◌, ◌++◌, drop}
-use Rattle.bf_history.specs.Texts as texts
+use Rattle.bf_texts.specs.Texts as texts
 use Rattle.bf_log.specs.Labels.{commits_of, sides_of, known_of}
 use Rattle.bf_log.proofs.entries.write_entries.Given as goal
 

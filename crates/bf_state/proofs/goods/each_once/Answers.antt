@@ -1,6 +1,6 @@
 use Rattle.std.proofs.Common.{◌≡◌, ◌+◌, ◌<◌, ℕ, Bool, true, false, List, [], ◌∷◌, ◌++◌, length, get_or, set, take, ap, sym, ◌∙◌}
 use Rattle.std.proofs.lemmas.List.{length-set, take_more}
-use Rattle.bf_history.specs.Texts.{with_good, with_goods}
+use Rattle.bf_texts.specs.Texts.{with_good, with_goods}
 use Rattle.bf_search.specs.Bases.{has_place}
 use Rattle.bf_state.proofs.Once.{sees_more, with_good-known, with_good-fresh, with_goods-append}
 use Rattle.bf_state.proofs.goods.each_once.Goals as goal

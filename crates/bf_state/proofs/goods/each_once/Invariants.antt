@@ -1,5 +1,5 @@
 use Rattle.std.proofs.Common.{◌≡◌, [], length, take}
-use Rattle.bf_history.specs.Texts.{with_goods}
+use Rattle.bf_texts.specs.Texts.{with_goods}
 use Rattle.bf_state.proofs.Once.{SeesAll}
 use Rattle.bf_state.proofs.goods.each_once.Given as goal
 

@@ -1,6 +1,6 @@
 -- The lines of a log (git-bisect(1), "Bisect log and bisect replay") and of the answer of a search.
 use Rattle.std.specs.Prelude.{ℕ, ◌==◌, Bool, true, false, ◌&&◌, not, nat_lt, List, [], ◌∷◌, ◌++◌, length, codes, Option, Some, None, is_some, if◌then◌else◌}
-use Rattle.std.specs.List.{list_any, slice_index_or, flat_map}
+use Rattle.std.specs.List.{slice_index_or, flat_map}
 use Rattle.std.specs.Fmt.{decimal}
 use Rattle.hex.specs.Hex.{encode_lower}
 use Rattle.bf_search.specs.declared.asks.Ask.{Ask}

@@ -1,15 +1,13 @@
 -- Worked texts, by computation. The names of the commits here are single bytes.
-use Rattle.std.specs.Prelude.{◌≡◌, ℕ, Bool, true, false, List, [], ◌∷◌, ◌++◌, codes, Option, Some, None, refl}
+use Rattle.std.specs.Prelude.{◌≡◌, true, false, [], ◌∷◌, codes, Some, None, refl}
 use Rattle.std.specs.Fmt.{digits}
 use Rattle.hex.specs.Hex.{encode_with}
 use Rattle.bf_search.specs.declared.asks.Ask.TheVariants as ask
-use Rattle.bf_search.specs.declared.entries.Entry.TheVariants.{Start, Marked, SkippedBase, FirstBadFound, OnlySkippedLeft}
+use Rattle.bf_search.specs.declared.entries.Entry.TheVariants.{Start, Marked, FirstBadFound, OnlySkippedLeft}
 use Rattle.bf_search.specs.declared.outcomes.Mark.TheVariants.{Good, Bad, Skip}
-use Rattle.bf_search.specs.declared.outcomes.Outcome.TheVariants.{Exit, Killed}
+use Rattle.bf_search.specs.declared.outcomes.Outcome.TheVariants.{Exit}
 use Rattle.bf_search.specs.Run.{Answered, Aborted}
-use Rattle.bf_history.specs.History.{History, Commit, no_history, with_ref, ref_in, subject_of}
-use Rattle.bf_history.specs.Names.{place_of_name}
-use Rattle.bf_history.specs.Texts.{Commits, Sides, standard_sides, waiting_for_old, waiting_for_both, given_terms, first_words, possible_words, end_lines, end_words, start_lines, mark_lines, skipped_left_lines, entry_lines, log_from, log, first_bad_line, aborted_line, answer_lines}
+use Rattle.bf_texts.specs.Texts.{Commits, standard_sides, waiting_for_old, waiting_for_both, given_terms, first_words, possible_words, end_lines, end_words, start_lines, mark_lines, skipped_left_lines, entry_lines, log_from, log, first_bad_line, aborted_line, answer_lines}
 
 three : Commits
 three = record { names = (16 ∷ []) ∷ (17 ∷ []) ∷ (18 ∷ []) ∷ []; subjects = codes "c0" ∷ codes "c1" ∷ [] ∷ [] }
@@ -39,16 +37,3 @@ answered = refl
 aborted : answer_lines three standard_sides (Aborted 1 (Exit 128)) ≡ codes "bisect aborted: exit 128 on 11\n"
 unfolding three answer_lines first_bad_line aborted_line encode_with digits
 aborted = refl
-
--- a full ref is tried first, and then behind each of the usual prefixes
-named : place_of_name (record no_history { refs = (codes "refs/heads/a", 4) ∷ (codes "refs/refs/b", 5) ∷ [] }) (codes "refs/b") ≡ Some 5
-unfolding place_of_name
-named = refl
-
--- a ref that is set again keeps its place in the list
-kept : with_ref (codes "a") 3 ((codes "a", 1) ∷ (codes "b", 2) ∷ []) ≡ (codes "a", 3) ∷ (codes "b", 2) ∷ []
-kept = refl
-
--- the subject is the first line with a byte, without its LF
-titled : subject_of (codes "\n\nfirst\nsecond\n") ≡ codes "first"
-titled = refl

@@ -1,3 +1,0 @@
-pub mod History
-pub mod Names
-pub mod Texts
