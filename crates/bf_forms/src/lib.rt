@@ -12,7 +12,7 @@ pub use changes::{delete_all_of, modified_path, modify_form};
 pub use cuts::{name_after, text_after};
 pub use heads::{head_of, is_ref};
 pub use idents::ident_of;
-pub use parts::{data_form, delimiter_in, encoding_of, mark_of};
+pub use parts::{colon_number, data_form, delimiter_in, encoding_of, mark_of};
 
 #[cfg(test)]
 mod tests;

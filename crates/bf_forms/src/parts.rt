@@ -21,8 +21,9 @@ pub fn mark_of(line: u64, text: &[u8]) -> Result<u64, StreamFault>
     colon_number(body).ok_or(StreamFault::Syntax { line })
 }
 
-// A mark as it is named: a colon and its number.
-pub(crate) fn colon_number(text: &[u8]) -> Option<u64>
+/// The number of a mark as it is named: a colon and the number, which is 1 to 2^64 - 1. Any other text has
+/// none.
+pub fn colon_number(text: &[u8]) -> Option<u64>
     ensures { result ≡ forms.colon_number text.now }
 {
     match text {

@@ -1,0 +1,73 @@
+-- Worked meanings, by computation. The names of the commits here are single bytes.
+use Rattle.std.specs.Prelude.{◌≡◌, ℕ, ◌==◌, [], ◌∷◌, codes, Some, Ok, Err, refl}
+use Rattle.bf_io.specs.Decimal.{decimal_value}
+use Rattle.hex.specs.Hex.{decode_pairs}
+use Rattle.bf_grammar.specs.declared.object.Mode.TheVariants.{Plain, Module}
+use Rattle.bf_grammar.specs.declared.command.DataRef.TheVariants as dataref
+use Rattle.bf_history.specs.declared.fault.ImportFault.TheVariants.{BadFrom, BadMark, Unsupported}
+use Rattle.bf_history.specs.declared.marked.Marked.TheVariants as marked
+use Rattle.bf_history.specs.Bodies.{subject_of}
+use Rattle.bf_history.specs.Meanings.{Loading, nothing_loaded, place_of_target, content_named, ref_of_target}
+use Rattle.bf_history.specs.Named.{with_value, without_value}
+use Rattle.bf_history.specs.Names.{place_of_name}
+
+-- a ref that is set again keeps its place in the list, and one that goes leaves no hole
+kept : with_value {V = ℕ} ◌==◌ 1 5 ((1, 3) ∷ (2, 4) ∷ []) ≡ (1, 5) ∷ (2, 4) ∷ []
+kept = refl
+
+closed : without_value {V = ℕ} ◌==◌ 1 ((1, 3) ∷ (2, 4) ∷ []) ≡ (2, 4) ∷ []
+closed = refl
+
+-- a full ref is tried first, and then behind each of the usual prefixes
+named : place_of_name ((codes "refs/heads/a", 4) ∷ (codes "refs/refs/b", 5) ∷ []) (codes "refs/b") ≡ Some 5
+unfolding place_of_name
+named = refl
+
+-- the subject is the first line with a byte, without its LF
+titled : subject_of (codes "\n\nfirst\nsecond\n") ≡ codes "first"
+titled = refl
+
+untitled : subject_of (codes "\n\n") ≡ []
+untitled = refl
+
+-- ---- targets
+
+with_marks : Loading
+with_marks = record nothing_loaded {
+  marks = (1, marked.Commit 7) ∷ (2, marked.Tag) ∷ [];
+}
+
+by_mark : place_of_target BadFrom with_marks (record { line = 9; text = codes ":1" }) ≡ Ok 7
+unfolding with_marks place_of_target decimal_value
+by_mark = refl
+
+of_a_tag : place_of_target Unsupported with_marks (record { line = 9; text = codes ":2" }) ≡ Err (Unsupported 9)
+unfolding with_marks place_of_target decimal_value
+of_a_tag = refl
+
+no_mark : place_of_target Unsupported with_marks (record { line = 9; text = codes ":3" }) ≡ Err (BadFrom 9)
+unfolding with_marks place_of_target decimal_value
+no_mark = refl
+
+-- the mark 0 is no mark, and names no ref either
+mark_zero : place_of_target BadFrom with_marks (record { line = 9; text = codes ":0" }) ≡ Err (BadFrom 9)
+unfolding with_marks place_of_target ref_of_target decimal_value
+mark_zero = refl
+
+no_commit_of_the_name : place_of_target BadFrom with_marks (record { line = 9; text = codes "0000000000000000000000000000000000000000" }) ≡ Err (Unsupported 9)
+unfolding with_marks place_of_target decode_pairs
+no_commit_of_the_name = refl
+
+present_commit : ref_of_target (codes "refs/heads/a^0") ≡ codes "refs/heads/a"
+unfolding ref_of_target
+present_commit = refl
+
+-- ---- contents
+
+inline_module : content_named [] 4 Module (dataref.Inline []) ≡ Err (BadMark 4)
+unfolding content_named
+inline_module = refl
+
+commit_as_content : content_named with_marks.marks 4 Plain (dataref.Mark 1) ≡ Err (BadMark 4)
+unfolding with_marks content_named
+commit_as_content = refl

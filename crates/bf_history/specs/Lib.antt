@@ -1,0 +1,5 @@
+pub mod Bodies
+pub mod Imports
+pub mod Meanings
+pub mod Named
+pub mod Names

@@ -1,0 +1,9 @@
+//! What the commands of a stream mean: the history that they make, and how they are refused. The
+//! definitions stand in specs/; the crates that make histories and read them stand on this one.
+#![tactic(auto)]
+
+mod fault;
+mod marked;
+
+pub use fault::ImportFault;
+pub use marked::Marked;
