@@ -1,5 +1,5 @@
 -- Texts that are added one after another.
-use Rattle.std.proofs.Common.{◌≡◌, ℕ, List, ◌++◌, Result, sym, ◌∙◌, ap, ◌∷◌, append_assoc}
+use Rattle.std.proofs.Common.{◌≡◌, ℕ, List, ◌++◌, Result, ◌∙◌, ap, ◌∷◌, append_assoc}
 use Rattle.bf_texts.specs.Texts as texts
 use Rattle.bf_texts.specs.Texts.{log_from}
 use Rattle.bf_search.specs.declared.entries.Entry.{Entry}

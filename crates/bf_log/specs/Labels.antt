@@ -1,5 +1,5 @@
 -- What the writer is given, as the definition of the texts has it.
-use Rattle.std.specs.Prelude.{◌≡◌, ℕ, ◌<◌, List, length, map, All}
+use Rattle.std.specs.Prelude.{◌≡◌, ℕ, ◌<◌, length, map, All}
 use Rattle.std.specs.Option.{ForSome}
 use Rattle.bf_grammar.specs.declared.object.Oid.{Oid}
 use Rattle.bf_texts.specs.Texts as texts

@@ -10,9 +10,8 @@ use bf_io::{Bytes, put_decimal};
 use bf_search::{Ask, Outcome};
 use std::alloc::AllocError;
 
-/// Adds the lines that an ask answers with. An ask that waits has none: `write_waiting` says what is
-/// known.
-pub fn write_ask(
+/// Adds the lines that an ask answers with. An ask that waits has none.
+pub(crate) fn put_ask(
     commits: Commits<'_>,
     sides: Sides<'_>,
     ask: &Ask,
@@ -34,7 +33,7 @@ pub fn write_ask(
 
 /// Adds the line of a run that a test aborted.
 #[tactic(auto, unfolding(bf_texts::specs::Texts::aborted_line))]
-pub fn write_aborted(
+pub(crate) fn put_aborted(
     commits: Commits<'_>,
     place: u32,
     outcome: Outcome,
@@ -51,7 +50,7 @@ pub fn write_aborted(
 
 /// Adds the line that says what a search waits for: whether a bad commit is known, and how many good
 /// ones are.
-pub fn write_waiting(
+pub(crate) fn put_waiting_line(
     sides: Sides<'_>,
     bad: bool,
     good_count: u64,

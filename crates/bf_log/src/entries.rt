@@ -23,7 +23,7 @@ pub struct Known {
 
 /// Adds the lines of a log with these entries. Where an end is not known after a start or a mark, a
 /// status line says so.
-pub fn write_entries(
+pub(crate) fn put_entries(
     alloc: Global,
     commits: Commits<'_>,
     sides: Sides<'_>,

@@ -5,10 +5,10 @@
 mod answer;
 mod entries;
 mod label;
+mod write;
 
-pub use answer::{write_aborted, write_ask, write_waiting};
-pub use entries::write_entries;
 pub use label::{Commits, Sides};
+pub use write::{write_aborted, write_ask, write_entries, write_waiting};
 
 #[cfg(test)]
 mod tests;

@@ -1,8 +1,7 @@
 use Rattle.std.specs.Fmt.{decimal}
 use Rattle.std.proofs.Common.{◌++◌, codes}
-use Rattle.bf_texts.specs.Texts as texts
 use Rattle.bf_texts.specs.Texts.{waiting_for_new}
-use Rattle.bf_log.specs.Labels.{commits_of, sides_of}
+use Rattle.bf_log.specs.Labels.{sides_of}
 use Rattle.bf_log.proofs.Joined.{more, last}
 use Rattle.bf_log.proofs.answer.put_waiting_for_new.Goals as goal
 

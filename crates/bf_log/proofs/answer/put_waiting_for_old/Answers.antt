@@ -1,7 +1,6 @@
 use Rattle.std.proofs.Common.{◌++◌, codes}
-use Rattle.bf_texts.specs.Texts as texts
 use Rattle.bf_texts.specs.Texts.{waiting_for_old}
-use Rattle.bf_log.specs.Labels.{commits_of, sides_of}
+use Rattle.bf_log.specs.Labels.{sides_of}
 use Rattle.bf_log.proofs.Joined.{more, last}
 use Rattle.bf_log.proofs.answer.put_waiting_for_old.Goals as goal
 

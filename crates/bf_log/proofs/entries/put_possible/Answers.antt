@@ -1,5 +1,4 @@
-use Rattle.std.proofs.Common.{◌++◌, ℕ, codes}
-use Rattle.std.specs.List.{flat_map}
+use Rattle.std.proofs.Common.{◌++◌, codes}
 use Rattle.bf_texts.specs.Texts as texts
 use Rattle.bf_texts.specs.Texts.{possible_words, first_words}
 use Rattle.bf_log.specs.Labels.{commits_of, sides_of}

@@ -1,12 +1,11 @@
-use Rattle.std.proofs.Common.{◌≡◌, ◌++◌, [], ◌∷◌, List, ℕ, suc, drop, length, refl, sym, ◌∙◌, ap, arith, add-one}
+use Rattle.std.proofs.Common.{◌≡◌, ◌++◌, ◌∷◌, List, ℕ, suc, drop, sym, ◌∙◌, ap, add-one}
 use Rattle.std.proofs.Math.Seq.{drop-cons}
 use Rattle.std.proofs.lemmas.List.{append-nil, drop_all}
-use Rattle.bf_texts.specs.Texts as texts
 use Rattle.bf_texts.specs.Texts.{log_from}
 use Rattle.bf_log.specs.Labels.{commits_of, sides_of, known_of}
 use Rattle.bf_log.proofs.Joined.{entry_more}
 use Rattle.bf_search.specs.declared.entries.Entry.{Entry}
-use Rattle.bf_log.proofs.entries.write_entries.Goals as goal
+use Rattle.bf_log.proofs.entries.put_entries.Goals as goal
 
 pub loop-entry-preserved : goal.loop-entry-preserved
 loop-entry-preserved c =

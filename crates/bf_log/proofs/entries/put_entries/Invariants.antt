@@ -1,7 +1,7 @@
 use Rattle.std.proofs.Common.{◌≡◌, ◌++◌, drop}
 use Rattle.bf_texts.specs.Texts as texts
 use Rattle.bf_log.specs.Labels.{commits_of, sides_of, known_of}
-use Rattle.bf_log.proofs.entries.write_entries.Given as goal
+use Rattle.bf_log.proofs.entries.put_entries.Given as goal
 
 abbrev pub invariant-loop-entry : goal.invariant-loop-entry
 invariant-loop-entry l =
