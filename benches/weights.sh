@@ -33,29 +33,17 @@ for place in range(count):
 sys.stdout.write("".join(out))
 PY
 
-# Runs a command and prints its seconds and its peak memory in KiB.
-cat > "$work/timed.py" <<'PY'
-import resource, subprocess, sys, time
-began = time.time()
-try:
-    subprocess.run(sys.argv[2:], stdin=open(sys.argv[1]), stdout=subprocess.DEVNULL, check=True, timeout=300)
-    seconds = f"{time.time() - began:.3f}"
-except subprocess.TimeoutExpired:
-    seconds = "300"
-print(seconds, resource.getrusage(resource.RUSAGE_CHILDREN).ru_maxrss)
-PY
-
 for shape in line mixed merges; do
     for size in "${sizes[@]}"; do
         echo "$shape $size" > "$work/input"
-        read -r ours memory < <(python3 "$work/timed.py" "$work/input" "$top/crates/bench_weights/out/bench_weights")
+        read -r ours _ memory < <("$top/benches/measure.py" "$work/input" "$top/crates/bench_weights/out/bench_weights")
         echo "$shape $size: bench_weights $ours s, $memory KiB"
         command -v git > /dev/null || continue
         rm -rf "$work/repository"
         git init -q --bare "$work/repository"
         python3 "$work/stream.py" "$shape" "$size" | git -C "$work/repository" fast-import --quiet
         first=$(git -C "$work/repository" rev-list --max-parents=0 refs/heads/main)
-        read -r theirs memory < <(python3 "$work/timed.py" /dev/null \
+        read -r theirs _ memory < <("$top/benches/measure.py" /dev/null --limit 300 \
             git -C "$work/repository" rev-list --bisect-all refs/heads/main "^$first")
         echo "$shape $size: git rev-list --bisect-all $theirs s, $memory KiB"
         python3 -c "print(f'$shape $size: ratio {float(\"$theirs\") / float(\"$ours\"):.1f}')"
