@@ -17,4 +17,6 @@ pub use commands::take_command;
 pub use reader::Reader;
 
 #[cfg(test)]
+mod refusals;
+#[cfg(test)]
 mod tests;
