@@ -1,10 +1,10 @@
 //! Searches and counts in a text.
-ghost use Rattle.std.specs.Prelude.{◌≡◌, ◌≤◌, count_by};
+ghost use Rattle.std.specs.Prelude.{◌≡◌, ◌≤◌, count_by, length};
 ghost use Rattle.std.specs.List.{position_or_len};
 ghost use Rattle.bf_grammar.specs.Place.{is_end_of_line};
 ghost use Rattle.bf_grammar.specs.Lines as lines;
 
-use memchr::{memchr, memchr_iter};
+use memchr::memchr;
 
 /// The place of the first LF, or the length where there is none. The bytes before the given place are known
 /// to have none.
@@ -18,11 +18,34 @@ pub(crate) fn end_of_line(bytes: &[u8], known: usize) -> usize
     }
 }
 
+/// The length of the parts in which LFs are counted: a multiple of the width of a vector, so short that the
+/// count of a part fits into a byte.
+const PART: usize = 192;
+
 /// How many LFs there are.
 pub(crate) fn count_lines(bytes: &[u8]) -> usize
     ensures { result ≡ count_by is_end_of_line bytes.now }
 {
-    memchr_iter(b'\n', bytes).count()
+    let mut lines = 0;
+    let mut rest = bytes;
+    'parts: while !rest.is_empty() {
+        let (part, behind) = rest.split_at(rest.len().min(PART));
+        lines += count_in_part(part) as usize;
+        rest = behind;
+    }
+    lines
+}
+
+/// How many LFs a part has. With a counter of one byte the compiler compares a whole vector at once.
+fn count_in_part(part: &[u8]) -> u8
+    requires { length part.now ≤ 255 }
+    ensures { result ≡ count_by is_end_of_line part.now }
+{
+    let mut lines = 0u8;
+    for byte in part {
+        lines += (*byte == b'\n') as u8;
+    }
+    lines
 }
 
 /// Whether the first word of a text is this one.
