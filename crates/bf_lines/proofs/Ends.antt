@@ -16,6 +16,11 @@ end_at bytes = position_or_len is_end_of_line bytes
 pub end_at-le : (bytes : List ℕ) → end_at bytes ≤ length bytes
 end_at-le bytes = prefix_len-le-length (λ x. not (is_end_of_line x)) bytes
 
+-- a place where the end of the line is
+pub end_at-here : (bytes : List ℕ) (known : ℕ) → known ≤ end_at bytes → known < length bytes → is_end_of_line (get_or bytes known 0) ≡ true → known ≡ end_at bytes
+end_at-here bytes known le lt is =
+    sym (position_or_len_is is_end_of_line bytes known 0 (omega arith) (λ k below. fails_before_first is_end_of_line bytes k 0 (omega arith)) (λ lt. is))
+
 -- what a search from a place on says of the whole
 pub end_at-found : (bytes : List ℕ) (known : ℕ) (r : Option ℕ) → known ≤ end_at bytes
     → IsFirstByte (is_byte 10) (take (length bytes - known) (drop known bytes)) r

@@ -73,12 +73,13 @@ fn find_front<S: Source>(
 {
     let most = limits.line as usize;
     let enough = most.max(WORD);
-    let mut scanned = 0;
+    let mut scanned = window.known();
     'reads: loop {
         let bytes = window.bytes();
         let held = bytes.len();
         let end = end_of_line(bytes, scanned);
         if end < held {
+            window.note_known(end);
             return Ok(sized(most, end));
         }
         if held > enough {

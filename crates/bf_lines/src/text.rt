@@ -12,6 +12,9 @@ pub(crate) fn end_of_line(bytes: &[u8], known: usize) -> usize
     requires { known ≤ position_or_len is_end_of_line bytes.now }
     ensures { result ≡ position_or_len is_end_of_line bytes.now }
 {
+    if known < bytes.len() && bytes[known] == b'\n' {
+        return known;
+    }
     match memchr(b'\n', &bytes[known..]) {
         Some(at) => known + at,
         None => bytes.len(),

@@ -1,6 +1,8 @@
 //! The window.
 ghost use Rattle.std.specs.Prelude.{◌≡◌, ◌+◌, ◌-◌, ◌≤◌, ◌<◌, ◌^◌, List, ℕ, [], true, length, take, drop, vec_len, Option, IfOk, OnOk};
+ghost use Rattle.std.specs.List.{position_or_len};
 ghost use Rattle.bf_grammar.specs.Lines.{front_line, past_line};
+ghost use Rattle.bf_grammar.specs.Place.{is_end_of_line};
 ghost use Rattle.bf_io.specs.Causes.{HasCause};
 ghost use Rattle.bf_io.specs.Told.{ReadTakes};
 ghost use Rattle.bf_lines.specs.Filling.{Fills, IsReady};
@@ -32,6 +34,8 @@ pub struct Window {
     buf: Vec<u8>,
     start: usize,
     end: usize,
+    // So many bytes in front are known to have no LF.
+    known: usize,
     line: u64,
     quota: u64,
     past: bool,
@@ -40,13 +44,15 @@ pub struct Window {
 
 impl Model for Window {
     ghost use Rattle.std.specs.Prelude.{◌≡◌, ◌+◌, ◌-◌, ◌≤◌, ◌^◌, true, take, drop, vec_len};
+    ghost use Rattle.std.specs.List.{position_or_len};
+    ghost use Rattle.bf_grammar.specs.Place.{is_end_of_line};
     ghost use Rattle.bf_lines.specs.Held.{Held};
 
     ghost Value = { Held };
 
     ghost view = { λ w. record { line = w.line; bytes = take (w.end - w.start) (drop w.start w.buf.items); quota = w.quota; past = w.past; done_due = w.done_due } };
 
-    ghost invariant = { λ w. (w.start ≤ w.end) × (w.end ≤ vec_len w.buf) × (vec_len w.buf ≡ 65536) × (w.line + (w.end - w.start) + w.quota ≤ 2 ^ 62) × (w.past ≡ true → w.quota ≡ 0) };
+    ghost invariant = { λ w. (w.start ≤ w.end) × (w.end ≤ vec_len w.buf) × (vec_len w.buf ≡ 65536) × (w.line + (w.end - w.start) + w.quota ≤ 2 ^ 62) × (w.past ≡ true → w.quota ≡ 0) × (w.known ≤ position_or_len is_end_of_line (take (w.end - w.start) (drop w.start w.buf.items))) };
 }
 
 impl Window {
@@ -60,6 +66,7 @@ impl Window {
             buf,
             start: 0,
             end: 0,
+            known: 0,
             line: 1,
             quota: limit,
             past: false,
@@ -89,8 +96,23 @@ impl Window {
         ensures short { length result.now ≤ 65536 }
     {
         let bytes = self.bytes();
-        let end = end_of_line(bytes, 0);
+        let end = end_of_line(bytes, self.known);
         &bytes[..end]
+    }
+
+    /// So many bytes in front that are known to have no LF.
+    pub(crate) fn known(&self) -> usize
+        ensures { result ≤ position_or_len is_end_of_line self.now.bytes }
+    {
+        self.known
+    }
+
+    /// Notes that so many bytes in front have no LF, so that they are not searched again.
+    pub(crate) fn note_known(&mut self, known: usize)
+        requires { known ≤ position_or_len is_end_of_line self.old.bytes }
+        ensures { self.new ≡ self.old }
+    {
+        self.known = known;
     }
 
     /// Goes behind the line in front.
@@ -100,7 +122,7 @@ impl Window {
     {
         let bytes = self.bytes();
         let held = bytes.len();
-        let end = end_of_line(bytes, 0);
+        let end = end_of_line(bytes, self.known);
         if end < held {
             self.advance(end + 1, 1);
         } else {
@@ -115,6 +137,7 @@ impl Window {
         ensures { self.new ≡ record self.old { line = self.old.line + lines; bytes = drop count self.old.bytes } }
     {
         self.start += count;
+        self.known = 0;
         self.line += lines as u64;
     }
 
@@ -138,6 +161,7 @@ impl Window {
         if self.quota == 0 {
             return self.look_past(source);
         }
+        self.known = 0;
         let held = self.end - self.start;
         let start = make_room(&mut self.buf, self.start, self.end);
         let end = start + held;

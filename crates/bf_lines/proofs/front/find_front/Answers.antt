@@ -1,12 +1,15 @@
-use Rattle.std.proofs.Common.{Ok, subst, arith, ◌∙◌}
+use Rattle.std.proofs.Common.{Ok, subst, sym, arith, ◌∙◌}
 use Rattle.bf_lines.specs.declared.window.Filled.{Filled}
 use Rattle.bf_lines.specs.Filling.{Fills}
+use Rattle.bf_lines.specs.Fronts.{FindsFront}
+use Rattle.bf_lines.specs.Held.{Held, place_of}
 use Rattle.bf_lines.proofs.Fronts.{answer_ended, answer_long, answer_end, answer_past, known_more, remaining_more}
 use Rattle.bf_lines.proofs.front.find_front.Goals as goal
 
 pub returns-then-end-held-clause-front : goal.returns-then-end-held-clause-front
 returns-then-end-held-clause-front g c =
-    answer_ended c.args.limits _ _ _ c.bytes-bytes.result.now c.end_of_line-end.result _ c.reads.invariant.place c.bytes-bytes.ensures.bytes c.end_of_line-end.ensures c.if-end-held.true c.sized.ensures
+    subst (λ (held : Held). FindsFront c.args.limits (place_of c.args.window.now (g.S.Source.left c.args.source.now)) held (g.S.Source.left c.reads.source) (Ok c.sized.result)) (sym c.note_known.ensures)
+    (answer_ended c.args.limits _ _ _ c.bytes-bytes.result.now c.end_of_line-end.result _ c.reads.invariant.place c.bytes-bytes.ensures.bytes c.end_of_line-end.ensures c.if-end-held.true c.sized.ensures)
 
 pub returns-then-held-enough-clause-front : goal.returns-then-held-enough-clause-front
 returns-then-held-enough-clause-front g c =

@@ -1,6 +1,10 @@
 use Rattle.std.proofs.Common.{arith, Some, None}
-use Rattle.bf_lines.proofs.Ends.{end_at-le, end_at-found}
+use Rattle.std.proofs.lemmas.Bool.{eq-eqb}
+use Rattle.bf_lines.proofs.Ends.{end_at-le, end_at-found, end_at-here}
 use Rattle.bf_lines.proofs.text.end_of_line.Goals as goal
+
+pub returns-then-bytes-known-eq10 : goal.returns-then-bytes-known-eq10
+returns-then-bytes-known-eq10 c = end_at-here c.args.bytes.now c.args.known c.requires c.if-known-bytes.true (eq-eqb _ _ c.if-bytes-known-eq10.true)
 
 pub slice_bounds-memchr-count : goal.slice_bounds-memchr-count
 slice_bounds-memchr-count c = omega (arith, end_at-le c.args.bytes.now)
