@@ -1,0 +1,108 @@
+//! The edits that the changes of a commit ask for.
+ghost use Rattle.std.specs.Prelude.{◌≡◌};
+ghost use Rattle.bf_grammar.specs.declared.command.Change.TheVariants.{Modify};
+ghost use Rattle.bf_history.specs.Imports.{Means};
+ghost use Rattle.bf_history.specs.Meanings.{each_of, edit_of, content_named, blob_marked, is_module, path_at};
+
+use bf_forest::Edit;
+use bf_grammar::{Change, DataRef};
+use bf_history::{ImportFault, Marked};
+use bf_oid::{Kind, Mode, Oid, object_name};
+use bf_paths::{Path, PathFault, read_path};
+use bf_tables::Marks;
+use std::alloc::Global;
+
+/// The edits of these changes, in order. The first change that is refused refuses them all: with
+/// `BadMark` where its content is no blob of the stream, and with `BadPath` where its path is none, both
+/// at the line of the change. `NoMemory` comes where memory ran out, and no other error.
+pub fn edits_of(alloc: Global, marks: &Marks, changes: &[Change]) -> Result<Vec<Edit>, ImportFault>
+    ensures { Means (λ edits. edits.items) result (each_of (edit_of marks.now) changes.now) }
+{
+    let mut edits = Vec::new(alloc);
+    for change in changes {
+        edits.push(edit_of(alloc, marks, change)?)?;
+    }
+    Ok(edits)
+}
+
+/// The edit of a change.
+fn edit_of(alloc: Global, marks: &Marks, change: &Change) -> Result<Edit, ImportFault>
+    ensures { Means (λ edit. edit) result (edit_of marks.now change.now) }
+{
+    match change {
+        Change::Modify {
+            line,
+            mode,
+            dataref,
+            path,
+        } => set_file(alloc, marks, *line, *mode, dataref, path.as_slice()),
+        Change::Delete { line, path } => {
+            let path = path_at(alloc, *line, path.as_slice())?;
+            Ok(Edit::Remove { path })
+        }
+        Change::DeleteAll { .. } => Ok(Edit::Clear),
+    }
+}
+
+/// The edit that sets a file. Its content is looked at before its path.
+fn set_file(
+    alloc: Global,
+    marks: &Marks,
+    line: u64,
+    mode: Mode,
+    dataref: &DataRef,
+    path: &[u8],
+) -> Result<Edit, ImportFault>
+    ensures { Means (λ edit. edit) result (edit_of marks.now (Modify line mode dataref.now path.now)) }
+{
+    let oid = content_named(marks, line, mode, dataref)?;
+    let path = path_at(alloc, line, path)?;
+    Ok(Edit::Set { path, mode, oid })
+}
+
+/// The path that a text writes, in a change of this line.
+#[tactic(auto, unfolding(bf_history::specs::Meanings::path_at))]
+fn path_at(alloc: Global, line: u64, text: &[u8]) -> Result<Path, ImportFault>
+    ensures { Means (λ path. path) result (path_at line text.now) }
+{
+    match read_path(alloc, text) {
+        Ok(path) => Ok(path),
+        Err(PathFault::Bad) => Err(ImportFault::BadPath { line }),
+        Err(PathFault::NoMemory) => Err(ImportFault::NoMemory),
+    }
+}
+
+/// The name of the content of a file, in a change of this line. That of a submodule has to be written
+/// out.
+#[tactic(auto, unfolding(bf_history::specs::Meanings::content_named))]
+fn content_named(
+    marks: &Marks,
+    line: u64,
+    mode: Mode,
+    dataref: &DataRef,
+) -> Result<Oid, ImportFault>
+    ensures { result ≡ content_named marks.now line mode dataref.now }
+{
+    match dataref {
+        DataRef::Name(name) => Ok(*name),
+        _ if is_module(mode) => Err(ImportFault::BadMark { line }),
+        DataRef::Mark(number) => blob_marked(line, marks.get(*number)),
+        DataRef::Inline(content) => Ok(object_name(Kind::Blob, content.as_slice())),
+    }
+}
+
+fn is_module(mode: Mode) -> bool
+    ensures { result ≡ is_module mode }
+{
+    mode == Mode::Module
+}
+
+/// The name of the blob that a mark stands for.
+fn blob_marked(line: u64, marked: Option<Marked>) -> Result<Oid, ImportFault>
+    ensures { result ≡ blob_marked line marked }
+{
+    match marked {
+        Some(Marked::Blob(name)) => Ok(name),
+        _ => Err(ImportFault::BadMark { line }),
+    }
+}
