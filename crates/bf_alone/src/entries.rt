@@ -32,6 +32,13 @@ impl Entries {
         }
     }
 
+    /// The vector of the entries, which is handed over as it is.
+    pub fn into_vec(self) -> Vec<Entry>
+        ensures { result.items ≡ self }
+    {
+        self.items
+    }
+
     /// The entries as a slice.
     pub fn as_slice(&self) -> &[Entry]
         ensures { result.now ≡ self.now }
