@@ -43,7 +43,7 @@ IsIndexed-insert index next trees key value u h =
     let P : Option ℕ → Type 0 = λ o. IsSome o in
     subst P (sym (u.0 q)) (some_or (is_at (nat_cmp key) q) value (get nat_cmp index q) (h number l))
 
-files_at-front : (trees more : List Files) (number : ℕ) → number < length trees → files_at (trees ++ more) number ≡ files_at trees number
+pub files_at-front : (trees more : List Files) (number : ℕ) → number < length trees → files_at (trees ++ more) number ≡ files_at trees number
 files_at-front [] more number l = absurd (omega arith)
 files_at-front (tree ∷ trees) more zero l = refl
 files_at-front (tree ∷ trees) more (suc number) l = files_at-front trees more number (omega arith)

@@ -1,6 +1,17 @@
+pub mod Applied
+pub mod Changed
+pub mod Copied
+pub mod Entered
 pub mod Indexed
 pub mod Joining
+pub mod Keys
+pub mod Listed
 pub mod Loops
 pub mod Making
+pub mod Members
+pub mod Named
 pub mod Ordered
+pub mod Pooled
 pub mod Sameness
+pub mod Settling
+pub mod Slotted

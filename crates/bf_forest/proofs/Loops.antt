@@ -15,7 +15,7 @@ take_next xs i x h e = take_more xs i x h ∙ ap (λ y. take i xs ++ y ∷ []) (
 one_of : {X Y : Type 0} (h : X → Option Y) (x : X) (o : Option Y) → h x ≡ o → filter_map h (x ∷ []) ≡ cons_option o []
 one_of h x o e = ap (λ v. cons_option v []) e
 
-filter_map-append : {X Y : Type 0} (h : X → Option Y) (xs ys : List X) → filter_map h (xs ++ ys) ≡ filter_map h xs ++ filter_map h ys
+pub filter_map-append : {X Y : Type 0} (h : X → Option Y) (xs ys : List X) → filter_map h (xs ++ ys) ≡ filter_map h xs ++ filter_map h ys
 filter_map-append h [] ys = refl
 filter_map-append h (x ∷ xs) ys =
     elim (h x) as (λ o. cons_option o (filter_map h (xs ++ ys)) ≡ cons_option o (filter_map h xs) ++ filter_map h ys) [

@@ -21,32 +21,32 @@ use Rattle.bf_forest.proofs.Sameness.{same_name}
 
 -- ---- the order of texts
 
-less : (o : Ordering) → is_lt o ≡ true → o ≡ Less
+pub less : (o : Ordering) → is_lt o ≡ true → o ≡ Less
 less Less h = refl
 less Equal h = absurd (false≢true h)
 less Greater h = absurd (false≢true h)
 
-is_before-trans : (a b c : List (List ℕ)) → is_before a b ≡ true → is_before b c ≡ true → is_before a c ≡ true
+pub is_before-trans : (a b c : List (List ℕ)) → is_before a b ≡ true → is_before b c ≡ true → is_before a c ≡ true
 is_before-trans a b c p q =
     ap is_lt (nat_list_cmp_total.trans (path_text a) (path_text b) (path_text c) (less _ p) (less _ q))
 
 -- a path does not come before itself
-not_before : (a : List (List ℕ)) → is_before a a ≡ true → ⊥
+pub not_before : (a : List (List ℕ)) → is_before a a ≡ true → ⊥
 not_before a p =
     let back = nat_list_cmp_total.antisymm (path_text a) (path_text a) in
     let first = less _ p in
     let turned : Less ≡ ordering_reverse Less = sym first ∙ back ∙ ap ordering_reverse first in
     cc
 
-and_swap : (x y : Bool) → (x && y) ≡ true → (y && x) ≡ true
+pub and_swap : (x y : Bool) → (x && y) ≡ true → (y && x) ≡ true
 and_swap x y h = and_from y x (and_parts x y h).1 (and_parts x y h).0
 
-are_apart-swap : (a b : List (List ℕ)) → are_apart a b ≡ true → are_apart b a ≡ true
+pub are_apart-swap : (a b : List (List ℕ)) → are_apart a b ≡ true → are_apart b a ≡ true
 are_apart-swap a b h = and_swap (not (leads_to a b)) (not (leads_to b a)) h
 
 -- ---- filters
 
-list_all-filter : {X : Type 0} (p q : X → Bool) (xs : List X) → list_all p xs ≡ true → list_all p (filter q xs) ≡ true
+pub list_all-filter : {X : Type 0} (p q : X → Bool) (xs : List X) → list_all p xs ≡ true → list_all p (filter q xs) ≡ true
 list_all-filter p q [] h = refl
 list_all-filter p q (x ∷ xs) h =
     let more = list_all-filter p q xs (and_parts _ _ h).1 in
@@ -67,7 +67,7 @@ list_all-passed p q h (x ∷ xs) =
     ] in
     by (q x) refl
 
-is_tree-filter : (q : FileEntry → Bool) (files : Files) → is_tree files ≡ true → is_tree (filter q files) ≡ true
+pub is_tree-filter : (q : FileEntry → Bool) (files : Files) → is_tree files ≡ true → is_tree (filter q files) ≡ true
 unfolding is_tree
 is_tree-filter q [] h = refl
 is_tree-filter q (file ∷ files) h =
@@ -80,14 +80,14 @@ is_tree-filter q (file ∷ files) h =
 -- ---- two lists, one behind the other
 
 -- each of the first comes before each of the second
-abbrev all_before : Files → Files → Bool
+abbrev pub all_before : Files → Files → Bool
 all_before xs ys = list_all (λ x. list_all (comes_before x) ys) xs
 
 list_all-append : {X : Type 0} (p : X → Bool) (xs ys : List X) → list_all p xs ≡ true → list_all p ys ≡ true → list_all p (xs ++ ys) ≡ true
 list_all-append p [] ys h k = k
 list_all-append p (x ∷ xs) ys h k = and_from _ _ (and_parts _ _ h).0 (list_all-append p xs ys (and_parts _ _ h).1 k)
 
-is_tree-append : (xs ys : Files) → is_tree xs ≡ true → is_tree ys ≡ true → all_before xs ys ≡ true → is_tree (xs ++ ys) ≡ true
+pub is_tree-append : (xs ys : Files) → is_tree xs ≡ true → is_tree ys ≡ true → all_before xs ys ≡ true → is_tree (xs ++ ys) ≡ true
 unfolding is_tree
 is_tree-append [] ys h k b = k
 is_tree-append (x ∷ xs) ys h k b =
@@ -147,7 +147,7 @@ sides path (file ∷ files) h =
     ] in
     by (is_in_part Before path file) (is_in_part Behind path file) refl refl
 
-is_tree-set : (path : List (List ℕ)) (mode : Mode) (oid : Oid) (files : Files) → is_tree files ≡ true → is_tree (set_file path mode oid files) ≡ true
+pub is_tree-set : (path : List (List ℕ)) (mode : Mode) (oid : Oid) (files : Files) → is_tree files ≡ true → is_tree (set_file path mode oid files) ≡ true
 unfolding is_tree
 is_tree-set path mode oid files h =
     let new : FileEntry = record { path = path; mode = mode; oid = oid } in
@@ -177,22 +177,22 @@ is_tree-edited files edits h = is_tree-fold edits files h
 
 -- ---- the files of a directory
 
-is_same-refl : (a : List ℕ) → is_same a a ≡ true
+pub is_same-refl : (a : List ℕ) → is_same a a ≡ true
 is_same-refl [] = refl
 is_same-refl (x ∷ xs) = and_from _ _ (eq-eqb x x refl) (is_same-refl xs)
 
-nat_cmp-same : (x : ℕ) → nat_cmp x x ≡ Equal
+pub nat_cmp-same : (x : ℕ) → nat_cmp x x ≡ Equal
 nat_cmp-same x = sym (nat_cmp_is x x Equal refl)
 
-cmp-front : (front a b : List ℕ) → slice_cmp nat_cmp (front ++ a) (front ++ b) ≡ slice_cmp nat_cmp a b
+pub cmp-front : (front a b : List ℕ) → slice_cmp nat_cmp (front ++ a) (front ++ b) ≡ slice_cmp nat_cmp a b
 cmp-front [] a b = refl
 cmp-front (x ∷ front) a b = ap (λ o. ordering_then o (slice_cmp nat_cmp (front ++ a) (front ++ b))) (nat_cmp-same x) ∙ cmp-front front a b
 
 -- behind one component both stand in the same order
-before-behind : (name x y : List ℕ) (xs ys : List (List ℕ)) → is_before (name ∷ x ∷ xs) (name ∷ y ∷ ys) ≡ is_before (x ∷ xs) (y ∷ ys)
+pub before-behind : (name x y : List ℕ) (xs ys : List (List ℕ)) → is_before (name ∷ x ∷ xs) (name ∷ y ∷ ys) ≡ is_before (x ∷ xs) (y ∷ ys)
 before-behind name x y xs ys = ap is_lt (cmp-front name (47 ∷ path_text (x ∷ xs)) (47 ∷ path_text (y ∷ ys)))
 
-leads-behind : (name : List ℕ) (xs ys : List (List ℕ)) → leads_to (name ∷ xs) (name ∷ ys) ≡ leads_to xs ys
+pub leads-behind : (name : List ℕ) (xs ys : List (List ℕ)) → leads_to (name ∷ xs) (name ∷ ys) ≡ leads_to xs ys
 leads-behind name xs ys = ap (λ b. b && leads_to xs ys) (is_same-refl name)
 
 comes-behind : (name x y : List ℕ) (xs ys : List (List ℕ)) → (is_before (name ∷ x ∷ xs) (name ∷ y ∷ ys) && are_apart (name ∷ x ∷ xs) (name ∷ y ∷ ys)) ≡ true

@@ -1,12 +1,16 @@
 -- Files that are the same by their parts are equal.
 use Rattle.std.proofs.Common.{◌≡◌, ℕ, ◌+◌, ◌<◌, true, ◌&&◌, List, [], ◌∷◌, length, drop, get_or, refl, sym, ap, ◌∙◌}
 use Rattle.std.specs.Cmp.Lexicographic.{pointwise}
-use Rattle.std.proofs.lemmas.Bool.{false≢true, and_parts}
+use Rattle.std.proofs.lemmas.Bool.{false≢true, and_parts, eqb-true}
 use Rattle.std.proofs.lemmas.Slice.Eq.{bytes_eq-Decides}
 use Rattle.std.proofs.lemmas.List.{at_drop_more}
 use Rattle.bf_grammar.specs.declared.object.Mode.{Mode}
 use Rattle.bf_grammar.specs.declared.object.Mode.TheVariants.{Plain, Exec, Link, Module}
 use Rattle.bf_forest.specs.declared.entries.FileEntry.{FileEntry}
+use Rattle.bf_forest.specs.declared.nodes.Entry.{Entry}
+use Rattle.bf_forest.specs.declared.nodes.EntryKind.{EntryKind}
+use Rattle.bf_forest.specs.declared.nodes.EntryKind.TheVariants as kind
+use Rattle.bf_forest.specs.Nodes.{is_same_kind, is_same_entry, are_same_entries}
 use Rattle.bf_forest.specs.Files.{Files, is_same}
 use Rattle.bf_forest.specs.Trees.{mode_text, is_same_file, are_same}
 
@@ -31,7 +35,7 @@ same_mode Module Module h = refl
 pub same_name : (a b : List ℕ) → is_same a b ≡ true → a ≡ b
 same_name a b h = (bytes_eq-Decides a b).0 h
 
-same_path : (a b : List (List ℕ)) → pointwise is_same a b ≡ true → a ≡ b
+pub same_path : (a b : List (List ℕ)) → pointwise is_same a b ≡ true → a ≡ b
 same_path [] [] h = refl
 same_path [] (y ∷ ys) h = absurd (false≢true h)
 same_path (x ∷ xs) [] h = absurd (false≢true h)
@@ -40,7 +44,7 @@ same_path (x ∷ xs) (y ∷ ys) h =
     let rest = same_path xs ys (and_parts _ _ h).1 in
     ap (λ n. n ∷ xs) first ∙ ap (λ ns. y ∷ ns) rest
 
-same_file : (a b : FileEntry) → is_same_file a b ≡ true → a ≡ b
+pub same_file : (a b : FileEntry) → is_same_file a b ≡ true → a ≡ b
 same_file a b h =
     let path = same_path a.path b.path (and_parts _ _ (and_parts _ _ h).0).0 in
     let mode = same_mode a.mode b.mode (and_parts _ _ (and_parts _ _ h).0).1 in
@@ -66,3 +70,29 @@ are_same_at a b i x y k l p q =
     ∙ at_drop_more (λ ys. are_same (get_or a i x ∷ drop (i + 1) a) ys) b i y l
     ∙ ap (λ v. is_same_file v (get_or b i y) && are_same (drop (i + 1) a) (drop (i + 1) b)) (sym p)
     ∙ ap (λ v. is_same_file x v && are_same (drop (i + 1) a) (drop (i + 1) b)) (sym q)
+
+-- ---- entries
+
+same_kind : (a b : EntryKind) → is_same_kind a b ≡ true → a ≡ b
+same_kind (kind.File mode oid) (kind.File other_mode other_oid) h =
+    let modes = same_mode mode other_mode (and_parts _ _ h).0 in
+    let oids = same_name oid.0 other_oid.0 (and_parts (is_same (mode_text mode) (mode_text other_mode)) _ h).1 in
+    λ i. kind.File (modes i) (record { 0 = oids i })
+same_kind (kind.File mode oid) (kind.Directory other) h = absurd (false≢true h)
+same_kind (kind.Directory number) (kind.File mode oid) h = absurd (false≢true h)
+same_kind (kind.Directory number) (kind.Directory other) h = ap kind.Directory (eqb-true number other h)
+
+same_entry : (a b : Entry) → is_same_entry a b ≡ true → a ≡ b
+same_entry a b h =
+    let keys = same_name a.key b.key (and_parts _ _ h).0 in
+    let kinds = same_kind a.kind b.kind (and_parts (is_same a.key b.key) _ h).1 in
+    λ i. record { key = keys i; kind = kinds i }
+
+pub same_entries : (a b : List Entry) → are_same_entries a b ≡ true → a ≡ b
+same_entries [] [] h = refl
+same_entries [] (y ∷ ys) h = absurd (false≢true h)
+same_entries (x ∷ xs) [] h = absurd (false≢true h)
+same_entries (x ∷ xs) (y ∷ ys) h =
+    let first = same_entry x y (and_parts _ _ h).0 in
+    let rest = same_entries xs ys (and_parts (is_same_entry x y) _ h).1 in
+    ap (λ f. f ∷ xs) first ∙ ap (λ fs. y ∷ fs) rest

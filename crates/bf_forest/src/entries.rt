@@ -1,11 +1,14 @@
 //! A file of a tree, and lists of files.
-ghost use Rattle.std.specs.Prelude.{◌≡◌, ◌↔◌, [], ◌∷◌, ◌++◌, length, take, IsTrue, IfOk, OnOk, OnErr};
-ghost use Rattle.std.specs.Cmp.Lexicographic.{pointwise};
+ghost use Rattle.std.specs.Prelude.{◌≡◌, [], ◌∷◌, ◌++◌, length, take, IsTrue, IfOk, OnOk};
+ghost use Rattle.bf_paths.specs.Components.{is_component};
+ghost use Rattle.bf_forest.specs.Listing.{beneath};
+ghost use Rattle.bf_forest.specs.Trees.{is_same_file, are_same};
 
+use crate::nodes::mode_text;
 use bf_grammar::{Mode, Oid};
+use bf_io::Bytes;
 use bf_paths::Path;
 use std::alloc::{AllocError, Global};
-use std::marker::Model;
 
 /// A file of a tree: where it stands, its mode, and the name of its content.
 #[derive(Debug, Drop)]
@@ -28,77 +31,76 @@ impl FileEntry {
     }
 }
 
-/// Files in order.
-#[derive(Debug, Drop)]
-pub(crate) struct Files {
+/// The path of what stands at a path in the directory with a name.
+fn path_beneath(alloc: Global, name: &[u8], path: &Path) -> Result<Path, AllocError>
+    requires { IsTrue (is_component name.now) }
+    ensures { IfOk result (λ whole. whole ≡ name.now ∷ path.now) }
+{
+    let mut components = Vec::new(alloc);
+    components.push(Bytes::from_slice(alloc, name)?)?;
+    for component in path.components() {
+        components.push(component.try_clone()?)?;
+    }
+    Ok(Path::from_components(alloc, components))
+}
+
+/// Adds the file with a name.
+pub(crate) fn add_file(
     alloc: Global,
-    items: Vec<FileEntry>,
+    files: &mut Vec<FileEntry>,
+    name: &[u8],
+    mode: Mode,
+    oid: Oid,
+) -> Result<(), AllocError>
+    requires { IsTrue (is_component name.now) }
+    ensures { OnOk result (files.new.items ≡ files.old.items ++ record { path = name.now ∷ []; mode = mode; oid = oid } ∷ []) }
+{
+    let mut components = Vec::new(alloc);
+    components.push(Bytes::from_slice(alloc, name)?)?;
+    let path = Path::from_components(alloc, components);
+    files.push(FileEntry { path, mode, oid })?;
+    Ok(())
 }
 
-impl Model for Files {
-    ghost use Rattle.std.specs.Prelude.{List};
-    ghost use Rattle.bf_forest.specs.declared.entries.FileEntry.{FileEntry};
-
-    ghost Value = { List FileEntry };
-
-    ghost view = { λ f. f.items.items };
+/// Adds the files of the directory with a name.
+pub(crate) fn add_beneath(
+    alloc: Global,
+    files: &mut Vec<FileEntry>,
+    name: &[u8],
+    inside: &[FileEntry],
+) -> Result<(), AllocError>
+    requires { IsTrue (is_component name.now) }
+    ensures { OnOk result (files.new.items ≡ files.old.items ++ beneath name.now inside.now) }
+{
+    for file in inside {
+        files.push(FileEntry {
+            path: path_beneath(alloc, name, &file.path)?,
+            mode: file.mode,
+            oid: file.oid,
+        })?;
+    }
+    Ok(())
 }
 
-impl Files {
-    /// No file. It takes no memory.
-    pub(crate) fn new(alloc: Global) -> Files
-        ensures { result ≡ [] }
-    {
-        Files {
-            alloc,
-            items: Vec::new(alloc),
+fn is_same_file(a: &FileEntry, b: &FileEntry) -> bool
+    ensures { result ≡ is_same_file a.now b.now }
+{
+    a.path.components() == b.path.components()
+        && mode_text(a.mode) == mode_text(b.mode)
+        && a.oid.0.as_slice() == b.oid.0.as_slice()
+}
+
+/// Whether two lists have the same files.
+pub(crate) fn are_same(a: &[FileEntry], b: &[FileEntry]) -> bool
+    ensures { result ≡ are_same a.now b.now }
+{
+    if a.len() != b.len() {
+        return false;
+    }
+    for i in 0..a.len() {
+        if !is_same_file(&a[i], &b[i]) {
+            return false;
         }
     }
-
-    pub(crate) fn allocator(&self) -> Global {
-        self.alloc
-    }
-
-    pub(crate) fn as_slice(&self) -> &[FileEntry]
-        ensures { result.now ≡ self.now }
-    {
-        self.items.as_slice()
-    }
-
-    pub(crate) fn is_empty(&self) -> bool
-        ensures { IsTrue result ↔ (self.now ≡ []) }
-    {
-        self.items.is_empty()
-    }
-
-    /// Adds a file at the end. After an error the files are as before.
-    pub(crate) fn push(&mut self, file: FileEntry) -> Result<(), AllocError>
-        ensures ok { OnOk result (self.new ≡ self.old ++ file ∷ []) }
-        ensures err { OnErr result (self.new ≡ self.old) }
-    {
-        self.items.push(file)?;
-        Ok(())
-    }
-
-    /// A copy of the files.
-    pub(crate) fn try_clone(&self) -> Result<Files, AllocError>
-        ensures { IfOk result (λ copy. copy ≡ self.now) }
-    {
-        let items = copy_files(self.alloc, self.items.as_slice())?;
-        Ok(Files {
-            alloc: self.alloc,
-            items,
-        })
-    }
-}
-
-/// Copies of files, in order.
-pub(crate) fn copy_files(alloc: Global, files: &[FileEntry]) -> Result<Vec<FileEntry>, AllocError>
-    ensures { IfOk result (λ copies. copies.items ≡ files.now) }
-{
-    let mut copies = Vec::new(alloc);
-    for file in files {
-        copies.push(file.try_clone()?)?;
-    }
-    Ok(copies)
+    true
 }

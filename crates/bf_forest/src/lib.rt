@@ -4,8 +4,9 @@
 
 mod edits;
 mod entries;
-mod listing;
+mod nodes;
 mod pool;
+mod slots;
 mod trees;
 
 pub use edits::Edit;

@@ -1,12 +1,20 @@
-//! The trees of a pool, each once, with their names.
-ghost use Rattle.std.specs.Prelude.{◌≡◌, ◌↔◌, ◌+◌, ◌<◌, ◌≤◌, true, false, [], ◌∷◌, ◌++◌, length, take, fold, IsTrue, IfOk, OnOk, OnErr, IfSome, IfNone};
-ghost use Rattle.std.specs.List.{list_any};
-ghost use Rattle.bf_forest.specs.Files.{is_tree};
+//! The trees of a pool, each once, with their names. A tree is kept as its entries, which name the trees
+//! of its directories by their numbers.
+ghost use Rattle.std.specs.Prelude.{◌≡◌, ◌↔◌, ◌+◌, ◌<◌, ◌≤◌, true, false, [], ◌∷◌, ◌++◌, length, take, fold, map, IsTrue, IfOk, OnOk, OnErr, IfSome, IfNone, MatchOption};
+ghost use Rattle.std.specs.List.{list_any, list_all, filter, flat_map};
+ghost use Rattle.bf_forest.specs.declared.edits.Edit.{Edit};
+ghost use Rattle.bf_forest.specs.declared.nodes.EntryKind.TheVariants as kind;
+ghost use Rattle.bf_forest.specs.Files.{is_tree, edited};
 ghost use Rattle.bf_forest.specs.Index.{key_of};
-ghost use Rattle.bf_forest.specs.Trees.{names, below, tree_name, directories, where_some, or_none, entry_with, is_same_file, are_same, with_tree, with_directories, entries_of, files_at};
+ghost use Rattle.bf_forest.specs.Listing.{is_listing, shown, beneath, name_in};
+ghost use Rattle.bf_forest.specs.Nodes.{kind_files, listed, files_in, has_some, is_filled, is_node, is_earlier, is_good, kind_bytes, IsSound, IsPosition, IsSettled};
+ghost use Rattle.bf_forest.specs.Slots.{base_files, slot_files, contents, slot_directories, is_base, is_based, is_slot, longest};
+ghost use Rattle.bf_forest.specs.Trees.{tree_name, directories, where_some, or_none, is_same_file, are_same, with_tree, with_directories, entries_of, files_at};
 
-use crate::entries::{FileEntry, Files};
-use crate::listing::{add_entry, add_files, below, mode_text, names};
+use crate::edits::Edit;
+use crate::entries::{FileEntry, add_beneath, add_file, are_same};
+use crate::nodes::{Entries, Entry, EntryKind, add_entry, are_same_entries, mode_text, name_in};
+use crate::slots::{Slot, Slots, edit_all, slots_of};
 use bf_grammar::{Kind, Oid};
 use bf_io::Bytes;
 use bf_oid::object_name;
@@ -16,11 +24,9 @@ use std::marker::Model;
 
 /// A tree with its name.
 #[derive(Debug, Drop)]
-struct Tree {
-    files: Files,
+pub(crate) struct Node {
+    entries: Entries,
     name: Oid,
-    ghost named: { name.0 ≡ tree_name files },
-    ghost ordered: { IsTrue (is_tree files) },
 }
 
 /// Trees by their numbers. The index has a number for the front of each tree's name: that of a tree
@@ -28,23 +34,24 @@ struct Tree {
 #[derive(Debug, Drop)]
 pub(crate) struct Trees {
     alloc: Global,
-    items: Vec<Tree>,
+    nodes: Vec<Node>,
     index: BTreeMap<u64, usize>,
     entries: u64,
 }
 
 impl Model for Trees {
-    ghost use Rattle.std.specs.Prelude.{◌≡◌, List, map};
+    ghost use Rattle.std.specs.Prelude.{◌≡◌, List, []};
     ghost use Rattle.bf_forest.specs.declared.entries.FileEntry.{FileEntry};
     ghost use Rattle.bf_forest.specs.Trees.{entries_of};
+    ghost use Rattle.bf_forest.specs.Nodes.{trees_from, AreNodes};
 
     ghost Value = { List (List FileEntry) };
 
-    ghost view = { λ t. map (λ tree. tree.files) t.items.items };
+    ghost view = { λ t. trees_from [] t.nodes.items };
 
     ghost use Rattle.bf_forest.specs.Index.{IsIndexed};
 
-    ghost invariant = { λ t. (t.entries ≡ entries_of (map (λ tree. tree.files) t.items.items)) × IsIndexed t.index (map (λ tree. tree.files) t.items.items) };
+    ghost invariant = { λ t. (t.entries ≡ entries_of (trees_from [] t.nodes.items)) × IsIndexed t.index (trees_from [] t.nodes.items) × AreNodes [] t.nodes.items };
 }
 
 /// The first eight bytes of a name.
@@ -56,28 +63,6 @@ fn key_of(name: Oid) -> u64
     u64::from_be_bytes([a, b, c, d, e, f, g, h])
 }
 
-fn is_same_file(a: &FileEntry, b: &FileEntry) -> bool
-    ensures { result ≡ is_same_file a.now b.now }
-{
-    a.path.components() == b.path.components()
-        && mode_text(a.mode) == mode_text(b.mode)
-        && a.oid.0.as_slice() == b.oid.0.as_slice()
-}
-
-fn are_same(a: &[FileEntry], b: &[FileEntry]) -> bool
-    ensures { result ≡ are_same a.now b.now }
-{
-    if a.len() != b.len() {
-        return false;
-    }
-    for i in 0..a.len() {
-        if !is_same_file(&a[i], &b[i]) {
-            return false;
-        }
-    }
-    true
-}
-
 impl Trees {
     /// No tree. It takes no memory.
     #[tactic(auto, unfolding(crate::specs::Trees::entries_of))]
@@ -86,7 +71,7 @@ impl Trees {
     {
         Trees {
             alloc,
-            items: Vec::new(alloc),
+            nodes: Vec::new(alloc),
             index: BTreeMap::new(alloc),
             entries: 0,
         }
@@ -96,7 +81,7 @@ impl Trees {
     pub(crate) fn len(&self) -> usize
         ensures { result ≡ length self.now }
     {
-        self.items.len()
+        self.nodes.len()
     }
 
     /// The entries of all trees together.
@@ -106,121 +91,287 @@ impl Trees {
         self.entries
     }
 
-    /// The files of a tree.
-    pub(crate) fn files(&self, number: usize) -> &Files
-        requires { number < length self.now }
-        ensures value { result.now ≡ files_at self.now number }
-        ensures tree { IsTrue (is_tree (files_at self.now number)) }
-    {
-        &self.items[number].files
-    }
-
     /// The name of a tree.
     pub(crate) fn name(&self, number: usize) -> Oid
         requires { number < length self.now }
         ensures { result.0 ≡ tree_name (files_at self.now number) }
     {
-        self.items[number].name
+        self.nodes[number].name
     }
 
-    /// The number of the tree with these files, which have this name, if there is one.
-    fn position(&self, files: &Files, name: Oid) -> Option<usize>
-        requires { name.0 ≡ tree_name files.now }
-        ensures some { IfSome result (λ number. list_any (λ tree. are_same tree files.now) self.now ≡ true) }
-        ensures number { IfSome result (λ number. number < length self.now) }
-        ensures files { IfSome result (λ number. files_at self.now number ≡ files.now) }
-        ensures none { IfNone result (list_any (λ tree. are_same tree files.now) self.now ≡ false) }
+    /// The entries of a tree.
+    fn node(&self, number: usize) -> &Entries
+        requires { number < length self.now }
+        ensures files { files_in self.now result.now ≡ files_at self.now number }
+        ensures node { IsTrue (is_node self.now result.now) }
+        ensures good { IsTrue (list_all (is_good number) result.now) }
     {
-        let number = *self.index.get(&key_of(name))?;
-        if self.is_at(number, files) {
-            return Some(number);
-        }
-        self.search(files)
+        &self.nodes[number].entries
     }
 
-    /// Whether the tree with a number has these files.
-    fn is_at(&self, number: usize, files: &Files) -> bool
-        ensures number { IsTrue result → number < length self.now }
-        ensures same { IsTrue result → are_same (files_at self.now number) files.now ≡ true }
+    /// Adds the files of an entry.
+    #[cycle(files)]
+    fn add_files(&self, files: &mut Vec<FileEntry>, entry: &Entry) -> Result<(), AllocError>
+        requires { IsTrue (is_good (length self.now) entry.now) }
+        ensures { OnOk result (files.new.items ≡ files.old.items ++ kind_files self.now entry.now.key entry.now.kind) }
     {
-        number < self.items.len() && are_same(self.items[number].files.as_slice(), files.as_slice())
-    }
-
-    /// The number of the tree with these files, if there is one, of all trees in order.
-    fn search(&self, files: &Files) -> Option<usize>
-        ensures some { IfSome result (λ number. list_any (λ tree. are_same tree files.now) self.now ≡ true) }
-        ensures number { IfSome result (λ number. number < length self.now) }
-        ensures files { IfSome result (λ number. files_at self.now number ≡ files.now) }
-        ensures none { IfNone result (list_any (λ tree. are_same tree files.now) self.now ≡ false) }
-    {
-        for (number, tree) in self.items.iter().enumerate() {
-            if are_same(tree.files.as_slice(), files.as_slice()) {
-                return Some(number);
+        let name = name_in(entry.key.as_slice());
+        match entry.kind {
+            EntryKind::File(mode, oid) => add_file(self.alloc, files, name, mode, oid),
+            EntryKind::Directory(number) => {
+                let inside = self.files(self.node(number))?;
+                add_beneath(self.alloc, files, name, inside.as_slice())
             }
         }
-        None
     }
 
-    /// Adds a tree where it is not there, and answers its number. After an error all is as before.
-    fn add(&mut self, files: &Files, count: usize, name: Oid) -> Result<usize, AllocError>
-        requires counted { count ≡ length (names files.now) }
+    /// The files of a directory with these entries.
+    #[cycle(files)]
+    pub(crate) fn files(&self, entries: &Entries) -> Result<Vec<FileEntry>, AllocError>
+        requires { IsTrue (list_all (is_good (length self.now)) entries.now) }
+        ensures { IfOk result (λ files. files.items ≡ files_in self.now entries.now) }
+    {
+        let mut files = Vec::new(self.alloc);
+        for entry in entries.as_slice() {
+            self.add_files(&mut files, entry)?;
+        }
+        Ok(files)
+    }
+
+    /// The files of a tree.
+    pub(crate) fn files_of(&self, number: usize) -> Result<Vec<FileEntry>, AllocError>
+        requires { number < length self.now }
+        ensures value { IfOk result (λ files. files.items ≡ files_at self.now number) }
+        ensures tree { IsTrue (is_tree (files_at self.now number)) }
+    {
+        self.files(self.node(number))
+    }
+
+    /// Adds an entry to the body of a tree.
+    fn add_body(&self, body: &mut Bytes, entry: &Entry) -> Result<(), AllocError>
+        requires { IsTrue (is_good (length self.now) entry.now) }
+        ensures { OnOk result (body.new ≡ body.old ++ kind_bytes self.now entry.now.key entry.now.kind) }
+    {
+        let name = name_in(entry.key.as_slice());
+        match entry.kind {
+            EntryKind::File(mode, oid) => add_entry(body, mode_text(mode), name, oid),
+            EntryKind::Directory(number) => add_entry(body, b"40000", name, self.name(number)),
+        }
+    }
+
+    /// The name of the tree with these entries.
+    fn name_of(&self, entries: &Entries) -> Result<Oid, AllocError>
+        requires { IsTrue (is_node self.now entries.now) }
+        ensures { IfOk result (λ name. name.0 ≡ tree_name (files_in self.now entries.now)) }
+    {
+        let mut body = Bytes::new(self.alloc);
+        for entry in entries.as_slice() {
+            self.add_body(&mut body, entry)?;
+        }
+        Ok(object_name(Kind::Tree, body.as_slice()))
+    }
+
+    /// Whether the tree with a number has these entries.
+    fn is_at(&self, number: usize, entries: &Entries) -> bool
+        ensures number { IsTrue result → number < length self.now }
+        ensures same { IsTrue result → files_at self.now number ≡ files_in self.now entries.now }
+    {
+        number < self.len() && are_same_entries(self.node(number).as_slice(), entries.as_slice())
+    }
+
+    /// Whether the tree with a number has these files, which have this name.
+    fn has_files(&self, number: usize, files: &[FileEntry], name: Oid) -> Result<bool, AllocError>
+        requires number { number < length self.now }
         requires named { name.0 ≡ tree_name files.now }
-        requires ordered { IsTrue (is_tree files.now) }
-        ensures ok { OnOk result (self.new ≡ with_tree self.old files.now) }
+        ensures { IfOk result (λ answer. answer ≡ are_same (files_at self.now number) files.now) }
+    {
+        if self.name(number).0.as_slice() != name.0.as_slice() {
+            return Ok(false);
+        }
+        let others = self.files_of(number)?;
+        Ok(are_same(others.as_slice(), files))
+    }
+
+    /// The number of the tree with these files, which have this name, if there is one, of all trees in order.
+    fn search(&self, files: &[FileEntry], name: Oid) -> Result<Option<usize>, AllocError>
+        requires { name.0 ≡ tree_name files.now }
+        ensures { IfOk result (IsPosition self.now files.now) }
+    {
+        for number in 0..self.len() {
+            if self.has_files(number, files, name)? {
+                return Ok(Some(number));
+            }
+        }
+        Ok(None)
+    }
+
+    /// The number of the tree with these entries, which have this name, if there is one.
+    fn position(&self, entries: &Entries, name: Oid) -> Result<Option<usize>, AllocError>
+        requires named { name.0 ≡ tree_name (files_in self.now entries.now) }
+        requires node { IsTrue (is_node self.now entries.now) }
+        ensures { IfOk result (IsPosition self.now (files_in self.now entries.now)) }
+    {
+        let Some(number) = self.index.get(&key_of(name)) else {
+            return Ok(None);
+        };
+        if self.is_at(*number, entries) {
+            return Ok(Some(*number));
+        }
+        let files = self.files(entries)?;
+        self.search(files.as_slice(), name)
+    }
+
+    /// Adds the tree with these entries where it is not there, and answers its number. After an error
+    /// all is as before.
+    pub(crate) fn add(&mut self, entries: Entries) -> Result<usize, AllocError>
+        requires { IsTrue (is_node self.old entries) }
+        ensures ok { OnOk result (self.new ≡ with_tree self.old (files_in self.old entries)) }
         ensures number { IfOk result (λ number. number < length self.new) }
-        ensures files { IfOk result (λ number. files_at self.new number ≡ files.now) }
+        ensures files { IfOk result (λ number. files_at self.new number ≡ files_in self.old entries) }
+        ensures kept { take (length self.old) self.new ≡ self.old }
         ensures err { OnErr result (self.new ≡ self.old) }
     {
-        if let Some(number) = self.position(files, name) {
+        let name = self.name_of(&entries)?;
+        if let Some(number) = self.position(&entries, name)? {
             return Ok(number);
         }
-        let number = self.items.len();
-        let entries = self.entries.checked_add(count as u64).ok_or(AllocError)?;
-        let files = files.try_clone()?;
+        let number = self.nodes.len();
+        let count = entries.as_slice().len();
+        let total = self.entries.checked_add(count as u64).ok_or(AllocError)?;
         self.index.insert(key_of(name), number)?;
-        self.items.push(Tree { files, name })?;
-        self.entries = entries;
+        self.nodes.push(Node { entries, name })?;
+        self.entries = total;
         Ok(number)
     }
 
-    /// Adds the entry with a name to the body of a tree, and the trees of the directory with this name.
-    #[cycle(join)]
-    fn join_entry(
-        &mut self,
-        body: &mut Bytes,
-        name: &Bytes,
-        files: &Files,
-    ) -> Result<(), AllocError>
-        requires { IsTrue (is_tree files.now) }
-        ensures body { OnOk result (body.new ≡ body.old ++ entry_with files.now name.now (where_some tree_name (below name.now files.now))) }
-        ensures ok { OnOk result (self.new ≡ fold with_tree self.old (or_none (where_some directories (below name.now files.now)))) }
-        ensures kept { take (length self.old) self.new ≡ self.old }
+    /// The entries of a tree, or of an empty directory, which are to be edited.
+    fn slots(&self, base: Option<usize>) -> Result<Slots, AllocError>
+        requires { IsTrue (is_base (length self.now) base) }
+        ensures listing { IfOk result (λ slots. IsTrue (is_listing (contents self.now slots.entries))) }
+        ensures files { IfOk result (λ slots. shown (contents self.now slots.entries) ≡ base_files self.now base) }
+        ensures bases { IfOk result (λ slots. IsTrue (list_all (λ slot. is_slot (length self.now) 1 slot.1) slots.entries)) }
+        ensures sound { IsSound self.now }
     {
-        let inside = below(name, files)?;
-        if inside.is_empty() {
-            return add_files(body, name, files.as_slice());
+        match base {
+            None => Ok(BTreeMap::new(self.alloc)),
+            Some(number) => slots_of(self.alloc, self.node(number).as_slice()),
         }
-        let number = self.join(&inside)?;
-        add_entry(body, b"40000", name.as_slice(), self.name(number))
     }
 
-    /// Adds the trees of all directories of these files, where they are not there, and answers the number
-    /// of their own tree. After an error some of these trees may have been added.
-    #[cycle(join)]
-    pub(crate) fn join(&mut self, files: &Files) -> Result<usize, AllocError>
-        requires { IsTrue (is_tree files.now) }
-        ensures ok { OnOk result (self.new ≡ with_directories self.old files.now) }
-        ensures number { IfOk result (λ number. number < length self.new) }
-        ensures files { IfOk result (λ number. files_at self.new number ≡ files.now) }
+    /// The entries of a tree, or of an empty directory, after edits.
+    fn slots_after(&self, base: Option<usize>, edits: &[Edit]) -> Result<Slots, AllocError>
+        requires base { IsTrue (is_base (length self.now) base) }
+        requires some { 0 < length edits.now }
+        ensures listing { IfOk result (λ slots. IsTrue (is_listing (contents self.now slots.entries))) }
+        ensures files { IfOk result (λ slots. shown (contents self.now slots.entries) ≡ edited (base_files self.now base) edits.now) }
+        ensures bases { IfOk result (λ slots. IsTrue (list_all (λ slot. is_slot (length self.now) (longest edits.now) slot.1) slots.entries)) }
+        ensures sound { IfOk result (λ _. IsSound self.now) }
+    {
+        let mut slots = self.slots(base)?;
+        edit_all(&mut slots, edits)?;
+        Ok(slots)
+    }
+
+    /// A number, where its tree has files.
+    fn filled(&self, base: Option<usize>) -> Option<usize>
+        requires { IsTrue (is_base (length self.now) base) }
+        ensures number { IsSettled self.now (base_files self.now base) result }
+        ensures joined { fold with_tree self.now (or_none (where_some directories (base_files self.now base))) ≡ self.now }
+    {
+        let Some(number) = base else {
+            return None;
+        };
+        if self.nodes[number].entries.is_empty() {
+            return None;
+        }
+        Some(number)
+    }
+
+    /// The number of the tree of a directory after edits, if it then has files. It joins, with the trees
+    /// of its directories.
+    #[cycle(settle)]
+    fn settled(&mut self, base: Option<usize>, edits: &[Edit]) -> Result<Option<usize>, AllocError>
+        requires { IsTrue (is_base (length self.old) base) }
+        ensures ok { OnOk result (self.new ≡ fold with_tree self.old (or_none (where_some directories (edited (base_files self.old base) edits.now)))) }
+        ensures number { IfOk result (IsSettled self.new (edited (base_files self.old base) edits.now)) }
         ensures kept { take (length self.old) self.new ≡ self.old }
     {
-        let names = names(self.alloc, files.as_slice())?;
-        let mut body = Bytes::new(self.alloc);
-        for name in &names {
-            self.join_entry(&mut body, name, files)?;
+        if edits.is_empty() {
+            return Ok(self.filled(base));
         }
-        let name = object_name(Kind::Tree, body.as_slice());
-        self.add(files, names.len(), name)
+        let slots = self.slots_after(base, edits)?;
+        let entries = self.settle_all(slots)?;
+        if entries.is_empty() {
+            return Ok(None);
+        }
+        Ok(Some(self.add(entries)?))
+    }
+
+    /// Adds the entry at a key, if it stands for files. The trees of its directories join.
+    #[cycle(settle)]
+    fn settle(&mut self, entries: &mut Entries, key: Bytes, slot: Slot) -> Result<(), AllocError>
+        requires base { IsTrue (is_based (length self.old) slot) }
+        requires earlier { IsTrue (list_all (is_earlier (length self.old)) entries.old) }
+        ensures ok { OnOk result (self.new ≡ fold with_tree self.old (slot_directories self.old slot)) }
+        ensures entries { OnOk result (listed self.new entries.new ≡ listed self.old entries.old ++ filter is_filled ((key, slot_files self.old key slot) ∷ [])) }
+        ensures earlier { OnOk result (IsTrue (list_all (is_earlier (length self.new)) entries.new)) }
+        ensures kept { take (length self.old) self.new ≡ self.old }
+    {
+        match slot {
+            Slot::File(mode, oid) => entries.push(Entry {
+                key,
+                kind: EntryKind::File(mode, oid),
+            }),
+            Slot::Directory(base, pending) => match self.settled(base, pending.as_slice())? {
+                Some(number) => entries.push(Entry {
+                    key,
+                    kind: EntryKind::Directory(number),
+                }),
+                None => Ok(()),
+            },
+        }
+    }
+
+    /// The entries of a directory that was edited. The trees of its directories join.
+    #[cycle(settle)]
+    fn settle_all(&mut self, slots: Slots) -> Result<Entries, AllocError>
+        requires { IsTrue (list_all (λ slot. is_based (length self.old) slot.1) slots.entries) }
+        ensures ok { OnOk result (self.new ≡ fold with_tree self.old (flat_map (λ slot. slot_directories self.old slot.1) slots.entries)) }
+        ensures entries { IfOk result (λ entries. listed self.new entries ≡ filter is_filled (contents self.old slots.entries)) }
+        ensures kept { take (length self.old) self.new ≡ self.old }
+    {
+        let mut entries = Entries::new(self.alloc);
+        for (key, slot) in slots {
+            self.settle(&mut entries, key, slot)?;
+        }
+        Ok(entries)
+    }
+
+    /// The number of the tree after edits. It joins, with the trees of its directories. After an error
+    /// some of these trees may have been added.
+    pub(crate) fn join(&mut self, tree: usize, edits: &[Edit]) -> Result<usize, AllocError>
+        requires { tree < length self.old }
+        ensures ok { OnOk result (self.new ≡ with_directories self.old (edited (files_at self.old tree) edits.now)) }
+        ensures number { IfOk result (λ number. number < length self.new) }
+        ensures files { IfOk result (λ number. files_at self.new number ≡ edited (files_at self.old tree) edits.now) }
+        ensures kept { take (length self.old) self.new ≡ self.old }
+    {
+        if edits.is_empty() {
+            return Ok(self.unchanged(tree));
+        }
+        let slots = self.slots_after(Some(tree), edits)?;
+        let entries = self.settle_all(slots)?;
+        self.add(entries)
+    }
+
+    /// The number of a tree. All its directories are there.
+    fn unchanged(&self, tree: usize) -> usize
+        requires { tree < length self.now }
+        ensures joined { with_directories self.now (files_at self.now tree) ≡ self.now }
+        ensures number { result ≡ tree }
+    {
+        let _ = &self.nodes;
+        tree
     }
 
     /// Leaves the first trees, whose entries are given.
@@ -228,7 +379,7 @@ impl Trees {
         requires { entries ≡ entries_of (take count self.old) }
         ensures { self.new ≡ take count self.old }
     {
-        self.items.truncate(count);
+        self.nodes.truncate(count);
         self.entries = entries;
     }
 }

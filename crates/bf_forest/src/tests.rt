@@ -103,21 +103,35 @@ fn modes_are_those_of_git(rt: HostRuntime) -> Result<(), Fail> {
     let mut forest = Forest::new(rt.alloc(), 100)?;
     let empty = object_name(Kind::Blob, b"");
     let module = oid_from_hex(b"1111111111111111111111111111111111111111").unwrap_or(empty);
-    let files: [(&[u8], Mode, Oid); 4] = [
-        (
-            b"hello.txt",
-            Mode::Plain,
-            object_name(Kind::Blob, b"hello\n"),
-        ),
+    let hello = object_name(Kind::Blob, b"hello\n");
+    let start: [(&[u8], Mode, Oid); 3] = [
+        (b"hello.txt", Mode::Plain, hello),
         (b"\"tools/b\\303\\244r.sh\"", Mode::Exec, empty),
         (b"lib/ext", Mode::Module, module),
-        (b"link", Mode::Link, empty),
     ];
-    let edits = sets(rt.alloc(), &files)?;
-    let tree = forest.apply(0, edits.as_slice())?;
+    let edits = sets(rt.alloc(), &start)?;
+    let init = forest.apply(0, edits.as_slice())?;
     assert_eq!(rt;
-        hex(forest.name(tree)).as_slice(),
+        hex(forest.name(init)).as_slice(),
+        b"18b0f3ea1c000c8f67230a3eef19fc4a30ff98d4".as_slice()
+    );
+    let edits = vec![in rt.alloc(); edit(rt.alloc(), b"hello.txt", None)?]?;
+    let topic = forest.apply(init, edits.as_slice())?;
+    assert_eq!(rt;
+        hex(forest.name(topic)).as_slice(),
+        b"8f74371771cbb67d005cd61b80db3899787a79e9".as_slice()
+    );
+    let link: [(&[u8], Mode, Oid); 1] = [(b"link", Mode::Link, empty)];
+    let edits = sets(rt.alloc(), &link)?;
+    let work = forest.apply(init, edits.as_slice())?;
+    assert_eq!(rt;
+        hex(forest.name(work)).as_slice(),
         b"65709010445ee8275c519b73e4d83ae7e56c7f94".as_slice()
+    );
+    let merge = forest.apply(topic, edits.as_slice())?;
+    assert_eq!(rt;
+        hex(forest.name(merge)).as_slice(),
+        b"74751b966f3c806accf910b32fc7c36d55631d6f".as_slice()
     );
     Ok(())
 }

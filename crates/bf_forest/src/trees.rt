@@ -4,8 +4,9 @@ ghost use Rattle.bf_forest.specs.declared.trees.ForestFault.TheVariants as fault
 ghost use Rattle.bf_forest.specs.Files.{edited, is_tree};
 ghost use Rattle.bf_forest.specs.Trees.{tree_name, with_directories, entries_of, files_at};
 
-use crate::edits::{Edit, edited};
-use crate::entries::{FileEntry, Files, copy_files};
+use crate::edits::Edit;
+use crate::entries::FileEntry;
+use crate::nodes::Entries;
 use crate::pool::Trees;
 use bf_grammar::Oid;
 use std::alloc::{AllocError, AllocFailed, Global};
@@ -61,7 +62,7 @@ impl Forest {
         ensures { IfOk result (λ forest. forest ≡ record { trees = [] ∷ []; limit = limit }) }
     {
         let mut trees = Trees::new(alloc);
-        trees.join(&Files::new(alloc))?;
+        trees.add(Entries::new(alloc))?;
         Ok(Forest { trees, limit })
     }
 
@@ -81,10 +82,9 @@ impl Forest {
             → self.old.limit < entries_of (with_directories self.old.trees (edited (files_at self.old.trees tree) edits.now)) }
         ensures err { OnErr result (self.new ≡ self.old) }
     {
-        let files = edited(self.trees.files(tree as usize), edits)?;
         let count = self.trees.len();
         let entries = self.trees.entries();
-        let answer = joined(&mut self.trees, self.limit, &files);
+        let answer = joined(&mut self.trees, self.limit, tree, edits);
         if answer.is_err() {
             self.trees.truncate(count, entries);
         }
@@ -105,22 +105,22 @@ impl Forest {
         ensures value { IfOk result (λ files. files.items ≡ files_at self.now.trees tree) }
         ensures ordered { IfOk result (λ files. IsTrue (is_tree files.items)) }
     {
-        let files = self.trees.files(tree as usize);
-        copy_files(files.allocator(), files.as_slice())
+        self.trees.files_of(tree as usize)
     }
 }
 
-/// Adds the tree of these files, and answers its number. After a refusal some trees may have been added.
-fn joined(trees: &mut Trees, limit: u32, files: &Files) -> Result<u32, ForestFault>
-    requires { IsTrue (is_tree files.now) }
-    ensures pool { OnOk result (trees.new ≡ with_directories trees.old files.now) }
+/// Adds the tree after edits, and answers its number. After a refusal some trees may have been added.
+fn joined(trees: &mut Trees, limit: u32, tree: u32, edits: &[Edit]) -> Result<u32, ForestFault>
+    requires { tree < length trees.old }
+    ensures pool { OnOk result (trees.new ≡ with_directories trees.old (edited (files_at trees.old tree) edits.now)) }
     ensures number { IfOk result (λ number. number < length trees.new) }
-    ensures files { IfOk result (λ number. files_at trees.new number ≡ files.now) }
+    ensures files { IfOk result (λ number. files_at trees.new number ≡ edited (files_at trees.old tree) edits.now) }
     ensures within { OnOk result (entries_of trees.new ≤ limit) }
-    ensures too_many { IsErrOf result ForestFault.TooMany → limit < entries_of (with_directories trees.old files.now) }
+    ensures too_many { IsErrOf result ForestFault.TooMany
+        → limit < entries_of (with_directories trees.old (edited (files_at trees.old tree) edits.now)) }
     ensures kept { take (length trees.old) trees.new ≡ trees.old }
 {
-    let number = trees.join(files)?;
+    let number = trees.join(tree as usize, edits)?;
     if trees.entries() > u64::from(limit) {
         return Err(ForestFault::TooMany);
     }

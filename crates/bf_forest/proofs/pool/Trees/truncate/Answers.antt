@@ -1,21 +1,26 @@
-use Rattle.std.proofs.Common.{◌≡◌, List, map, take, sym, ap, ◌∙◌, subst}
-use Rattle.std.proofs.lemmas.List.{take-map}
-use Rattle.bf_forest.specs.declared.pool.Tree.{Tree}
+use Rattle.std.proofs.Common.{◌≡◌, List, [], take, sym, ap, ◌∙◌, subst}
 use Rattle.bf_forest.specs.Files.{Files}
-use Rattle.bf_forest.specs.Trees.{entries_of}
 use Rattle.bf_forest.specs.Index.{IsIndexed}
+use Rattle.bf_forest.specs.Nodes.{trees_from, AreNodes}
+use Rattle.bf_forest.specs.declared.pool.Node.{Node}
+use Rattle.bf_forest.specs.Trees.{entries_of}
 use Rattle.bf_forest.proofs.Indexed.{IsIndexed-take}
+use Rattle.bf_forest.proofs.Pooled.{trees-take, nodes-take}
 use Rattle.bf_forest.proofs.pool.Trees.truncate.Goals as goal
 
 pub invariant_of-self : goal.invariant_of-self
 invariant_of-self c =
-    let files_of : Tree → Files = λ tree. tree.files in
-    let left : take c.args.count c.args.self.now ≡ map files_of c.truncate.new.self.items =
-    ap (take c.args.count) (sym c.self.view_is) ∙ take-map files_of c.args.count c.self.inside.items.items ∙ ap (map files_of) (sym c.truncate.ensures.items) in
-    let P : List Files → Type 0 = IsIndexed c.self.inside.index in
-    (c.requires ∙ ap entries_of left, subst P left (IsIndexed-take c.self.inside.index c.args.self.now c.args.count (subst P c.self.view_is c.self.invariant.1)))
+    let nodes = c.self.inside.nodes.items in
+    let count = c.args.count in
+    let left : trees_from [] c.truncate.new.self.items ≡ take count (trees_from [] nodes) =
+    ap (trees_from []) c.truncate.ensures.items ∙ sym (trees-take nodes count) in
+    let P : List Files → Type 0 = λ trees. IsIndexed c.self.inside.index trees in
+    let Q : List Node → Type 0 = λ list. AreNodes [] list in (
+      c.requires ∙ ap (λ trees. entries_of (take count trees)) (sym c.self.view_is) ∙ ap entries_of (sym left),
+      subst P (sym left) (IsIndexed-take c.self.inside.index (trees_from [] nodes) count c.self.invariant.1),
+      subst Q (sym c.truncate.ensures.items) (nodes-take [] nodes count c.self.invariant.2),
+    )
 
 pub returns : goal.returns
 returns c =
-    let files_of : Tree → Files = λ tree. tree.files in
-    ap (map files_of) c.truncate.ensures.items ∙ sym (take-map files_of c.args.count c.self.inside.items.items) ∙ ap (take c.args.count) c.self.view_is
+    ap (trees_from []) c.truncate.ensures.items ∙ sym (trees-take c.self.inside.nodes.items c.args.count) ∙ ap (take c.args.count) c.self.view_is

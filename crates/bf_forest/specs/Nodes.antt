@@ -1,0 +1,108 @@
+-- Trees as entries that name other trees by their numbers: a directory inside is a tree with a smaller number.
+use Rattle.std.specs.Prelude.{◌≡◌, ℕ, suc, max, Bool, true, false, ◌==◌, ◌&&◌, nat_lt, ◌<◌, List, [], ◌∷◌, ◌++◌, map, length, codes, Option, Some, None}
+use Rattle.std.specs.Cmp.Lexicographic.{pointwise}
+use Rattle.std.specs.List.{list_all, flat_map, list_any}
+use Rattle.bf_paths.specs.Components.{is_component, is_path}
+use Rattle.bf_forest.specs.declared.entries.FileEntry.{FileEntry}
+use Rattle.bf_forest.specs.declared.nodes.EntryKind.{EntryKind}
+use Rattle.bf_forest.specs.declared.nodes.EntryKind.TheVariants.{File, Directory}
+use Rattle.bf_forest.specs.declared.nodes.Entry.{Entry}
+use Rattle.bf_forest.specs.declared.pool.Node.{Node}
+use Rattle.bf_forest.specs.Files.{Files, is_same, is_tree}
+use Rattle.bf_forest.specs.Listing.{name_in, Listing, is_listing, shown, beneath}
+use Rattle.bf_forest.specs.Trees.{tree_name, files_at, mode_text, entry_bytes, are_same}
+
+-- the files of an entry
+abbrev pub kind_files : List Files → List ℕ → EntryKind → Files
+kind_files trees key (File mode oid) = record { path = name_in key ∷ []; mode = mode; oid = oid } ∷ []
+kind_files trees key (Directory number) = beneath (name_in key) (files_at trees number)
+
+-- the entries, each with its files
+abbrev pub listed : List Files → List Entry → Listing
+listed trees entries = map {A = Entry} {B = List ℕ × Files} (λ entry. (entry.key, kind_files trees entry.key entry.kind)) entries
+
+-- all the files
+abbrev pub files_in : List Files → List Entry → Files
+files_in trees entries = shown (listed trees entries)
+
+abbrev pub has_some : Files → Bool
+has_some [] = false
+has_some (file ∷ files) = true
+
+-- an entry stands for some files
+abbrev pub is_filled : List ℕ × Files → Bool
+is_filled entry = has_some entry.1
+
+-- the entries of one directory, none of them an empty directory
+unfoldable pub is_node : List Files → List Entry → Bool
+is_node trees entries = is_listing (listed trees entries) && list_all is_filled (listed trees entries)
+
+abbrev is_before_kind : ℕ → EntryKind → Bool
+is_before_kind count (File mode oid) = true
+is_before_kind count (Directory number) = nat_lt number count
+
+-- an entry that stands for a file, or for a tree with a smaller number
+abbrev pub is_earlier : ℕ → Entry → Bool
+is_earlier count entry = is_before_kind count entry.kind
+
+-- such an entry whose key has a name
+abbrev pub is_good : ℕ → Entry → Bool
+is_good count entry = is_component (name_in entry.key) && is_earlier count entry
+
+-- what an entry adds to the body of its tree
+abbrev pub kind_bytes : List Files → List ℕ → EntryKind → List ℕ
+kind_bytes trees key (File mode oid) = entry_bytes (mode_text mode) (name_in key) oid.0
+kind_bytes trees key (Directory number) = entry_bytes (codes "40000") (name_in key) (tree_name (files_at trees number))
+
+abbrev pub body_of : List Files → List Entry → List ℕ
+body_of trees entries = flat_map (λ entry. kind_bytes trees entry.key entry.kind) entries
+
+-- the trees, one after another, each by those before it
+abbrev pub trees_from : List Files → List Node → List Files
+trees_from trees [] = trees
+trees_from trees (node ∷ nodes) = trees_from (trees ++ files_in trees node.entries ∷ []) nodes
+
+-- each is a directory by those before it, and has the name that git gives it
+abbrev pub AreNodes : List Files → List Node → Type 0
+AreNodes trees [] = Unit {0}
+AreNodes trees (node ∷ nodes) = (is_node trees node.entries ≡ true) × (node.name.0 ≡ tree_name (files_in trees node.entries)) × AreNodes (trees ++ files_in trees node.entries ∷ []) nodes
+
+-- two entries are the same
+abbrev pub is_same_kind : EntryKind → EntryKind → Bool
+is_same_kind (File mode oid) (File other_mode other_oid) = is_same (mode_text mode) (mode_text other_mode) && is_same oid.0 other_oid.0
+is_same_kind (File mode oid) (Directory other) = false
+is_same_kind (Directory number) (File mode oid) = false
+is_same_kind (Directory number) (Directory other) = number == other
+
+abbrev pub is_same_entry : Entry → Entry → Bool
+is_same_entry a b = is_same a.key b.key && is_same_kind a.kind b.kind
+
+abbrev pub are_same_entries : List Entry → List Entry → Bool
+are_same_entries a b = pointwise is_same_entry a b
+
+-- each tree has its files in order, with paths
+abbrev pub IsSound : List Files → Type 0
+IsSound trees = (number : ℕ) → number < length trees → (list_all (λ file. is_path file.path) (files_at trees number) ≡ true) × (is_tree (files_at trees number) ≡ true)
+
+-- ---- where a tree stands
+
+-- the number of the tree with some files, if there is one
+abbrev pub IsPosition : List Files → Files → Option ℕ → Type 0
+IsPosition trees files None = list_any (λ tree. are_same tree files) trees ≡ false
+IsPosition trees files (Some number) = (number < length trees) × (files_at trees number ≡ files)
+
+-- the number of the tree with some files, if there are files
+abbrev pub IsSettled : List Files → Files → Option ℕ → Type 0
+IsSettled trees files None = files ≡ []
+IsSettled trees files (Some number) = (number < length trees) × (files_at trees number ≡ files) × (has_some files ≡ true)
+
+-- ---- how far the numbers of entries reach
+
+abbrev pub kind_reach : EntryKind → ℕ
+kind_reach (File mode oid) = 0
+kind_reach (Directory number) = suc number
+
+-- one more than the largest number
+abbrev pub reach : List Entry → ℕ
+reach [] = 0
+reach (entry ∷ entries) = max (kind_reach entry.kind) (reach entries)
