@@ -1,0 +1,5 @@
+pub mod Carried
+pub mod Keeping
+mod Loaded
+mod Refusals
+pub mod Standing

@@ -1,0 +1,15 @@
+//! The history that the commands of a stream make. What each command means is defined in `bf_history`;
+//! here a stream is read and its commands are carried out, one after the other.
+#![tactic(auto)]
+
+mod commit;
+mod growth;
+mod history;
+mod importer;
+mod loading;
+mod targets;
+
+pub use bf_grammar::{Limit, Limits, Oid, StreamFault};
+pub use bf_history::ImportFault;
+pub use history::History;
+pub use loading::import;
