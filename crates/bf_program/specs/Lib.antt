@@ -1,0 +1,7 @@
+pub mod Answers
+pub mod Output
+pub mod Requests
+pub mod Statuses
+pub mod Tellings
+pub mod Words
+pub mod Writes

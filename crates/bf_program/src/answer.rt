@@ -1,0 +1,42 @@
+//! What the program is about to write.
+ghost use Rattle.std.specs.Prelude.{◌≡◌};
+ghost use Rattle.bf_program.specs.declared.answer.Cut.TheVariants as cuts;
+
+use crate::status::Status;
+use bf_io::Bytes;
+use std::alloc::{AllocError, AllocFailed};
+use thiserror::Error;
+
+/// A status, and the text that is written with it.
+#[derive(Drop)]
+pub(crate) struct Answer {
+    pub status: Status,
+    pub text: Bytes,
+}
+
+/// Why there is no answer.
+#[derive(Clone, Copy, Debug, PartialEq, Eq, Error)]
+pub(crate) enum Cut {
+    /// The stream could not be read.
+    #[error("the stream could not be read")]
+    Read,
+    /// Memory ran out.
+    #[error("out of memory")]
+    NoMemory,
+}
+
+impl From<AllocError> for Cut {
+    ghost from_gives = { λ _ e. e ≡ cuts.NoMemory };
+
+    fn from(_: AllocError) -> Cut {
+        Cut::NoMemory
+    }
+}
+
+impl<T: Drop> From<AllocFailed<T>> for Cut {
+    ghost from_gives = { λ _ e. e ≡ cuts.NoMemory };
+
+    fn from(_: AllocFailed<T>) -> Cut {
+        Cut::NoMemory
+    }
+}
