@@ -1,11 +1,11 @@
 -- What an edit makes of the files of a directory is what a change of one entry makes of them.
-use Rattle.std.proofs.Common.{◌≡◌, ℕ, Bool, true, false, not, ◌==◌, ◌&&◌, ◌||◌, cond, if◌then◌else◌, List, [], ◌∷◌, ◌++◌, length, map, take, Option, Some, refl, sym, ap, ◌∙◌, ◌⊎◌, inl, inr, subst, arith}
+use Rattle.std.proofs.Common.{◌≡◌, ℕ, Bool, true, false, not, ◌==◌, ◌&&◌, ◌||◌, List, [], ◌∷◌, ◌++◌, length, Some, refl, sym, ap, ◌∙◌, ◌⊎◌, inl, inr, subst, arith}
 use Rattle.std.specs.Ordering.{nat_cmp, is_lt, ordering_reverse}
 use Rattle.std.specs.declared.cmp.Ordering.{Ordering}
 use Rattle.std.specs.declared.cmp.Ordering.TheVariants.{Less, Equal, Greater}
 use Rattle.std.specs.Cmp.Lexicographic.{slice_cmp, pointwise, nat_list_cmp_total}
-use Rattle.std.specs.List.{list_all, list_any, filter}
-use Rattle.std.proofs.lemmas.Bool.{false≢true, and_parts, and_from, and_right, lt-ltb, cases_Bool, cond-true, cond-false}
+use Rattle.std.specs.List.{list_all, filter}
+use Rattle.std.proofs.lemmas.Bool.{false≢true, and_parts, and_from, and_right, lt-ltb, cases_Bool}
 use Rattle.std.proofs.lemmas.List.{take_all}
 use Rattle.std.proofs.lemmas.List.Folds.{list_any-append, list_all-append}
 use Rattle.std.proofs.lemmas.Map.Lookups.{exact_bytes}
@@ -18,12 +18,12 @@ use Rattle.bf_forest.specs.declared.edits.Part.TheVariants.{Before, Behind, Outs
 use Rattle.bf_forest.specs.Files.{Files, is_same, leads_to, are_apart, is_before, is_in_part, set_file, remove_file, comes_before, is_tree}
 use Rattle.bf_forest.specs.Trees.{mode_text, is_same_file}
 use Rattle.bf_forest.specs.Listing.{key_for, name_in, Listing, is_entry, is_listing, shown, beneath}
-use Rattle.bf_forest.specs.Slots.{put, without, directory_key}
-use Rattle.bf_forest.proofs.Entered.{at-put, at-without, all-without, may_stand_by, listing-put, listing-without, key_shape, cleared}
-use Rattle.bf_forest.proofs.Keys.{name_bytes, first_component, name_in-plain, name_in-slash, name_in-key, apart_by_first}
+use Rattle.bf_forest.specs.Slots.{directory_key}
+use Rattle.bf_forest.proofs.Entered.{key_shape}
+use Rattle.bf_forest.proofs.Keys.{name_bytes, name_in-plain, name_in-slash, name_in-key}
 use Rattle.bf_forest.proofs.Listed.{at_key, has-shown, are_paths-shown, is_tree-shown}
-use Rattle.bf_forest.proofs.Members.{has, are_paths, is_same_file-refl, path-refl, has-filter, same_files_by, or_first, or_second}
-use Rattle.bf_forest.proofs.Ordered.{is_same-refl, is_tree-set, is_tree-filter, list_all-filter, leads-behind, before-behind}
+use Rattle.bf_forest.proofs.Members.{has, are_paths, path-refl, has-filter, same_files_by, or_first, or_second}
+use Rattle.bf_forest.proofs.Ordered.{is_same-refl, list_all-filter, leads-behind, before-behind}
 use Rattle.bf_forest.proofs.Sameness.{same_name}
 
 -- a file by its parts

@@ -1,5 +1,5 @@
 -- An entry that is put among the entries of a directory, or taken from them.
-use Rattle.std.proofs.Common.{◌≡◌, ℕ, Bool, true, false, not, ◌==◌, ◌&&◌, ◌||◌, cond, if◌then◌else◌, List, [], ◌∷◌, ◌++◌, refl, sym, ap, ◌∙◌, ◌⊎◌, inl, inr}
+use Rattle.std.proofs.Common.{◌≡◌, ℕ, Bool, true, false, not, ◌==◌, ◌||◌, cond, if◌then◌else◌, List, [], ◌∷◌, ◌++◌, refl, sym, ap, ◌∙◌, ◌⊎◌, inl, inr}
 use Rattle.std.specs.Ordering.{nat_cmp, is_lt, is_eq, ordering_reverse, match_ordering}
 use Rattle.std.specs.declared.cmp.Ordering.{Ordering}
 use Rattle.std.specs.declared.cmp.Ordering.TheVariants.{Less, Equal, Greater}
@@ -17,9 +17,6 @@ use Rattle.bf_forest.proofs.Ordered.{is_same-refl, less}
 use Rattle.bf_forest.proofs.Sameness.{same_name}
 
 -- ---- look-ups
-
-same_twice : (q a b : List ℕ) → is_same q a ≡ true → is_same q b ≡ true → a ≡ b
-same_twice q a b h k = sym (same_name q a h) ∙ same_name q b k
 
 differ : (a b : List ℕ) (o : Ordering) → slice_cmp nat_cmp a b ≡ o → (o ≡ Equal → ⊥) → is_same a b ≡ false
 differ a b o e h =

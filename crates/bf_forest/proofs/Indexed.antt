@@ -1,5 +1,5 @@
 -- An index that has something for each tree, and what it says of a tree that it has nothing for.
-use Rattle.std.proofs.Common.{◌≡◌, ℕ, zero, suc, ◌+◌, ◌<◌, Bool, true, false, cond, List, [], ◌∷◌, ◌++◌, length, take, Option, Some, None, IsSome, IfNone, refl, sym, ap, ◌∙◌, subst, inl, inr, length-append, arith}
+use Rattle.std.proofs.Common.{◌≡◌, ℕ, zero, suc, ◌+◌, ◌<◌, Bool, true, false, cond, List, [], ◌∷◌, ◌++◌, length, take, Option, Some, None, IsSome, refl, sym, ap, ◌∙◌, subst, inl, inr, length-append, arith}
 use Rattle.std.specs.List.{list_any}
 use Rattle.std.specs.Ordering.{nat_cmp}
 use Rattle.std.specs.BTreeMap.{get, BTreeMap, Updates, is_at}
@@ -73,10 +73,3 @@ IsIndexed-take index trees count h =
     λ number l.
     let P : Files → Type 0 = λ list. IsSome (get nat_cmp index (key_of (tree_name list))) in
     subst P (sym (take_at trees count number l)) (h number (omega (arith, length-take {A = Files} count trees)))
-
-pub IsIndexed-nil : (index : BTreeMap ℕ ℕ) → IsIndexed index []
-IsIndexed-nil index = λ number l. absurd (omega arith)
-
-pub if_none : {X : Type 0} (o : Option X) (P : Type 0) → P → IfNone o P
-if_none None P h = h
-if_none (Some x) P h = tt

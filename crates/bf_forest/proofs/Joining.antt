@@ -1,13 +1,11 @@
 -- Trees that join a pool.
-use Rattle.std.proofs.Common.{◌≡◌, ℕ, ◌+◌, ◌<◌, true, false, cond, List, [], ◌∷◌, ◌++◌, length, map, take, get_or, Result, Ok, Err, OnOk, OnErr, refl, sym, ap, ◌∙◌, arith}
+use Rattle.std.proofs.Common.{◌≡◌, ◌+◌, true, false, List, [], ◌∷◌, ◌++◌, length, take, Result, Ok, Err, OnOk, refl, sym, ap, ◌∙◌, arith}
 use Rattle.std.specs.List.{list_any, fold, flat_map}
 use Rattle.std.proofs.lemmas.Bool.{cond-true, cond-false}
 use Rattle.std.proofs.lemmas.List.Sums.{sum_by-append, fold-append}
 use Rattle.bf_forest.specs.Files.{Files}
-use Rattle.bf_forest.specs.Trees.{names, are_same, with_tree, with_directories, directories, entries_of, files_at, below, where_some, or_none}
+use Rattle.bf_forest.specs.Trees.{names, are_same, with_tree, with_directories, entries_of, files_at}
 use Rattle.bf_forest.proofs.Making.{inside_of, directories-is}
-use Rattle.std.proofs.lemmas.List.{get_or-map}
-use Rattle.std.proofs.Math.ListN.{length-map}
 
 pub entries_of-push : (trees : List Files) (files : Files) → entries_of (trees ++ files ∷ []) ≡ entries_of trees + length (names files)
 unfolding entries_of
@@ -28,13 +26,6 @@ take_whole (x ∷ xs) = ap (λ ys. x ∷ ys) (take_whole xs)
 pub take_front : {X : Type 0} (xs ys : List X) → take (length xs) (xs ++ ys) ≡ xs
 take_front [] ys = refl
 take_front (x ∷ xs) ys = ap (λ zs. x ∷ zs) (take_front xs ys)
-
-pub with_tree-kept : (trees : List Files) (files : Files) → take (length trees) (with_tree trees files) ≡ trees
-with_tree-kept trees files =
-    elim (list_any (λ tree. are_same tree files) trees) as (λ b. take (length trees) (cond b trees (trees ++ files ∷ [])) ≡ trees) [
-      | true ↦ take_whole trees
-      | false ↦ take_front trees (files ∷ [])
-    ]
 
 -- what is kept of what is kept
 pub kept_trans : {X : Type 0} (a b c : List X) → take (length a) b ≡ a → take (length b) c ≡ b → take (length a) c ≡ a
@@ -58,11 +49,6 @@ unfolding with_directories
 with_directories-is trees files =
     sym (ap (fold with_tree trees) (directories-is files) ∙ fold-append with_tree trees (flat_map (inside_of files) (names files)) (files ∷ []))
 
--- those of an empty pool are the empty tree
-pub with_directories-empty : with_directories [] [] ≡ [] ∷ []
-unfolding with_directories directories names
-with_directories-empty = refl
-
 -- the place behind the last
 pub at_push : (trees : List Files) (files : Files) → files_at (trees ++ files ∷ []) (length trees) ≡ files
 at_push [] files = refl
@@ -74,30 +60,4 @@ pub on_ok : {T E : Type 0} (r : Result T E) (P Q : Type 0) → (P → Q) → OnO
 on_ok (Ok x) P Q f h = f h
 on_ok (Err e) P Q f h = h
 
-pub on_ok_from : {T E : Type 0} (r : Result T E) (P : Type 0) → P → OnOk r P
-on_ok_from (Ok x) P h = h
-on_ok_from (Err e) P h = tt
-
--- the trees stay, whether one was added or not
-pub add_kept : {T E : Type 0} (r : Result T E) (old new : List Files) (files : Files)
-    → OnOk r (new ≡ with_tree old files) → OnErr r (new ≡ old) → take (length old) new ≡ old
-add_kept (Ok x) old new files ok err = ap (take (length old)) ok ∙ with_tree-kept old files
-add_kept (Err e) old new files ok err = ap (take (length old)) err ∙ kept_refl old
-
--- the directory with a name, which is there, has joined
-pub inside_joined : (trees : List Files) (name : List ℕ) (files inside : Files) → inside ≡ below name files → (inside ≡ [] → ⊥)
-    → with_directories trees inside ≡ fold with_tree trees (or_none (where_some directories (below name files)))
-unfolding with_directories
-inside_joined trees name files [] e filled = absurd (filled refl)
-inside_joined trees name files (file ∷ rest) e filled = ap (λ list. fold with_tree trees (or_none (where_some directories list))) e
-
 -- ---- the list of a pool, by what it is kept in
-
-pub shown_within : {X : Type 0} (f : X → Files) (items shown : List X) (lists : List Files) (i : ℕ) → shown ≡ items → map f items ≡ lists
-    → i < length shown → i < length lists
-shown_within f items shown lists i e view h = omega (arith, ap length view, ap length e, length-map items f)
-
-pub shown_at : {X : Type 0} (f : X → Files) (items shown : List X) (lists : List Files) (i : ℕ) (x : X) (d : Files) → shown ≡ items → map f items ≡ lists
-    → i < length shown → x ≡ get_or shown i x → get_or lists i d ≡ f x
-shown_at f items shown lists i x d e view h at =
-    ap (λ list. get_or list i d) (sym view ∙ ap (map f) (sym e)) ∙ get_or-map f shown i x d h ∙ ap f (sym at)

@@ -1,10 +1,9 @@
 -- Entries in order of their keys hold paths in order of their texts.
-use Rattle.std.proofs.Common.{◌≡◌, ℕ, Bool, true, false, not, ◌==◌, ◌&&◌, cond, List, [], ◌∷◌, ◌++◌, refl, sym, ap, ◌∙◌, inl, inr}
+use Rattle.std.proofs.Common.{◌≡◌, ℕ, true, false, not, ◌==◌, ◌&&◌, List, [], ◌∷◌, ◌++◌, refl, sym, ap, ◌∙◌, inl, inr}
 use Rattle.std.specs.Ordering.{nat_cmp, is_lt, ordering_then}
 use Rattle.std.specs.declared.cmp.Ordering.{Ordering}
 use Rattle.std.specs.declared.cmp.Ordering.TheVariants.{Less, Equal, Greater}
-use Rattle.std.specs.Cmp.{nat_cmp_is}
-use Rattle.std.specs.Cmp.Lexicographic.{slice_cmp, pointwise}
+use Rattle.std.specs.Cmp.Lexicographic.{slice_cmp}
 use Rattle.std.specs.List.{list_all}
 use Rattle.std.proofs.lemmas.Bool.{false≢true, and_parts, and_from, cases_Bool, not-true, cond-false}
 use Rattle.std.proofs.lemmas.Map.Lookups.{exact_unsigned}
@@ -12,7 +11,7 @@ use Rattle.std.proofs.lemmas.List.{append-nil, append_assoc}
 use Rattle.bf_paths.specs.Components.{is_name_byte, is_component, is_path, path_text}
 use Rattle.bf_forest.specs.Files.{is_same, leads_to, are_apart, is_before}
 use Rattle.bf_forest.specs.Listing.{key_for, name_in, stands_before}
-use Rattle.bf_forest.proofs.Ordered.{is_same-refl, less, nat_cmp-same, cmp-front}
+use Rattle.bf_forest.proofs.Ordered.{is_same-refl, less, nat_cmp-same}
 use Rattle.bf_forest.proofs.Sameness.{same_name}
 
 pub cmp-same : (a : List ℕ) → slice_cmp nat_cmp a a ≡ Equal

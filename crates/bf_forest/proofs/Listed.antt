@@ -1,9 +1,9 @@
 -- The files of the entries of a directory.
-use Rattle.std.proofs.Common.{◌≡◌, ℕ, Bool, true, false, not, ◌&&◌, ◌||◌, cond, if◌then◌else◌, List, [], ◌∷◌, ◌++◌, refl, sym, ap, ◌∙◌, inl, inr}
+use Rattle.std.proofs.Common.{◌≡◌, ℕ, Bool, true, false, ◌&&◌, ◌||◌, if◌then◌else◌, List, [], ◌∷◌, refl, sym, ap, ◌∙◌, inl, inr}
 use Rattle.std.specs.Ordering.{nat_cmp, is_lt}
 use Rattle.std.specs.Cmp.Lexicographic.{slice_cmp}
-use Rattle.std.specs.List.{list_all, list_any, flat_map}
-use Rattle.std.proofs.lemmas.Bool.{false≢true, and_parts, and_from, cases_Bool, cond-true, cond-false, or_from}
+use Rattle.std.specs.List.{list_all}
+use Rattle.std.proofs.lemmas.Bool.{false≢true, and_parts, and_from, cases_Bool, cond-true, cond-false}
 use Rattle.std.proofs.lemmas.List.Folds.{list_any-append, list_all-append}
 use Rattle.bf_paths.specs.Components.{is_path}
 use Rattle.bf_forest.specs.declared.entries.FileEntry.{FileEntry}
@@ -12,7 +12,7 @@ use Rattle.bf_forest.specs.Trees.{is_same_file}
 use Rattle.bf_forest.specs.Listing.{key_for, Listing, is_entry, stands_before, is_listing, shown}
 use Rattle.bf_forest.proofs.Keys.{cmp-same, in_order}
 use Rattle.bf_forest.proofs.Members.{has, are_paths, of_member, each_member}
-use Rattle.bf_forest.proofs.Ordered.{is_tree-append, all_before}
+use Rattle.bf_forest.proofs.Ordered.{is_tree-append}
 use Rattle.bf_forest.proofs.Sameness.{same_name}
 
 -- the files of the entry with a key

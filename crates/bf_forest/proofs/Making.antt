@@ -1,5 +1,5 @@
 -- What a rule makes of files is what it makes of them by what it makes of the directories in them.
-use Rattle.std.proofs.Common.{◌≡◌, ℕ, zero, suc, ◌-◌, ◌<◌, ◌≤◌, true, false, List, [], ◌∷◌, ◌++◌, length, Option, Some, None, if◌then◌else◌, refl, sym, ap, ◌∙◌, inl, inr, arith}
+use Rattle.std.proofs.Common.{◌≡◌, ℕ, zero, suc, ◌≤◌, true, false, List, [], ◌∷◌, ◌++◌, length, Option, Some, None, if◌then◌else◌, refl, sym, ap, ◌∙◌, inl, inr, arith}
 use Rattle.std.specs.List.{cons_option, flat_map}
 use Rattle.std.specs.Option.{option_map}
 use Rattle.std.proofs.lemmas.Bool.{cases_lt}
@@ -38,25 +38,6 @@ below_none : (name : List ℕ) (files : Files) → depth files ≤ 1 → below n
 unfolding below
 below_none name [] h = refl
 below_none name (file ∷ files) h = none_step name file file.path _ (omega arith) (below_none name files (omega arith))
-
-depth_falls : (name : List ℕ) (files : Files) (file : FileEntry) (rest : Files) → below name files ≡ file ∷ rest → depth (below name files) < depth files
-depth_falls name files file rest e =
-    elim (cases_lt 1 (depth files)) [
-      | inl deep ↦
-          let less = depth-below name files (depth files - 1) (omega arith) in
-          omega arith
-      | inr flat ↦ absurd (let none : below name files ≡ [] = below_none name files flat in cc)
-    ]
-
--- where there is a directory inside, it is less deep
-pub depth-below-less : (name : List ℕ) (files : Files) → (below name files ≡ [] → ⊥) → depth (below name files) < depth files
-depth-below-less name files h =
-    let by : (inside : Files) → below name files ≡ inside → depth (below name files) < depth files =
-    λ inside. elim inside as (λ xs. below name files ≡ xs → depth (below name files) < depth files) [
-      | [] ↦ λ e. absurd (h e)
-      | file ∷ rest ↦ λ e. depth_falls name files file rest e
-    ] in
-    by (below name files) refl
 
 -- ---- turns enough
 

@@ -1,13 +1,11 @@
 -- Files in order are told by what is among them.
-use Rattle.std.proofs.Common.{◌≡◌, ℕ, Bool, true, false, not, ◌&&◌, ◌||◌, cond, List, [], ◌∷◌, ◌++◌, refl, sym, ap, ◌∙◌, inl, inr, subst}
+use Rattle.std.proofs.Common.{◌≡◌, ℕ, Bool, true, false, ◌&&◌, ◌||◌, cond, List, [], ◌∷◌, refl, sym, ap, ◌∙◌, inl, inr}
 use Rattle.std.specs.Cmp.Lexicographic.{pointwise}
 use Rattle.std.specs.List.{filter, list_all, list_any}
 use Rattle.std.proofs.lemmas.Bool.{false≢true, and_parts, and_from, cases_Bool, or_cases}
 use Rattle.bf_paths.specs.Components.{is_path}
-use Rattle.bf_grammar.specs.declared.object.Mode.{Mode}
-use Rattle.bf_grammar.specs.declared.object.Mode.TheVariants.{Plain, Exec, Link, Module}
 use Rattle.bf_forest.specs.declared.entries.FileEntry.{FileEntry}
-use Rattle.bf_forest.specs.Files.{Files, is_same, is_before, comes_before, is_tree}
+use Rattle.bf_forest.specs.Files.{Files, is_same, comes_before, is_tree}
 use Rattle.bf_forest.specs.Trees.{mode_text, is_same_file}
 use Rattle.bf_forest.proofs.Ordered.{is_same-refl, is_before-trans, not_before}
 use Rattle.bf_forest.proofs.Sameness.{same_file}
@@ -27,13 +25,6 @@ path-refl (x ∷ xs) = and_from _ _ (is_same-refl x) (path-refl xs)
 pub is_same_file-refl : (file : FileEntry) → is_same_file file file ≡ true
 is_same_file-refl file =
     and_from _ _ (and_from _ _ (path-refl file.path) (is_same-refl (mode_text file.mode))) (is_same-refl file.oid.0)
-
-pub not_same_file : (a b : FileEntry) → (a ≡ b → ⊥) → is_same_file a b ≡ false
-not_same_file a b h =
-    elim (cases_Bool (is_same_file a b)) [
-      | inl there ↦ absurd (h (same_file a b there))
-      | inr not_there ↦ not_there
-    ]
 
 -- what holds of each file holds of one that is among them
 pub of_member : (p : FileEntry → Bool) (files : Files) (x : FileEntry) → list_all p files ≡ true → has x files ≡ true → p x ≡ true

@@ -1,24 +1,23 @@
 -- The names in the files of entries, and what stands below each.
-use Rattle.std.proofs.Common.{◌≡◌, ℕ, Bool, true, false, not, ◌&&◌, ◌||◌, cond, if◌then◌else◌, List, [], ◌∷◌, ◌++◌, map, Option, Some, None, refl, sym, ap, ◌∙◌}
+use Rattle.std.proofs.Common.{◌≡◌, ℕ, Bool, true, false, not, ◌||◌, if◌then◌else◌, List, [], ◌∷◌, ◌++◌, map, Some, None, refl, sym, ap, ◌∙◌}
 use Rattle.std.specs.Ordering.{nat_cmp, is_lt}
 use Rattle.std.specs.Cmp.Lexicographic.{slice_cmp, pointwise}
-use Rattle.std.specs.List.{list_all, list_any, filter, filter_map, flat_map, fold, cons_option, AllByRecursion}
-use Rattle.std.proofs.lemmas.Bool.{false≢true, and_parts, and_from, cases_Bool, cond-true, cond-false, not-true, not_from_false, or_from, and_left}
+use Rattle.std.specs.List.{list_all, list_any, filter_map, flat_map, fold, cons_option, AllByRecursion}
+use Rattle.std.proofs.lemmas.Bool.{false≢true, and_parts, and_from, cond-true, cond-false, not-true, not_from_false, or_from, and_left}
 use Rattle.std.specs.Option.{option_map}
 use Rattle.std.proofs.lemmas.List.{append-nil, append_assoc}
 use Rattle.std.proofs.lemmas.List.Concat.{flat_map-append}
-use Rattle.std.proofs.lemmas.List.Folds.{flat_map-map, list_any-append}
+use Rattle.std.proofs.lemmas.List.Folds.{list_any-append}
 use Rattle.std.proofs.lemmas.List.Sums.{fold-append}
 use Rattle.bf_paths.specs.Components.{is_path}
-use Rattle.bf_forest.specs.declared.entries.FileEntry.{FileEntry}
 use Rattle.bf_forest.specs.Files.{Files, is_same}
-use Rattle.bf_forest.specs.Trees.{add_first, add_name, names, below, file_below, path_below, file_bytes}
+use Rattle.bf_forest.specs.Trees.{add_first, add_name, names, below, file_below, file_bytes}
 use Rattle.bf_forest.specs.Listing.{key_for, name_in, Listing, is_entry, stands_before, is_listing, shown}
 use Rattle.bf_forest.specs.Nodes.{has_some, is_filled}
 use Rattle.bf_forest.proofs.Keys.{first_component, name_in-key, not_same}
-use Rattle.bf_forest.proofs.Listed.{at_key, entry-key, entry-paths, listing-entry, listing-first, listing-rest, has-shown, are_paths-shown, of_key}
+use Rattle.bf_forest.proofs.Listed.{entry-key, entry-paths, listing-entry, listing-first, listing-rest, has-shown, are_paths-shown, of_key}
 use Rattle.bf_forest.proofs.Loops.{filter_map-append}
-use Rattle.bf_forest.proofs.Members.{has, are_paths, of_member, each_member}
+use Rattle.bf_forest.proofs.Members.{of_member, each_member}
 use Rattle.bf_forest.proofs.Ordered.{is_same-refl}
 use Rattle.bf_forest.proofs.Sameness.{same_name}
 

@@ -1,12 +1,11 @@
 -- Edits, and the files of a directory, leave each file before those that follow it, and apart from them.
-use Rattle.std.proofs.Common.{◌≡◌, ℕ, Bool, true, false, not, ◌&&◌, cond, List, [], ◌∷◌, ◌++◌, Option, Some, None, refl, sym, ap, ◌∙◌}
+use Rattle.std.proofs.Common.{◌≡◌, ℕ, Bool, true, false, not, ◌&&◌, cond, List, [], ◌∷◌, ◌++◌, refl, sym, ap, ◌∙◌}
 use Rattle.std.specs.Ordering.{nat_cmp, is_lt, ordering_then, ordering_reverse}
 use Rattle.std.specs.declared.cmp.Ordering.{Ordering}
 use Rattle.std.specs.declared.cmp.Ordering.TheVariants.{Less, Equal, Greater}
 use Rattle.std.specs.Cmp.{nat_cmp_is}
 use Rattle.std.specs.Cmp.Lexicographic.{slice_cmp, nat_list_cmp_total}
-use Rattle.std.specs.List.{filter, filter_map, cons_option, list_all, fold}
-use Rattle.std.specs.Option.{option_map}
+use Rattle.std.specs.List.{filter, list_all, fold}
 use Rattle.std.proofs.lemmas.Bool.{false≢true, and_parts, and_from, eq-eqb}
 use Rattle.bf_paths.specs.Components.{path_text}
 use Rattle.bf_grammar.specs.declared.object.Mode.{Mode}
@@ -16,8 +15,6 @@ use Rattle.bf_forest.specs.declared.edits.Edit.{Edit}
 use Rattle.bf_forest.specs.declared.edits.Edit.TheVariants.{Set, Remove, Clear}
 use Rattle.bf_forest.specs.declared.edits.Part.TheVariants.{Before, Behind, Outside}
 use Rattle.bf_forest.specs.Files.{Files, is_same, leads_to, are_apart, is_before, is_in_part, set_file, edited_by, edited, comes_before, is_tree}
-use Rattle.bf_forest.specs.Trees.{path_below, file_below, below}
-use Rattle.bf_forest.proofs.Sameness.{same_name}
 
 -- ---- the order of texts
 
@@ -194,62 +191,6 @@ before-behind name x y xs ys = ap is_lt (cmp-front name (47 ∷ path_text (x ∷
 
 pub leads-behind : (name : List ℕ) (xs ys : List (List ℕ)) → leads_to (name ∷ xs) (name ∷ ys) ≡ leads_to xs ys
 leads-behind name xs ys = ap (λ b. b && leads_to xs ys) (is_same-refl name)
-
-comes-behind : (name x y : List ℕ) (xs ys : List (List ℕ)) → (is_before (name ∷ x ∷ xs) (name ∷ y ∷ ys) && are_apart (name ∷ x ∷ xs) (name ∷ y ∷ ys)) ≡ true
-    → (is_before (x ∷ xs) (y ∷ ys) && are_apart (x ∷ xs) (y ∷ ys)) ≡ true
-comes-behind name x y xs ys h =
-    and_from _ _ (sym (before-behind name x y xs ys) ∙ (and_parts _ _ h).0)
-    (sym (ap (λ b. not b && not (leads_to (name ∷ y ∷ ys) (name ∷ x ∷ xs))) (leads-behind name (x ∷ xs) (y ∷ ys))
-    ∙ ap (λ b. not (leads_to (x ∷ xs) (y ∷ ys)) && not b) (leads-behind name (y ∷ ys) (x ∷ xs))) ∙ (and_parts _ _ h).1)
-
--- a path below a name, as a fact
-abbrev IsBelow : List ℕ → List (List ℕ) → List (List ℕ) → Type 0
-IsBelow name path rest = (next : List ℕ) × (others : List (List ℕ)) × (path ≡ name ∷ next ∷ others) × (rest ≡ next ∷ others)
-
-below_is : (name : List ℕ) (path rest : List (List ℕ)) → path_below name path ≡ Some rest → IsBelow name path rest
-below_is name [] rest h = absurd (cc)
-below_is name (first ∷ []) rest h = absurd (cc)
-below_is name (first ∷ next ∷ others) rest h =
-    let by : (b : Bool) → is_same first name ≡ b → cond b (Some (next ∷ others)) None ≡ Some rest → IsBelow name (first ∷ next ∷ others) rest =
-    λ b. elim b as (λ v. is_same first name ≡ v → cond v (Some (next ∷ others)) None ≡ Some rest → IsBelow name (first ∷ next ∷ others) rest) [
-      | true ↦ λ e k. (next, others, ap (λ n. n ∷ next ∷ others) (same_name first name e), (let same : rest ≡ next ∷ others = cc in same))
-      | false ↦ λ e k. absurd (cc)
-    ] in
-    by (is_same first name) refl h
-
--- two files below a name stand there in the same order
-still_before : (name : List ℕ) (a b a_rest b_rest : List (List ℕ)) → IsBelow name a a_rest → IsBelow name b b_rest
-    → (is_before a b && are_apart a b) ≡ true → (is_before a_rest b_rest && are_apart a_rest b_rest) ≡ true
-still_before name a b a_rest b_rest (x, xs, p, q) (y, ys, r, s) h =
-    let start : (is_before (name ∷ x ∷ xs) (name ∷ y ∷ ys) && are_apart (name ∷ x ∷ xs) (name ∷ y ∷ ys)) ≡ true =
-    ap (λ v. is_before v (name ∷ y ∷ ys) && are_apart v (name ∷ y ∷ ys)) (sym p) ∙ ap (λ v. is_before a v && are_apart a v) (sym r) ∙ h in
-    ap (λ v. is_before v b_rest && are_apart v b_rest) q ∙ ap (λ v. is_before (x ∷ xs) v && are_apart (x ∷ xs) v) s ∙ comes-behind name x y xs ys start
-
-all_still : (name : List ℕ) (file inside : FileEntry) (files : Files) → IsBelow name file.path inside.path → list_all (comes_before file) files ≡ true
-    → list_all (comes_before inside) (filter_map (file_below name) files) ≡ true
-all_still name file inside [] e h = refl
-all_still name file inside (other ∷ files) e h =
-    let more = all_still name file inside files e (and_parts _ _ h).1 in
-    let by : (o : Option (List (List ℕ))) → path_below name other.path ≡ o
-    → list_all (comes_before inside) (cons_option (option_map (λ path. record other { path = path }) o) (filter_map (file_below name) files)) ≡ true =
-    λ o. elim o as (λ v. path_below name other.path ≡ v → list_all (comes_before inside) (cons_option (option_map (λ path. record other { path = path }) v) (filter_map (file_below name) files)) ≡ true) [
-      | None ↦ λ k. more
-      | Some rest ↦ λ k. and_from _ _ (still_before name file.path other.path inside.path rest e (below_is name other.path rest k) (and_parts _ _ h).0) more
-    ] in
-    by (path_below name other.path) refl
-
-pub is_tree-below : (name : List ℕ) (files : Files) → is_tree files ≡ true → is_tree (below name files) ≡ true
-unfolding is_tree below
-is_tree-below name [] h = refl
-is_tree-below name (file ∷ files) h =
-    let more = is_tree-below name files (and_parts _ _ h).1 in
-    let by : (o : Option (List (List ℕ))) → path_below name file.path ≡ o
-    → is_tree (cons_option (option_map (λ path. record file { path = path }) o) (filter_map (file_below name) files)) ≡ true =
-    λ o. elim o as (λ v. path_below name file.path ≡ v → is_tree (cons_option (option_map (λ path. record file { path = path }) v) (filter_map (file_below name) files)) ≡ true) [
-      | None ↦ λ k. more
-      | Some rest ↦ λ k. and_from _ _ (all_still name file (record file { path = rest }) files (below_is name file.path rest k) (and_parts _ _ h).0) more
-    ] in
-    by (path_below name file.path) refl
 
 pub is_tree-nil : is_tree [] ≡ true
 unfolding is_tree

@@ -1,23 +1,22 @@
 -- Trees as entries that name other trees by their numbers.
-use Rattle.std.proofs.Common.{◌≡◌, ℕ, zero, suc, ◌+◌, ◌<◌, Bool, true, false, ◌&&◌, ◌||◌, cond, List, [], ◌∷◌, ◌++◌, length, map, take, get_or, Option, Some, None, refl, sym, ap, ◌∙◌, inl, inr, subst, length-append, arith}
+use Rattle.std.proofs.Common.{◌≡◌, ℕ, zero, suc, ◌+◌, ◌<◌, true, ◌&&◌, cond, List, [], ◌∷◌, ◌++◌, length, take, get_or, Option, Some, None, refl, sym, ap, ◌∙◌, inl, inr, subst, length-append, arith}
 use Rattle.std.specs.List.{list_all, list_any, flat_map, filter_map, cons_option, fold, AllByRecursion}
 use Rattle.std.specs.Option.{option_map}
-use Rattle.std.proofs.lemmas.Bool.{false≢true, and_parts, and_from, cases_Bool, cases_lt, cond-true, lt-ltb, ltb-true}
+use Rattle.std.proofs.lemmas.Bool.{false≢true, and_parts, and_from, cases_lt, lt-ltb, ltb-true}
 use Rattle.std.proofs.lemmas.List.{take_all, get_or-take, get_or_past, append-nil, length-take-le}
 use Rattle.std.proofs.lemmas.List.Folds.{flat_map-map, list_any-append, list_all-append, list_any_at}
 use Rattle.std.proofs.Math.ListN.{length-map}
 use Rattle.bf_grammar.specs.Object.{name_of}
 use Rattle.bf_grammar.specs.declared.object.Kind.TheVariants.{Tree}
 use Rattle.bf_paths.specs.Components.{is_component, is_path}
-use Rattle.bf_forest.specs.declared.entries.FileEntry.{FileEntry}
 use Rattle.bf_forest.specs.declared.nodes.Entry.{Entry}
 use Rattle.bf_forest.specs.declared.nodes.EntryKind.{EntryKind}
 use Rattle.bf_forest.specs.declared.nodes.EntryKind.TheVariants.{File, Directory}
 use Rattle.bf_forest.specs.declared.pool.Node.{Node}
-use Rattle.bf_forest.specs.Files.{Files, is_same, is_tree}
+use Rattle.bf_forest.specs.Files.{Files, is_tree}
 use Rattle.bf_forest.specs.Listing.{name_in, Listing, is_listing, shown, beneath}
 use Rattle.bf_forest.specs.Nodes.{kind_files, listed, files_in, has_some, is_filled, is_node, is_earlier, is_good, kind_bytes, body_of, trees_from, AreNodes, IsSound, IsPosition}
-use Rattle.bf_forest.specs.Trees.{names, below, file_below, file_bytes, entry_with, where_some, or_none, tree_name, directories, is_same_file, are_same, with_tree, with_directories, files_at}
+use Rattle.bf_forest.specs.Trees.{names, below, file_below, file_bytes, entry_with, where_some, or_none, tree_name, directories, are_same, with_tree, files_at}
 use Rattle.bf_forest.proofs.Indexed.{files_at-front}
 use Rattle.bf_forest.proofs.Joining.{at_push, kept_refl, kept_trans, take_front, with_tree-there}
 use Rattle.bf_forest.proofs.Listed.{are_paths-shown, is_tree-shown, listing-entry, listing-rest}

@@ -1,9 +1,8 @@
 -- Files that are the same by their parts are equal.
-use Rattle.std.proofs.Common.{◌≡◌, ℕ, ◌+◌, ◌<◌, true, ◌&&◌, List, [], ◌∷◌, length, drop, get_or, refl, sym, ap, ◌∙◌}
+use Rattle.std.proofs.Common.{◌≡◌, ℕ, true, List, [], ◌∷◌, refl, ap, ◌∙◌}
 use Rattle.std.specs.Cmp.Lexicographic.{pointwise}
 use Rattle.std.proofs.lemmas.Bool.{false≢true, and_parts, eqb-true}
 use Rattle.std.proofs.lemmas.Slice.Eq.{bytes_eq-Decides}
-use Rattle.std.proofs.lemmas.List.{at_drop_more}
 use Rattle.bf_grammar.specs.declared.object.Mode.{Mode}
 use Rattle.bf_grammar.specs.declared.object.Mode.TheVariants.{Plain, Exec, Link, Module}
 use Rattle.bf_forest.specs.declared.entries.FileEntry.{FileEntry}
@@ -61,15 +60,6 @@ same_files (x ∷ xs) (y ∷ ys) h =
     ap (λ f. f ∷ xs) first ∙ ap (λ fs. y ∷ fs) rest
 
 -- ---- two lists, file by file
-
--- the files at a place, and those behind it
-pub are_same_at : (a b : Files) (i : ℕ) (x y : FileEntry) → i < length a → i < length b → x ≡ get_or a i x → y ≡ get_or b i y
-    → are_same (drop i a) (drop i b) ≡ (is_same_file x y && are_same (drop (i + 1) a) (drop (i + 1) b))
-are_same_at a b i x y k l p q =
-    at_drop_more (λ xs. are_same xs (drop i b)) a i x k
-    ∙ at_drop_more (λ ys. are_same (get_or a i x ∷ drop (i + 1) a) ys) b i y l
-    ∙ ap (λ v. is_same_file v (get_or b i y) && are_same (drop (i + 1) a) (drop (i + 1) b)) (sym p)
-    ∙ ap (λ v. is_same_file x v && are_same (drop (i + 1) a) (drop (i + 1) b)) (sym q)
 
 -- ---- entries
 

@@ -1,19 +1,17 @@
 -- Slots that become entries, and the trees of the directories in them.
-use Rattle.std.proofs.Common.{◌≡◌, ℕ, zero, suc, ◌+◌, ◌*◌, ◌<◌, ◌≤◌, Bool, true, false, ◌&&◌, ◌==◌, nat_lt, cond, List, [], ◌∷◌, ◌++◌, length, map, take, max, Option, Some, None, refl, sym, ap, ◌∙◌, subst, arith}
+use Rattle.std.proofs.Common.{◌≡◌, ℕ, ◌<◌, ◌≤◌, Bool, true, false, ◌==◌, cond, List, [], ◌∷◌, ◌++◌, length, take, Option, Some, None, refl, sym, ap, ◌∙◌, subst, arith}
 use Rattle.std.specs.List.{list_all, filter, flat_map, fold}
 use Rattle.std.proofs.lemmas.Bool.{false≢true, and_parts, and_from, ltb-true, lt-ltb, eqb-true}
-use Rattle.std.proofs.lemmas.List.{append-nil, append_assoc, map-append, length-take, nil_from_length}
+use Rattle.std.proofs.lemmas.List.{append_assoc, map-append, length-take, nil_from_length}
 use Rattle.std.proofs.lemmas.List.Folds.{list_all-append}
 use Rattle.std.proofs.lemmas.List.Sums.{fold-append}
-use Rattle.std.proofs.lemmas.List.Concat.{flat_map-append}
-use Rattle.bf_forest.specs.declared.entries.FileEntry.{FileEntry}
 use Rattle.bf_forest.specs.declared.edits.Edit.{Edit}
 use Rattle.bf_forest.specs.declared.nodes.Entry.{Entry}
 use Rattle.bf_forest.specs.declared.nodes.EntryKind.{EntryKind}
 use Rattle.bf_forest.specs.declared.nodes.EntryKind.TheVariants as kind
 use Rattle.bf_forest.specs.declared.slots.Slot.{Slot}
 use Rattle.bf_forest.specs.declared.slots.Slot.TheVariants.{File, Directory}
-use Rattle.bf_forest.specs.Files.{Files, edited, is_tree}
+use Rattle.bf_forest.specs.Files.{Files, edited}
 use Rattle.bf_forest.specs.Listing.{name_in, Listing, stands_before, is_listing, shown, beneath}
 use Rattle.bf_forest.specs.Nodes.{kind_files, listed, files_in, has_some, is_filled, is_node, is_earlier, IsSound, IsSettled}
 use Rattle.bf_forest.specs.Slots.{base_files, slot_files, contents, slot_directories, slot_longest, deepest, longest, is_base, is_based, is_slot, has_path}
@@ -21,7 +19,6 @@ use Rattle.bf_forest.specs.Trees.{names, below, where_some, or_none, directories
 use Rattle.bf_forest.proofs.Joining.{with_directories-is}
 use Rattle.bf_forest.proofs.Listed.{listing-entry, listing-first, listing-rest, listing-cons}
 use Rattle.bf_forest.proofs.Making.{inside_of}
-use Rattle.bf_forest.proofs.Members.{are_paths}
 use Rattle.bf_forest.proofs.Pooled.{directories_inside, below_beneath, node-from, listed_kept, files_at_kept}
 use Rattle.bf_forest.proofs.Slotted.{are_paths-edited, base-sound}
 
@@ -191,11 +188,6 @@ pub slot_directories_kept : (a b : List Files) (slot : Slot) → take (length a)
 slot_directories_kept a b (File mode oid) e h = refl
 slot_directories_kept a b (Directory base pending) e h = ap (λ v. or_none (where_some directories (edited v pending))) (base_kept a b base e h)
 
-pub based_more : (a b : ℕ) (slot : Slot) → a ≤ b → is_based a slot ≡ true → is_based b slot ≡ true
-based_more a b (File mode oid) l h = refl
-based_more a b (Directory None pending) l h = refl
-based_more a b (Directory (Some number) pending) l h = let less = ltb-true number a h in lt-ltb number b (omega (arith, less, l))
-
 -- ---- one slot
 
 listed_more : (trees : List Files) (entries : List Entry) (entry : Entry) → listed trees (entries ++ entry ∷ []) ≡ listed trees entries ++ (entry.key, kind_files trees entry.key entry.kind) ∷ []
@@ -205,15 +197,6 @@ listed_more trees entries entry = map-append {A = Entry} {B = List ℕ × Files}
 abbrev pub IsAdded : List Files → List Files → List Entry → List ℕ → Slot → List Entry → Type 0
 IsAdded trees next old key slot entries =
     (listed next entries ≡ listed trees old ++ filter is_filled ((key, slot_files trees key slot) ∷ [])) × (list_all (is_earlier (length next)) entries ≡ true)
-
-pub file_added : (trees : List Files) (old entries : List Entry) (key : List ℕ) (slot : Slot) (entry : Entry) → list_all (is_earlier (length trees)) old ≡ true
-    → entries ≡ old ++ entry ∷ [] → ◌≡◌ {A = List ℕ × Files} (entry.key, kind_files trees entry.key entry.kind) (key, slot_files trees key slot) → has_some (slot_files trees key slot) ≡ true
-    → is_earlier (length trees) entry ≡ true → IsAdded trees trees old key slot entries
-file_added trees old entries key slot entry h e same some last = (
-  ap (listed trees) e ∙ listed_more trees old entry ∙ ap (λ v. listed trees old ++ v ∷ []) same
-      ∙ ap {A = Bool} {B = Listing} (λ b. listed trees old ++ cond b ((key, slot_files trees key slot) ∷ []) []) (sym some),
-  ap (list_all (is_earlier (length trees))) e ∙ list_all-append (is_earlier (length trees)) old (entry ∷ []) ∙ and_from _ _ h (and_from _ _ last refl),
-)
 
 pub directory_added : (trees next : List Files) (old entries : List Entry) (key : List ℕ) (base : Option ℕ) (pending : List Edit) (number : ℕ) → list_all (is_earlier (length trees)) old ≡ true
     → take (length trees) next ≡ trees → IsSettled next (edited (base_files trees base) pending) (Some number)
@@ -232,14 +215,6 @@ directory_added trees next old entries key base pending number h kept settled e 
     some_kept : (list : Listing) (k : List ℕ) (files : Files) → has_some files ≡ true → list ++ (k, beneath (name_in k) files) ∷ [] ≡ list ++ filter is_filled ((k, beneath (name_in k) files) ∷ [])
     some_kept list k [] s = absurd (false≢true s)
     some_kept list k (file ∷ files) s = refl
-
-pub nothing_added : (trees next : List Files) (old : List Entry) (key : List ℕ) (base : Option ℕ) (pending : List Edit) → list_all (is_earlier (length trees)) old ≡ true
-    → take (length trees) next ≡ trees → edited (base_files trees base) pending ≡ [] → IsAdded trees next old key (Directory base pending) old
-nothing_added trees next old key base pending h kept empty = (
-  listed_kept trees next old kept h ∙ sym (append-nil (listed trees old))
-      ∙ ap {A = Files} {B = Listing} (λ v. listed trees old ++ filter is_filled ((key, beneath (name_in key) v) ∷ [])) (sym empty),
-  earlier_more (length trees) (length next) old (kept_length trees next kept) h,
-)
 
 pub directory_settled : (trees next : List Files) (old entries : List Entry) (key : List ℕ) (slot : Slot) (base : Option ℕ) (pending edits : List Edit) (o : Option ℕ) (number : ℕ)
     → slot ≡ Directory base pending → edits ≡ pending → o ≡ Some number → list_all (is_earlier (length trees)) old ≡ true

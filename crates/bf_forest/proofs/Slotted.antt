@@ -1,17 +1,17 @@
 -- Edits of slots are edits of the files that they stand for.
-use Rattle.std.proofs.Common.{◌≡◌, ℕ, zero, suc, ◌+◌, ◌<◌, ◌≤◌, Bool, true, false, ◌&&◌, ◌||◌, cond, if◌then◌else◌, List, [], ◌∷◌, ◌++◌, nat_lt, length, map, max, Option, Some, None, refl, sym, ap, ◌∙◌, inl, inr, subst, arith}
-use Rattle.std.specs.Ordering.{nat_cmp, is_lt, is_eq, match_ordering}
+use Rattle.std.proofs.Common.{◌≡◌, ℕ, ◌<◌, ◌≤◌, Bool, true, false, ◌&&◌, ◌||◌, cond, List, [], ◌∷◌, ◌++◌, nat_lt, length, max, Option, Some, None, refl, sym, ap, ◌∙◌, arith}
+use Rattle.std.specs.Ordering.{nat_cmp, is_eq, match_ordering}
 use Rattle.std.specs.declared.cmp.Ordering.{Ordering}
 use Rattle.std.specs.declared.cmp.Ordering.TheVariants.{Less, Equal, Greater}
-use Rattle.std.specs.Cmp.Lexicographic.{slice_cmp, nat_list_cmp_total}
+use Rattle.std.specs.Cmp.Lexicographic.{slice_cmp}
 use Rattle.std.specs.List.{list_all, list_any, fold}
-use Rattle.std.proofs.lemmas.Bool.{false≢true, and_parts, and_from, cases_Bool, cond-true, cond-false, ltb-true, lt-ltb, and_left, and_right, or_from}
+use Rattle.std.proofs.lemmas.Bool.{false≢true, and_parts, and_from, cond-true, cond-false, ltb-true, lt-ltb, and_left, and_right, or_from}
 use Rattle.std.proofs.lemmas.List.Folds.{list_all-append}
 use Rattle.std.proofs.lemmas.List.Sums.{fold-append}
 use Rattle.std.proofs.lemmas.Map.Lookups.{exact_bytes}
 use Rattle.bf_grammar.specs.declared.object.Mode.{Mode}
 use Rattle.bf_grammar.specs.declared.object.Oid.{Oid}
-use Rattle.bf_paths.specs.Components.{is_component, is_path}
+use Rattle.bf_paths.specs.Components.{is_path}
 use Rattle.bf_forest.specs.declared.edits.Edit.{Edit}
 use Rattle.bf_forest.specs.declared.edits.Edit.TheVariants.{Set, Remove, Clear}
 use Rattle.bf_forest.specs.declared.edits.Part.TheVariants.{Outside}
@@ -19,17 +19,16 @@ use Rattle.bf_forest.specs.declared.slots.Slot.{Slot}
 use Rattle.bf_forest.specs.declared.slots.Slot.TheVariants.{File, Directory}
 use Rattle.bf_forest.specs.Files.{Files, is_same, is_in_part, edited_by, edited, set_file, remove_file, is_tree}
 use Rattle.bf_forest.specs.Listing.{name_in, Listing, is_listing, shown, beneath}
-use Rattle.bf_forest.specs.Trees.{mode_text, files_at}
+use Rattle.bf_forest.specs.Trees.{mode_text}
 use Rattle.bf_forest.specs.Nodes.{IsSound}
-use Rattle.bf_forest.specs.Slots.{directory_key, put, without, found, directory_of, directory_at, with_edit, less_inside, set_slots, remove_slots, slots_after, has_path, base_files, slot_files, contents, edit_length, longest, slot_longest, is_base, is_slot}
+use Rattle.bf_forest.specs.Slots.{directory_key, put, without, found, directory_of, directory_at, with_edit, less_inside, set_slots, remove_slots, slots_after, has_path, base_files, slot_files, contents, edit_length, longest, is_base, is_slot}
 use Rattle.bf_forest.proofs.Applied.{file_of, has-beneath, are_paths-set, are_paths-remove, keys_differ}
 use Rattle.bf_forest.proofs.Changed.{IsInside, with_file, with_inside, with_less, without_both, at_left, listing-file, shown-file, listing-inside, shown-inside, shown-gone, shown-none, listing-less, shown-less, path_rest}
 use Rattle.bf_forest.proofs.Entered.{all-put, all-without, listing-without, equal_is, not_equal}
-use Rattle.bf_forest.proofs.Keys.{cmp-same, first_component, name_bytes, name_in-plain, name_in-slash, not_same}
-use Rattle.bf_forest.proofs.Listed.{at_key, is_tree-shown, are_paths-shown}
+use Rattle.bf_forest.proofs.Keys.{first_component, name_bytes, name_in-plain, name_in-slash, not_same}
+use Rattle.bf_forest.proofs.Listed.{at_key}
 use Rattle.bf_forest.proofs.Members.{has, are_paths, or_first, or_second}
 use Rattle.bf_forest.proofs.Ordered.{is_tree-edited, is_tree-nil, is_tree-set, is_tree-filter, is_same-refl}
-use Rattle.bf_forest.proofs.Sameness.{same_name}
 
 -- ---- the files of slots that are put and taken
 

@@ -3,7 +3,6 @@ use Rattle.std.specs.Prelude.{◌≡◌, ℕ, suc, max, Bool, true, false, ◌==
 use Rattle.std.specs.Cmp.Lexicographic.{pointwise}
 use Rattle.std.specs.List.{list_all, flat_map, list_any}
 use Rattle.bf_paths.specs.Components.{is_component, is_path}
-use Rattle.bf_forest.specs.declared.entries.FileEntry.{FileEntry}
 use Rattle.bf_forest.specs.declared.nodes.EntryKind.{EntryKind}
 use Rattle.bf_forest.specs.declared.nodes.EntryKind.TheVariants.{File, Directory}
 use Rattle.bf_forest.specs.declared.nodes.Entry.{Entry}

@@ -370,6 +370,7 @@ impl Trees {
         ensures joined { with_directories self.now (files_at self.now tree) ≡ self.now }
         ensures number { result ≡ tree }
     {
+        // A use of a field: what holds of all trees is then known here.
         let _ = &self.nodes;
         tree
     }

@@ -196,7 +196,7 @@ pub(crate) fn edit_all(slots: &mut Slots, edits: &[Edit]) -> Result<(), AllocErr
     Ok(())
 }
 
-fn slot_of(kind: EntryKind, alloc: Global) -> Slot
+fn slot_of(alloc: Global, kind: EntryKind) -> Slot
     ensures { result ≡ slot_of kind }
 {
     match kind {
@@ -212,7 +212,7 @@ pub(crate) fn slots_of(alloc: Global, entries: &[Entry]) -> Result<Slots, AllocE
 {
     let mut slots = BTreeMap::new(alloc);
     for entry in entries {
-        slots.insert(entry.key.try_clone()?, slot_of(entry.kind, alloc))?;
+        slots.insert(entry.key.try_clone()?, slot_of(alloc, entry.kind))?;
     }
     Ok(slots)
 }

@@ -1,5 +1,4 @@
 use Rattle.std.proofs.Common.{◌≡◌, ◌+◌, ◌*◌, take}
-use Rattle.std.specs.List.{flat_map}
 use Rattle.bf_forest.specs.Nodes.{files_in, kind_reach, reach}
 use Rattle.bf_forest.proofs.pool.Trees.+files.Given as goal
 

@@ -1,4 +1,4 @@
-use Rattle.std.proofs.Common.{◌≡◌, ℕ, List, Option, None, IsSome, refl, subst, ◌+◌, ◌++◌, ◌∷◌, [], false, length, take, sym, ap, ◌∙◌, length-append, arith}
+use Rattle.std.proofs.Common.{◌≡◌, ℕ, List, Option, IsSome, refl, subst, ◌++◌, ◌∷◌, [], false, length, take, sym, ap, ◌∙◌, length-append, arith}
 use Rattle.std.specs.List.{list_any}
 use Rattle.std.specs.Ordering.{nat_cmp}
 use Rattle.std.specs.BTreeMap.{get}
@@ -6,7 +6,7 @@ use Rattle.bf_forest.specs.declared.pool.Node.{Node}
 use Rattle.bf_forest.specs.Files.{Files}
 use Rattle.bf_forest.specs.Index.{key_of, IsIndexed}
 use Rattle.bf_forest.specs.Nodes.{files_in, trees_from, IsPosition}
-use Rattle.bf_forest.specs.Trees.{entries_of, names, tree_name, are_same, files_at}
+use Rattle.bf_forest.specs.Trees.{entries_of, tree_name, are_same, files_at}
 use Rattle.bf_forest.proofs.Indexed.{IsIndexed-insert, IsIndexed-push}
 use Rattle.bf_forest.proofs.Joining.{entries_of-push, with_tree-new, at_push, take_front}
 use Rattle.bf_forest.proofs.Pooled.{length-trees, count_names, position_there, trees_pushed, nodes_pushed}

@@ -1,4 +1,4 @@
-use Rattle.std.proofs.Common.{◌<◌, length, sym, ap, ◌∙◌}
+use Rattle.std.proofs.Common.{length, sym, ap, ◌∙◌}
 use Rattle.std.proofs.lemmas.Bool.{ltb-true, iff_false}
 use Rattle.bf_forest.specs.Nodes.{files_in, has_some}
 use Rattle.bf_forest.specs.Slots.{base_files, is_base}

@@ -1,4 +1,4 @@
-use Rattle.std.proofs.Common.{◌≡◌, Bool, true, not, sym, ap, ◌∙◌}
+use Rattle.std.proofs.Common.{◌≡◌, true, not, sym, ap, ◌∙◌}
 use Rattle.std.proofs.lemmas.Bool.{false≢true, false_from_ne_true}
 use Rattle.bf_forest.specs.Files.{is_same}
 use Rattle.bf_forest.specs.Trees.{tree_name, are_same, files_at}

@@ -1,8 +1,7 @@
-use Rattle.std.proofs.Common.{◌≡◌, ℕ, Bool, List, true, length, sym, ap, ◌∙◌, IfOk}
+use Rattle.std.proofs.Common.{◌≡◌, ℕ, Bool, List, length, sym, ap, ◌∙◌}
 use Rattle.std.specs.List.{list_all}
 use Rattle.std.proofs.lemmas.Result.{IfOk-weaker}
 use Rattle.bf_forest.specs.Listing.{is_listing, shown}
-use Rattle.bf_forest.specs.Nodes.{is_good}
 use Rattle.bf_forest.specs.Slots.{slots_of, are_in_order, base_files, contents, is_slot}
 use Rattle.bf_forest.specs.declared.slots.Slot.{Slot}
 use Rattle.bf_forest.proofs.Copied.{contents-of, in_order, slots_earlier}
