@@ -1,5 +1,5 @@
 //! A file of a tree, and lists of files.
-ghost use Rattle.std.specs.Prelude.{◌≡◌, [], ◌∷◌, ◌++◌, length, take, IsTrue, IfOk, OnOk};
+ghost use Rattle.std.specs.Prelude.{◌≡◌, [], ◌∷◌, ◌++◌, IsTrue, IfOk, OnOk};
 ghost use Rattle.bf_paths.specs.Components.{is_component};
 ghost use Rattle.bf_forest.specs.Listing.{beneath};
 ghost use Rattle.bf_forest.specs.Trees.{is_same_file, are_same};

@@ -1,5 +1,5 @@
 //! The entries of a directory.
-ghost use Rattle.std.specs.Prelude.{◌≡◌, ◌↔◌, [], ◌∷◌, ◌++◌, length, IsTrue, IfOk, OnOk, OnErr};
+ghost use Rattle.std.specs.Prelude.{◌≡◌, ◌↔◌, [], ◌∷◌, ◌++◌, IsTrue, OnOk};
 ghost use Rattle.bf_forest.specs.Listing.{name_in};
 ghost use Rattle.bf_forest.specs.Trees.{mode_text, entry_bytes};
 ghost use Rattle.bf_forest.specs.Nodes.{is_same_kind, is_same_entry, are_same_entries};

@@ -1,15 +1,13 @@
 //! The trees of a pool, each once, with their names. A tree is kept as its entries, which name the trees
 //! of its directories by their numbers.
-ghost use Rattle.std.specs.Prelude.{◌≡◌, ◌↔◌, ◌+◌, ◌<◌, ◌≤◌, true, false, [], ◌∷◌, ◌++◌, length, take, fold, map, IsTrue, IfOk, OnOk, OnErr, IfSome, IfNone, MatchOption};
-ghost use Rattle.std.specs.List.{list_any, list_all, filter, flat_map};
-ghost use Rattle.bf_forest.specs.declared.edits.Edit.{Edit};
-ghost use Rattle.bf_forest.specs.declared.nodes.EntryKind.TheVariants as kind;
+ghost use Rattle.std.specs.Prelude.{◌≡◌, ◌+◌, ◌<◌, [], ◌∷◌, ◌++◌, length, take, fold, IsTrue, IfOk, OnOk, OnErr};
+ghost use Rattle.std.specs.List.{list_all, filter, flat_map};
 ghost use Rattle.bf_forest.specs.Files.{is_tree, edited};
 ghost use Rattle.bf_forest.specs.Index.{key_of};
-ghost use Rattle.bf_forest.specs.Listing.{is_listing, shown, beneath, name_in};
-ghost use Rattle.bf_forest.specs.Nodes.{kind_files, listed, files_in, has_some, is_filled, is_node, is_earlier, is_good, kind_bytes, IsSound, IsPosition, IsSettled};
+ghost use Rattle.bf_forest.specs.Listing.{is_listing, shown};
+ghost use Rattle.bf_forest.specs.Nodes.{kind_files, listed, files_in, is_filled, is_node, is_earlier, is_good, kind_bytes, IsSound, IsPosition, IsSettled};
 ghost use Rattle.bf_forest.specs.Slots.{base_files, slot_files, contents, slot_directories, is_base, is_based, is_slot, longest};
-ghost use Rattle.bf_forest.specs.Trees.{tree_name, directories, where_some, or_none, is_same_file, are_same, with_tree, with_directories, entries_of, files_at};
+ghost use Rattle.bf_forest.specs.Trees.{tree_name, directories, where_some, or_none, are_same, with_tree, with_directories, entries_of, files_at};
 
 use crate::edits::Edit;
 use crate::entries::{FileEntry, add_beneath, add_file, are_same};
