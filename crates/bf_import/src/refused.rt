@@ -18,9 +18,13 @@ fn said(alloc: Global, stream: &[u8], limits: Limits) -> Result<String, AllocErr
     }
 }
 
+fn refused_streams() -> &'static [(&'static str, &'static [u8], &'static str)] {
+    &REFUSED
+}
+
 #[test]
 fn streams_are_refused_for_their_first_fault(rt: HostRuntime) -> Result<(), Fail> {
-    for (name, stream, text) in REFUSED {
+    for &(name, stream, text) in refused_streams() {
         let found = said(rt.alloc(), stream, Limits::standard())?;
         assert_eq!(rt; found.as_str(), text, "{name}");
     }
@@ -76,7 +80,7 @@ fn a_source_that_fails_is_no_refusal(rt: HostRuntime) -> Result<(), Fail> {
 }
 
 // Streams that are refused, with what is said of them.
-const REFUSED: [(&str, &[u8], &str); 32] = [
+static REFUSED: [(&str, &[u8], &str); 32] = [
     (
         "file from unknown mark",
         b"\
