@@ -74,8 +74,9 @@ for kind in "short ${1:-100000} 1" "folder ${2:-10000}" "contents ${3:-500}"; do
     python3 -c "print(f'$1 $2: git fast-import $theirs s of processor time ($wall s), $memory KiB; ratio {float(\"$theirs\") / max(float(\"$ours\"), 0.001):.1f}')"
 done
 
-# A mark may be any number and costs one entry.
+# A mark may be any number and costs one entry; commits behind it keep the program running long enough to be looked at.
 printf 'commit refs/heads/main\nmark :536870911\ncommitter a <a@b> 0 +0000\ndata 0\n' > "$work/stream"
+python3 "$work/stream.py" short 50000 1 >> "$work/stream"
 read -r wall ours memory < <("$top/benches/measure.py" "$work/stream" "$program" simulate refs/heads/main refs/heads/main "")
 echo "mark 536870911: farmdawn $memory KiB"
 [ "$memory" -lt 51200 ] || { echo "more than 50 MB for one mark"; exit 1; }
