@@ -80,3 +80,9 @@ python3 "$work/stream.py" short 50000 1 >> "$work/stream"
 read -r wall ours memory < <("$top/benches/measure.py" "$work/stream" "$program" simulate refs/heads/main refs/heads/main "")
 echo "mark 536870911: farmdawn $memory KiB"
 [ "$memory" -lt 51200 ] || { echo "more than 50 MB for one mark"; exit 1; }
+
+# One commit more than the limit is refused.
+python3 "$work/stream.py" short 100001 1 > "$work/stream"
+answer=$("$program" simulate refs/heads/main refs/heads/main "" < "$work/stream" || true)
+echo "100001 commits: $answer"
+[ "$answer" = "too large: commits" ] || exit 1
