@@ -1,16 +1,17 @@
-#!/usr/bin/env python3
-"""Runs a command and prints what it cost: seconds, processor seconds, and peak memory in KiB.
-
-Usage: measure.py INPUT [--limit SECONDS] COMMAND WORDS..    INPUT becomes its standard input; its output is dropped.
-
-The peak is the high-water mark that the system keeps for the running program, read again and again while it runs,
-so that the size of this script does not count. A command that reaches the limit is stopped, and the limit stands
-for its seconds.
-"""
+"""What a command costs: seconds, processor seconds, and the peak memory of the command alone."""
 import os
 import subprocess
-import sys
 import time
+from dataclasses import dataclass
+
+
+@dataclass
+class Cost:
+    seconds: float      # by the clock
+    processor: float    # seconds of all processors
+    peak: int           # KiB
+    status: int         # what the command ended with; negative where a signal ended it
+    output: bytes       # its standard output, where it was wanted
 
 
 def peak_of(process):
@@ -25,18 +26,17 @@ def peak_of(process):
     return 0
 
 
-def main():
-    words = sys.argv[1:]
-    given = words.pop(0)
-    limit = 600.0
-    if words[0] == "--limit":
-        limit = float(words[1])
-        words = words[2:]
+def measure(command, given=os.devnull, limit=600.0, keep=None):
+    """Runs a command on a file as standard input. Its standard output goes to the file `keep`, or is dropped.
+
+    The peak is the high-water mark that the system keeps for the running program, read again and again while it
+    runs, so that the size of this script does not count. A command that reaches the limit is stopped, and the
+    limit stands for its seconds.
+    """
     began = time.time()
-    with open(given, "rb") as text:
-        child = subprocess.Popen(words, stdin=text, stdout=subprocess.DEVNULL, stderr=subprocess.DEVNULL)
-    peak = 0
-    pause = 0.0005
+    with open(given, "rb") as text, open(keep or os.devnull, "wb") as output:
+        child = subprocess.Popen(command, stdin=text, stdout=output, stderr=subprocess.DEVNULL)
+    peak, pause = 0, 0.0005
     while True:
         peak = max(peak, peak_of(child.pid))
         process, status, usage = os.wait4(child.pid, os.WNOHANG)
@@ -44,12 +44,13 @@ def main():
             break
         if time.time() - began > limit:
             child.kill()
-            process, status, usage = os.wait4(child.pid, 0)
+            _, status, usage = os.wait4(child.pid, 0)
             break
         time.sleep(pause)
         pause = min(pause * 1.5, 0.02)
     seconds = time.time() - began
-    print(f"{seconds:.3f} {usage.ru_utime + usage.ru_stime:.3f} {peak}")
-
-
-main()
+    kept = b""
+    if keep:
+        with open(keep, "rb") as file:
+            kept = file.read()
+    return Cost(seconds, usage.ru_utime + usage.ru_stime, peak, os.waitstatus_to_exitcode(status), kept)

@@ -1,7 +1,4 @@
-#!/usr/bin/env python3
 """Bisects a real repository with farmdawn and with `git bisect run`, and compares the answers.
-
-Usage: real.py [--seed N] [--pairs N] [REPOSITORY]
 
 Without a repository it makes one with git: branches, merges, tags, files in folders, a rename, an executable, a link.
 The work is done on a copy. For each pair of a bad commit and a good ancestor of it, a commit is chosen to be the first
@@ -16,8 +13,6 @@ import sys
 import tempfile
 import time
 
-TOP = os.path.dirname(os.path.dirname(os.path.abspath(__file__)))
-PROGRAM = os.path.join(TOP, "crates/farmdawn/out/farmdawn")
 CALM = {"GIT_AUTHOR_NAME": "Ann Lee", "GIT_AUTHOR_EMAIL": "ann@example.org", "GIT_COMMITTER_NAME": "Bo",
         "GIT_COMMITTER_EMAIL": "bo@example.org", "GIT_CONFIG_GLOBAL": "/dev/null", "GIT_CONFIG_SYSTEM": "/dev/null"}
 
@@ -97,8 +92,7 @@ def git_answer(folder, bad, good, culprit):
     return answer
 
 
-def main():
-    words = sys.argv[1:]
+def main(words, program):
     seed, pairs = 1, 10
     while words and words[0] in ("--seed", "--pairs"):
         if words[0] == "--seed":
@@ -142,7 +136,7 @@ def main():
             after = set(git(folder, "rev-list", "--all", "--ancestry-path", f"^{culprit}").split()) | {culprit}
             plan = "".join("b" if name in after else "g" for name in names)
             began = time.time()
-            done = subprocess.run([PROGRAM, "simulate", f"refs/pairs/bad{number}", f"refs/pairs/good{number}", plan],
+            done = subprocess.run([program, "simulate", f"refs/pairs/bad{number}", f"refs/pairs/good{number}", plan],
                                   stdin=open(f"{work}/stream", "rb"), stdout=subprocess.PIPE)
             ours_seconds = time.time() - began
             ours = done.stdout.decode(errors="surrogateescape").splitlines()[-1:]
@@ -158,6 +152,3 @@ def main():
         sys.exit(0 if agreed == len(tried) and tried else 1)
     finally:
         shutil.rmtree(work)
-
-
-main()

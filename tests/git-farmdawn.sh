@@ -1,0 +1,191 @@
+#!/bin/sh
+# Tests of git farmdawn, beside git bisect run.
+. "$(dirname "$0")/helpers.sh"
+FARMDAWN=$farmdawn
+export FARMDAWN
+
+needs_all() { command -v git >/dev/null && command -v flock >/dev/null && has_run; }
+
+# The first bad commit by git bisect run, over the same words.
+git_answer() {
+    git bisect start "$@" >/dev/null 2>&1
+    [ -z "${skip-}" ] || git bisect skip "$skip" >/dev/null 2>&1
+    git bisect run sh -c "$command" >bisect-output 2>&1
+    git rev-parse "refs/bisect/${new_term:-bad}"
+    git bisect reset >/dev/null 2>&1
+}
+
+# Both name the same commit, `git bisect replay` takes the printed log, and nothing is left. The test is $command.
+agree() {
+    # shellcheck disable=SC2086
+    expect 'git farmdawn finds a commit' git farmdawn --workers 4 ${options-} ${skip:+--skip "$skip"} "$@" -- sh -c "$command" >log
+    ours=$(sed -n 's/^\([0-9a-f]*\) is the first .* commit$/\1/p' log)
+    # shellcheck disable=SC2086
+    theirs=$(git_answer ${git_options-${options-}} "$@")
+    expect 'the answer of git bisect run' [ "$ours" = "$theirs" ]
+    expect 'git bisect replay takes the log' git bisect replay log
+    expect 'and comes to the same commit' [ "$(git rev-parse "refs/bisect/${new_term:-bad}")" = "$ours" ]
+    git bisect reset >/dev/null 2>&1
+    nothing_left
+}
+
+command='test ! -e bug'
+
+needs_line() { needs_all; }
+test_line() {
+    make_line 30 17
+    agree main main~29
+    skip=main~20..main~18 agree main main~29
+}
+
+needs_merges() { needs_all; }
+test_merges() {
+    make_line 6 99
+    for topic in 1 2 3; do
+        git checkout -q -b topic$topic "main~$topic"
+        for number in 1 2 3; do
+            echo $number >topic$topic
+            [ $topic$number != 22 ] || echo bug >bug
+            git add -A && git commit -q -m "topic $topic, $number" || exit 1
+        done
+        git checkout -q main && git merge -q --no-ff -m "merge $topic" topic$topic || exit 1
+    done
+    agree main main~5
+    options=--first-parent agree main main~8
+    agree topic2 main~5 topic1
+    agree main topic1 topic3
+}
+
+needs_unrelated_good() { needs_all; }
+test_unrelated_good() {
+    make_line 10 6
+    git checkout -q -b side main~7 && echo side >side && git add -A && git commit -q -m side || exit 1
+    git checkout -q main
+    agree main side
+}
+
+needs_terms() { needs_all; }
+test_terms() {
+    make_line 12 5
+    new_term=fixed options='--term-new fixed --term-old broken' agree main main~11
+}
+
+needs_encodings() { needs_all; }
+test_encodings() {
+    make_line 4 9
+    for text in 'a "quoted" [subject]' "it's" 'git bisect good main' 'back\slash'; do
+        echo "$text" >>content && git commit -q -a -m "$text" || exit 1
+    done
+    printf 'gr\374n\n' | git -c i18n.commitEncoding=ISO-8859-1 commit -q --allow-empty -F - || exit 1
+    git commit -q --allow-empty --allow-empty-message -m '' || exit 1
+    echo bug >bug && git add -A && git commit -q -m bug && git commit -q --allow-empty -m last || exit 1
+    agree main main~10
+}
+
+needs_signed() { needs_all && command -v ssh-keygen >/dev/null; }
+test_signed() {
+    make_line 3 9
+    ssh-keygen -q -t ed25519 -N '' -f ../key || exit 1
+    git config gpg.format ssh && git config user.signingkey "$PWD/../key" && git config commit.gpgsign true
+    git config log.showSignature true
+    for number in 3 4 5 6 7 8; do
+        echo $number >content
+        [ $number -lt 6 ] || echo bug >bug
+        git add -A && git commit -q -m "signed $number" || exit 1
+    done
+    agree main main~8
+}
+
+needs_sha256() { needs_all && git init -q --object-format=sha256 "$work/sha256" 2>/dev/null; }
+test_sha256() {
+    git init -q -b main --object-format=sha256 repository || exit 1
+    make_line 9 4
+    agree main main~8
+}
+
+needs_shallow() { needs_all; }
+test_shallow() {
+    (make_line 30 22) || exit 1
+    git clone -q --depth 15 "file://$PWD/repository" clone && cd clone || exit 1
+    agree main main~14
+}
+
+needs_part_of_many() { needs_all; }
+test_part_of_many() {
+    git init -q -b main repository && cd repository || exit 1
+    awk 'BEGIN { for (i = 1; i <= 2000; i++) {
+        printf "commit refs/heads/main\ncommitter gen <gen> %d +0000\ndata 2\nc\n", i
+        if (i == 1978) print "M 100644 inline bug\ndata 0\n" } }' | git fast-import --quiet && git reset -q --hard || exit 1
+    agree main main~40
+    expect 'few tests' [ "$(grep -c '^git bisect' log)" -lt 9 ]
+}
+
+needs_submodules() { needs_all; }
+test_submodules() {
+    git init -q -b main inner && (cd inner && echo x >inside && git add -A && git commit -q -m inside) || exit 1
+    (make_line 2 9) && cd repository || exit 1
+    git config protocol.file.allow always
+    GIT_ALLOW_PROTOCOL=file git submodule add -q "$PWD/../inner" inner && git commit -q -m inner || exit 1
+    for number in 11 12 13 14 15; do
+        echo $number >content
+        [ $number -lt 14 ] || echo bug >bug
+        git add -A && git commit -q -m "with submodule $number" || exit 1
+    done
+    command='test ! -e bug && test -e inner/inside'
+    export GIT_ALLOW_PROTOCOL=file
+    git_options='' options=--submodules agree main main~5
+}
+
+needs_folders_and_scripts() { needs_all; }
+test_folders_and_scripts() {
+    make_line 3 9
+    mkdir deep && echo x >deep/file && git add -A && git commit -q -m deep || exit 1
+    for number in 1 2 3 4; do
+        [ $number -lt 3 ] || echo bug >bug
+        echo $number >deep/file && git add -A && git commit -q -m "deep $number" || exit 1
+    done
+    printf '#!/bin/sh\ntest -e deep/file && test ! -e bug\n' >check.sh && chmod +x check.sh
+    expect 'a script that is not tracked' [ "$(git farmdawn main main~4 -- ./check.sh | tail -n 1)" = "$(git rev-parse main~1) is the first bad commit" ]
+    cd deep || exit 1
+    expect 'from a folder inside' [ "$(git farmdawn main main~4 -- sh -c 'test -e file && test ! -e ../bug' | tail -n 1)" = "$(git rev-parse main~1) is the first bad commit" ]
+    cd .. && nothing_left
+}
+
+needs_going_on() { needs_all; }
+test_going_on() {
+    make_line 20 9
+    git farmdawn --workers 2 main main~19 -- sh -c 'echo x >>../../../../tested; sleep 0.3; test ! -e bug' >log &
+    sleep 0.7
+    kill -INT $! 2>/dev/null || kill -TERM $!
+    wait $!
+    nothing_left
+    git farmdawn --workers 2 main main~19 -- sh -c 'echo x >>../../../../tested; sleep 0.3; test ! -e bug' >log
+    expect 'the answer' [ "$(tail -n 1 log)" = "$(git rev-parse main~10) is the first bad commit" ]
+    expect 'nothing is tested again' sh -c "! git farmdawn main main~19 -- sh -c 'echo x >>../../../../tested; sleep 0.3; test ! -e bug' 2>&1 | grep testing"
+    nothing_left
+}
+
+needs_check_ends() { needs_all; }
+test_check_ends() {
+    make_line 6 3
+    expect 'good ends pass' git farmdawn --check-ends main main~5 -- sh -c "$command"
+    expect 'a good commit that is bad stops' sh -c '! git farmdawn --check-ends main main~1 -- test ! -e bug >log 2>err'
+    expect 'and is named' grep -q "$(git rev-parse main~1) was called good" err
+    nothing_left
+}
+
+needs_interrupts() { needs_all; }
+test_interrupts() {
+    make_line 200 120
+    for pause in 0.05 0.1 0.2 0.3 0.5 0.7 1 1.3 1.6 2; do
+        git farmdawn --fresh --workers 16 main main~199 -- sh -c 'sleep 44.5 & sleep 0.2; test ! -e bug' >log 2>err &
+        sleep $pause
+        kill -TERM $!
+        wait $!
+        nothing_left
+    done
+    expect 'no process is left' [ -z "$(pgrep -f 'sleep 44.5')" ]
+}
+
+run_tests ${*:-line merges unrelated_good terms encodings signed sha256 shallow part_of_many submodules \
+    folders_and_scripts going_on check_ends interrupts}

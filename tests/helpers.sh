@@ -1,0 +1,70 @@
+# What the tests of the scripts share. Each test is a function named test_..; it runs in a folder of its own, and what
+# it prints is shown where it fails. A tool that is not installed passes a test over by name.
+set -u
+top=$(cd "$(dirname "$0")/.." && pwd)
+PATH=$top/tools:$PATH
+farmdawn=${FARMDAWN:-$top/crates/farmdawn/out/farmdawn}
+export PATH
+export GIT_AUTHOR_NAME='Ann Lee' GIT_AUTHOR_EMAIL=ann@example.org GIT_COMMITTER_NAME=Bo GIT_COMMITTER_EMAIL=bo@example.org
+export GIT_CONFIG_GLOBAL=/dev/null GIT_CONFIG_SYSTEM=/dev/null GIT_CONFIG_NOSYSTEM=1 LC_ALL=C
+
+work=$(mktemp -d)
+trap 'rm -rf "$work"' EXIT
+passed=0 failed=0 skipped=0
+
+# Whether a test fails here: the text says what is not as it must be.
+expect() {
+    text=$1
+    shift
+    "$@" && return
+    echo "not so: $text ($*)"
+    exit 1
+}
+
+# The built program tests commits by commands.
+has_run() {
+    [ -x "$farmdawn" ] || return 1
+    [ "$("$farmdawn" run a b -- true </dev/null 2>/dev/null)" != 'not built yet' ]
+}
+
+# Runs the tests that are named, each in a new folder, with a limit of time.
+run_tests() {
+    for test; do
+        mkdir "$work/$test"
+        missing=''
+        needs_"$test" 2>/dev/null || missing=1
+        if [ -n "$missing" ]; then
+            echo "skipped: $test"
+            skipped=$((skipped + 1))
+        elif (cd "$work/$test" && "test_$test") >"$work/$test.out" 2>&1; then
+            echo "ok: $test"
+            passed=$((passed + 1))
+        else
+            echo "FAILED: $test"
+            sed 's/^/    /' "$work/$test.out"
+            failed=$((failed + 1))
+        fi
+        chmod -R u+w "$work/$test" 2>/dev/null
+        rm -rf "${work:?}/$test"
+    done
+    echo "$(basename "$0"): $passed passed, $failed failed, $skipped skipped"
+    [ "$failed" -eq 0 ]
+}
+
+# A repository in the folder `repository` with so many commits, of which those from BAD on have a file `bug`.
+make_line() {
+    git init -q -b main repository && cd repository || exit 1
+    number=0
+    while [ $number -lt "$1" ]; do
+        echo $number >content
+        [ $number -lt "$2" ] || echo bug >bug
+        git add -A && git commit -q -m "change $number" || exit 1
+        number=$((number + 1))
+    done
+}
+
+# Nothing of a run is left: no worktree but the main one, no folder of a run, no process of a test.
+nothing_left() {
+    expect 'one worktree' [ "$(git worktree list | wc -l)" -eq 1 ]
+    expect 'no folder of a run' [ -z "$(ls -d .git/farmdawn/run.* 2>/dev/null)" ]
+}
