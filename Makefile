@@ -1,15 +1,39 @@
 # make demo: a search over a shipped stream, built without its proofs
-# make install PREFIX=FOLDER: proves and builds the program, and puts it into FOLDER/bin
+# make install PREFIX=FOLDER: proves and builds the program, and puts it into FOLDER/bin, with the scripts, their manual
+#   pages and the shells' completions
+# make uninstall PREFIX=FOLDER: removes what was installed
 # make test: every proof, must-fail edit, test and program of this checkout
+# make check: the tests of the scripts
 PREFIX ?= /usr/local
 
-.PHONY: demo install test
+SCRIPTS = git-farmdawn farmdawn-worktree farmdawn-srun farmdawn-ssh
+BIN = $(DESTDIR)$(PREFIX)/bin
+MAN = $(DESTDIR)$(PREFIX)/share/man/man1
+BASH_COMPLETIONS = $(DESTDIR)$(PREFIX)/share/bash-completion/completions
+ZSH_COMPLETIONS = $(DESTDIR)$(PREFIX)/share/zsh/site-functions
+FISH_COMPLETIONS = $(DESTDIR)$(PREFIX)/share/fish/vendor_completions.d
+
+.PHONY: demo install install-scripts uninstall test check
 demo:
 	cd crates/farmdawn && rt try -- $$(cat args) < stdin
 
-install:
+install: install-scripts
 	cd crates/farmdawn && rt run -- --version
-	install -D -m 755 crates/farmdawn/out/farmdawn $(DESTDIR)$(PREFIX)/bin/farmdawn
+	install -D -m 755 crates/farmdawn/out/farmdawn $(BIN)/farmdawn
+
+install-scripts:
+	for script in $(SCRIPTS); do install -D -m 755 tools/$$script $(BIN)/$$script || exit 1; done
+	for page in farmdawn $(SCRIPTS); do install -D -m 644 man/$$page.1 $(MAN)/$$page.1 || exit 1; done
+	install -D -m 644 completions/farmdawn.bash $(BASH_COMPLETIONS)/farmdawn
+	install -D -m 644 completions/_farmdawn $(ZSH_COMPLETIONS)/_farmdawn
+	install -D -m 644 completions/farmdawn.fish $(FISH_COMPLETIONS)/farmdawn.fish
+
+uninstall:
+	for name in farmdawn $(SCRIPTS); do rm -f $(BIN)/$$name $(MAN)/$$name.1; done
+	rm -f $(BASH_COMPLETIONS)/farmdawn $(ZSH_COMPLETIONS)/_farmdawn $(FISH_COMPLETIONS)/farmdawn.fish
 
 test:
 	bash .ci/run
+
+check:
+	sh tests/check

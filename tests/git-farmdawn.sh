@@ -187,5 +187,6 @@ test_interrupts() {
     expect 'no process is left' [ -z "$(pgrep -f 'sleep 44.5')" ]
 }
 
-run_tests ${*:-line merges unrelated_good terms encodings signed sha256 shallow part_of_many submodules \
-    folders_and_scripts going_on check_ends interrupts}
+[ $# -gt 0 ] || set -- line merges unrelated_good terms encodings signed sha256 shallow part_of_many submodules \
+    folders_and_scripts going_on check_ends interrupts
+run_tests "$@"

@@ -93,4 +93,5 @@ test_interrupts() {
     expect 'the worktree still works' [ "$(status_of -- true "$(git rev-parse HEAD)")" = 0 ]
 }
 
-run_tests verdicts content modes limits many_at_once interrupts
+[ $# -gt 0 ] || set -- verdicts content modes limits many_at_once interrupts
+run_tests "$@"

@@ -1,0 +1,85 @@
+#!/bin/sh
+# Tests of farmdawn-ssh, with a server of their own on the loopback address.
+. "$(dirname "$0")/helpers.sh"
+
+has_ssh() { command -v ssh >/dev/null && command -v ssh-keygen >/dev/null && [ -x "$(command -v sshd || echo /usr/sbin/sshd)" ]; }
+
+port=$((20000 + $$ % 20000))
+
+# A server with a key of its own, that takes so many connections at once while they begin.
+start_server() {
+    umask 077
+    ssh-keygen -q -t ed25519 -N '' -f host && ssh-keygen -q -t ed25519 -N '' -f user || exit 1
+    mkdir -p /run/sshd
+    printf '%s\n' "Port $port" 'ListenAddress 127.0.0.1' "HostKey $PWD/host" "AuthorizedKeysFile $PWD/user.pub" 'StrictModes no' \
+        "PidFile $PWD/server.pid" 'UsePAM no' "MaxStartups ${1:-100}" >config
+    "$(command -v sshd || echo /usr/sbin/sshd)" -f "$PWD/config" || exit 1
+    ssh_options="-p$port -i$PWD/user -oStrictHostKeyChecking=no -oUserKnownHostsFile=/dev/null -oIdentitiesOnly=yes -oLogLevel=ERROR"
+    trap 'kill "$(cat server.pid)" 2>/dev/null' EXIT
+}
+
+by_ssh() {
+    words=''
+    for word in $ssh_options; do words="$words --ssh $word"; done
+    # shellcheck disable=SC2086
+    farmdawn-ssh --slots "$PWD/slots" $words "$@"
+}
+
+status_of() {
+    by_ssh --tries 1 "$@" >>output 2>&1
+    echo $?
+}
+
+needs_verdicts() { has_ssh; }
+test_verdicts() {
+    start_server
+    expect 'good' [ "$(status_of 127.0.0.1 -- true name)" = 0 ]
+    expect 'bad' [ "$(status_of 127.0.0.1 -- sh -c 'exit 7' name)" = 7 ]
+    expect 'skip' [ "$(status_of 127.0.0.1 -- sh -c 'exit 125' name)" = 125 ]
+    expect 'its own 255' [ "$(status_of 127.0.0.1 -- sh -c 'exit 255' name)" = 255 ]
+    expect 'killed' [ "$(status_of 127.0.0.1 -- sh -c 'kill -9 $$' name)" = 137 ]
+    expect 'words with blanks and quotes' [ "$(status_of 127.0.0.1 -- sh -c 'test "$1|$2|$3" = "a b|it'\''s|name"' sh 'a b' "it's" name)" = 0 ]
+    expect 'the folder' [ "$(status_of --folder / 127.0.0.1 -- sh -c 'test "$PWD" = /' name)" = 0 ]
+    expect 'output goes to standard error' [ -z "$(by_ssh 127.0.0.1 -- echo text name 2>/dev/null)" ]
+}
+
+needs_lost_tests() { has_ssh; }
+test_lost_tests() {
+    start_server
+    expect 'no verdict of a host that is not there' [ "$(status_of 127.0.0.77 -- true name)" = 255 ]
+    expect 'or a skip' [ "$(status_of --skip-lost 127.0.0.77 -- true name)" = 125 ]
+    expect 'no verdict without the folder' [ "$(status_of --folder /nowhere 127.0.0.1 -- true name)" = 255 ]
+    by_ssh --tries 2 127.0.0.77 127.0.0.1 -- sh -c 'exit 9' name
+    expect 'another host tests it' [ $? = 9 ]
+}
+
+needs_interrupts() { has_ssh; }
+test_interrupts() {
+    start_server
+    for pause in 0.2 0.6 1; do
+        by_ssh 127.0.0.1 -- sleep 77.5 name &
+        sleep $pause
+        kill -TERM "$(pgrep -f '^/bin/sh .*farmdawn-ssh' | head -n 1)" 2>/dev/null
+        wait $!
+    done
+    sleep 1
+    expect 'no test runs on' [ -z "$(pgrep -f '^sleep 77.5')" ]
+}
+
+needs_many() { has_ssh; }
+test_many() {
+    start_server 4:30:100
+    number=0
+    while [ $number -lt 24 ]; do
+        (
+            by_ssh --tries 5 127.0.0.1:12 -- sh -c 'sleep 0.1; exit $(($1 % 3))' sh "$number" 2>>errors
+            [ $? -eq $((number % 3)) ] || echo "$number" >>wrong
+        ) &
+        number=$((number + 1))
+    done
+    wait
+    expect 'each verdict is right' [ ! -e wrong ]
+}
+
+[ $# -gt 0 ] || set -- verdicts lost_tests interrupts many
+run_tests "$@"
