@@ -1,0 +1,44 @@
+# Completion of farmdawn and git farmdawn for bash.
+
+_farmdawn_options() {
+    case $1 in
+    simulate | run) echo --workers --leg --trace --first-parent --term-new --term-old --skip --replay --lenient-exit ;;
+    next) echo --first-parent --term-new --term-old --skip --replay ;;
+    replay) echo --replay ;;
+    sample) echo --workers ;;
+    esac
+}
+
+_farmdawn() {
+    local word=${COMP_WORDS[COMP_CWORD]} before=${COMP_WORDS[COMP_CWORD - 1]} index
+    COMPREPLY=()
+    if [ "$COMP_CWORD" -eq 1 ]; then
+        mapfile -t COMPREPLY < <(compgen -W 'simulate run next replay gen sample --help --version' -- "$word")
+        return
+    fi
+    for ((index = 2; index < COMP_CWORD; index++)); do
+        if [ "${COMP_WORDS[index]}" = -- ]; then
+            compopt -o default
+            return
+        fi
+    done
+    case $before in
+    --replay) compopt -o default ;;
+    --workers | --leg | --term-new | --term-old) ;;
+    *)
+        case $word in
+        -*) mapfile -t COMPREPLY < <(compgen -W "$(_farmdawn_options "${COMP_WORDS[1]}") --" -- "$word") ;;
+        *) mapfile -t COMPREPLY < <(compgen -W "$(git for-each-ref --format='%(refname:short)' 2>/dev/null)" -- "$word") ;;
+        esac
+        ;;
+    esac
+}
+
+_git_farmdawn() {
+    case $cur in
+    -*) __gitcomp '--workers --first-parent --term-new --term-old --skip --check-ends --timeout --copy --submodules --log-dir --fresh' ;;
+    *) __git_complete_refs ;;
+    esac
+}
+
+complete -F _farmdawn farmdawn
