@@ -6,8 +6,10 @@ mod goods;
 pub mod laws;
 mod rows;
 mod state;
+mod weighed;
 
 pub use state::State;
+pub use weighed::Weighed;
 
 #[cfg(test)]
 mod tests;
