@@ -1,15 +1,8 @@
 -- No place is asked twice along a path.
-use Rattle.std.proofs.Common.{◌≡◌, ℕ, ◌<◌, ◌≤◌, Bool, true, false, not, ◌&&◌, ◌||◌, ◌==◌, cond, List, [], ◌∷◌, ◌++◌, length, set, Option, Some, None, refl, sym, ◌∙◌, subst, arith, eq-eqb}
-use Rattle.std.proofs.lemmas.Bool.{and_parts, and_from, or_parts, not-true, not_from_false, false_from_ne_true, both_ways, cond-false, ne_eqb}
-use Rattle.std.proofs.lemmas.List.{get_or-set_same}
-use Rattle.std.proofs.lemmas.List.Folds.{list_any-append}
+use Rattle.std.proofs.Common.{◌≡◌, ℕ, true, List, [], ◌∷◌}
 use Rattle.bf_graph.specs.Graph.{IsGraph}
 use Rattle.bf_search.specs.declared.asks.Ask.TheVariants.{Test}
 use Rattle.bf_search.specs.declared.outcomes.Mark.{Mark}
-use Rattle.bf_search.specs.declared.outcomes.Mark.TheVariants.{Good, Bad, Skip}
-use Rattle.bf_search.specs.Reach.{Reaches, reaches}
-use Rattle.bf_search.specs.Candidates.{is_in}
-use Rattle.bf_search.specs.Bases.{has_place}
 use Rattle.bf_search.specs.Outcomes.{Outcomes}
 use Rattle.bf_search.specs.State.{Search, IsSearchOver, ask, mark}
 use Rattle.bf_search.specs.LeftToAsk.{may_ask}
@@ -17,7 +10,7 @@ use Rattle.bf_search.proofs.Turns.{Asking, asking, IsSearchOver-marked, MayAsk, 
 use Rattle.bf_search.specs.OpenPaths.{Leads}
 
 -- one step back along a path
-before_step : (graph : List (List ℕ)) (s : Search) (m : Mark) (q p : ℕ) → IsGraph graph → IsSearchOver graph s → (ask graph s).step.ask ≡ Test q → may_ask graph (mark (ask graph s).search m q) p ≡ true → MayAsk graph s p × (q ≡ p → ⊥)
+pub before_step : (graph : List (List ℕ)) (s : Search) (m : Mark) (q p : ℕ) → IsGraph graph → IsSearchOver graph s → (ask graph s).step.ask ≡ Test q → may_ask graph (mark (ask graph s).search m q) p ≡ true → MayAsk graph s p × (q ≡ p → ⊥)
 before_step graph s m q p g over h k =
     let a : Asking graph s (ask graph s) q = asking graph s q g h in
     shrinks graph s (ask graph s).search m q p g a.asks_for a.same (rw over.skips a.asks_for.within) k

@@ -1,11 +1,10 @@
 -- A core goes on from the state that it has consumed to: the run on the longer table is the one so far, followed by the
 -- run from there, also with a leg.
-use Rattle.std.proofs.Common.{◌≡◌, ℕ, zero, suc, ◌-◌, ◌<◌, true, List, [], ◌∷◌, ◌++◌, length, map, Option, Some, None, refl, sym, ap, ◌∙◌, subst, append_assoc, arith}
+use Rattle.std.proofs.Common.{◌≡◌, ℕ, zero, suc, ◌-◌, ◌<◌, true, List, [], ◌∷◌, length, map, Option, Some, None, refl, sym, ap, ◌∙◌, arith}
 use Rattle.std.specs.Option.{IfSome}
 use Rattle.bf_graph.specs.Graph.{IsGraph}
 use Rattle.bf_search.specs.declared.asks.Ask.{Ask}
 use Rattle.bf_search.specs.declared.asks.Ask.TheVariants.{WaitBoth, WaitBad, WaitGood, Test, MergeBaseBad, GoodNotAncestor, BothSides, FirstBad, OnlySkipped}
-use Rattle.bf_search.specs.declared.entries.Entry.{Entry}
 use Rattle.bf_search.specs.declared.entries.Entry.TheVariants.{Marked, SkippedBase}
 use Rattle.bf_search.specs.declared.outcomes.Outcome.{Outcome}
 use Rattle.bf_search.specs.declared.outcomes.Mark.{Mark}
@@ -15,7 +14,7 @@ use Rattle.bf_search.specs.Outcomes.{Outcomes, verdict_of}
 use Rattle.bf_search.specs.State.{Search, Asked, IsSearchOver, ask, mark}
 use Rattle.bf_search.specs.Run.{Run, with_entries, with_used, marked_one, left_after, after_verdict, after_look, after_step, after_ask, turn, run_within, run}
 use Rattle.bf_search.specs.LeftToAsk.{left_to_ask}
-use Rattle.bf_search.proofs.Turns.{Asking, asking, left_to_ask-falls, left_to_ask-le, IsSearchOver-marked, run-is}
+use Rattle.bf_search.proofs.Turns.{left_to_ask-falls, left_to_ask-le, IsSearchOver-marked, run-is}
 use Rattle.bf_guesses.specs.Ends.{IsUnspent}
 use Rattle.bf_state.specs.Runs.{IsPartOf, is_open, in_sequence}
 use Rattle.bf_state.proofs.AskAgain.{ask_again}

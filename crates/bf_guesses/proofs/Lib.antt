@@ -5,3 +5,6 @@ pub mod OnePath
 pub mod Best
 pub mod Way
 pub mod Legs
+pub mod Used
+pub mod Causes
+pub mod Plans

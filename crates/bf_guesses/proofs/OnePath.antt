@@ -106,7 +106,7 @@ settled graph s q h passed = of_kind (asked_by graph s q h)
     of_kind (among_candidates c k) = (c, k)
     of_kind (by_check bad b n unpassed t) = absurd (both_ways s.checked unpassed passed)
 
-expected_is : (graph : List (List ℕ)) (s : Search) (q : ℕ) → IsGraph graph → (ask graph s).step.ask ≡ Test q → is_expected (ask graph s).search q ≡ true
+pub expected_is : (graph : List (List ℕ)) (s : Search) (q : ℕ) → IsGraph graph → (ask graph s).step.ask ≡ Test q → is_expected (ask graph s).search q ≡ true
 expected_is graph s q g h = rw (asking graph s q g h).expected (eq-eqb q q refl)
 
 pub stays_checked : (graph : List (List ℕ)) (s : Search) (m : Mark) (q : ℕ) → IsGraph graph → (ask graph s).step.ask ≡ Test q → (ask graph s).search.checked ≡ true → (mark (ask graph s).search m q).checked ≡ true
@@ -204,12 +204,11 @@ asks_none graph s bad p b n unpassed is h =
         ∙ ap (λ (v : Bool). cond v (ask_candidates graph s bad []) (ask_checked graph s bad (check graph bad s.goods s.skips))) unpassed
         ∙ ap (λ (c : Check). ask_checked graph s bad c) is
 
-pub bad_base_ends : (graph : List (List ℕ)) (s : Search) (bad q p : ℕ) → IsGraph graph → (ask graph s).step.ask ≡ Test q → (s.goods ≡ [] → ⊥) → s.bad ≡ Some bad → (ask graph s).search.checked ≡ false → check graph bad s.goods s.skips ≡ TestBase q
-    → (ask graph (mark (ask graph s).search Bad q)).step.ask ≡ Test p → ⊥
-unfolding mark
-bad_base_ends graph s bad q p g h n b unpassed tested =
-    asks_none graph (mark (ask graph s).search Bad q) q p refl (λ e. n (sym a.same.goods ∙ e)) (ap (λ (v : Bool). v && is_expected (ask graph s).search q) unpassed)
-    (ap (λ (gs : List ℕ). check graph q gs (ask graph s).search.skips) a.same.goods ∙ ap (λ (ks : List Bool). check graph q s.goods ks) a.same.skips ∙ check_of_base graph bad q s.goods s.skips g a.asks_for.within reached tested)
+-- after bad on an asked base, the check says that it is a base
+pub check_after_bad : (graph : List (List ℕ)) (s : Search) (bad q : ℕ) → IsGraph graph → (ask graph s).step.ask ≡ Test q → s.bad ≡ Some bad → check graph bad s.goods s.skips ≡ TestBase q
+    → check graph q (ask graph s).search.goods (ask graph s).search.skips ≡ BaseIsBad q
+check_after_bad graph s bad q g h b tested =
+    ap (λ (gs : List ℕ). check graph q gs (ask graph s).search.skips) a.same.goods ∙ ap (λ (ks : List Bool). check graph q s.goods ks) a.same.skips ∙ check_of_base graph bad q s.goods s.skips g a.asks_for.within reached tested
   where
     a : Asking graph s (ask graph s) q
     a = asking graph s q g h
@@ -219,6 +218,13 @@ bad_base_ends graph s bad q p g h n b unpassed tested =
       where
         some_same : {x y : ℕ} → Some x ≡ Some y → x ≡ y
         some_same e = cc
+
+pub bad_base_ends : (graph : List (List ℕ)) (s : Search) (bad q p : ℕ) → IsGraph graph → (ask graph s).step.ask ≡ Test q → (s.goods ≡ [] → ⊥) → s.bad ≡ Some bad → (ask graph s).search.checked ≡ false → check graph bad s.goods s.skips ≡ TestBase q
+    → (ask graph (mark (ask graph s).search Bad q)).step.ask ≡ Test p → ⊥
+unfolding mark
+bad_base_ends graph s bad q p g h n b unpassed tested =
+    asks_none graph (mark (ask graph s).search Bad q) q p refl (λ e. n (sym (asking graph s q g h).same.goods ∙ e)) (ap (λ (v : Bool). v && is_expected (ask graph s).search q) unpassed)
+    (check_after_bad graph s bad q g h b tested)
 
 -- ---- the two guesses lead to different places
 
