@@ -8,3 +8,5 @@ pub mod Legs
 pub mod Used
 pub mod Causes
 pub mod Plans
+pub mod Rows
+pub mod Legal

@@ -1,3 +1,4 @@
 pub mod Way
 pub mod Ends
 pub mod Used
+pub mod Tidy

@@ -4,5 +4,7 @@
 //! the law.
 #![tactic(auto)]
 
+pub mod farms;
+pub mod masks;
 pub mod paths;
 pub mod runs;
