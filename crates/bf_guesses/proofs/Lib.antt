@@ -10,3 +10,5 @@ pub mod Causes
 pub mod Plans
 pub mod Rows
 pub mod Legal
+pub mod Lines
+pub mod Halves

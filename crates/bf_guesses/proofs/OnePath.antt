@@ -37,7 +37,7 @@ one_chosen : (b : Bool) (t : Search) (bad : ℕ) (warned ps : List ℕ) (chosen 
 one_chosen true t bad warned ps chosen q h = cc
 one_chosen false t bad warned ps chosen q h = best_chosen t warned ps chosen q h
 
-among_chosen : (t : Search) (bad : ℕ) (warned ps : List ℕ) (chosen : Option ℕ) (q : ℕ) → (ask_among t bad warned ps chosen).step.ask ≡ Test q → chosen ≡ Some q
+pub among_chosen : (t : Search) (bad : ℕ) (warned ps : List ℕ) (chosen : Option ℕ) (q : ℕ) → (ask_among t bad warned ps chosen).step.ask ≡ Test q → chosen ≡ Some q
 among_chosen t bad warned [] chosen q h = cc
 among_chosen t bad warned (p ∷ []) chosen q h = one_chosen (p == bad) t bad warned (p ∷ []) chosen q h
 among_chosen t bad warned (p ∷ r ∷ ps) chosen q h = best_chosen t warned (p ∷ r ∷ ps) chosen q h
@@ -99,7 +99,7 @@ unfolding ask
 asked_by graph s q h = ends_by graph s s.bad s.goods q refl refl h
 
 -- where the check has passed before, the place is a candidate, and the check has passed after
-settled : (graph : List (List ℕ)) (s : Search) (q : ℕ) → (ask graph s).step.ask ≡ Test q → s.checked ≡ true → ((ask graph s).search.checked ≡ true) × (is_candidate_of graph s q ≡ true)
+pub settled : (graph : List (List ℕ)) (s : Search) (q : ℕ) → (ask graph s).step.ask ≡ Test q → s.checked ≡ true → ((ask graph s).search.checked ≡ true) × (is_candidate_of graph s q ≡ true)
 settled graph s q h passed = of_kind (asked_by graph s q h)
   where
     of_kind : AskedBy graph s (ask graph s) q → ((ask graph s).search.checked ≡ true) × (is_candidate_of graph s q ≡ true)
@@ -130,7 +130,7 @@ all_more f h (x ∷ xs) more a =
     let parts = and_parts (f x) (list_all f xs) a in
     and_from (h x) (list_all h xs) (more x parts.0) (all_more f h xs more parts.1)
 
-filter_has : (test : ℕ → Bool) (xs : List ℕ) (x : ℕ) → Contains xs x → test x ≡ true → Contains (filter test xs) x
+pub filter_has : (test : ℕ → Bool) (xs : List ℕ) (x : ℕ) → Contains xs x → test x ≡ true → Contains (filter test xs) x
 filter_has test [] x c t = absurd (omega (arith, c.1))
 filter_has test (y ∷ ys) x (zero, l, e) t =
     let here : test y ≡ true = ap test e ∙ t in

@@ -74,7 +74,7 @@ row_of : (graph : List (List ℕ)) (s : Search) (bad : ℕ) → s.bad ≡ Some b
 unfolding candidate_row
 row_of graph s bad b = subst (λ (o : Option ℕ). row_below graph o s ≡ map (λ p. is_candidate_below graph o s p) (places graph)) (sym b) refl
 
-after_good : (graph : List (List ℕ)) (s : Search) (q p : ℕ) → IsGraph graph → (ask graph s).step.ask ≡ Test q → is_candidate_of graph (mark (ask graph s).search Good q) p ≡ (is_candidate_of graph s p && not (reaches graph q p))
+pub after_good : (graph : List (List ℕ)) (s : Search) (q p : ℕ) → IsGraph graph → (ask graph s).step.ask ≡ Test q → is_candidate_of graph (mark (ask graph s).search Good q) p ≡ (is_candidate_of graph s p && not (reaches graph q p))
 unfolding mark is_candidate
 after_good graph s q p g h =
     ap (λ (o : Option ℕ). is_candidate_below graph o (mark t Good q) p) (a.same.bad ∙ a.asks_for.bad_is)
@@ -98,7 +98,7 @@ after_good graph s q p g h =
     split true false r = refl
     split false d r = refl
 
-after_bad : (graph : List (List ℕ)) (s : Search) (q p : ℕ) → IsGraph graph → (ask graph s).step.ask ≡ Test q → is_candidate_of graph (mark (ask graph s).search Bad q) p ≡ (is_candidate_of graph s p && reaches (in_mode graph s.first_parent) q p)
+pub after_bad : (graph : List (List ℕ)) (s : Search) (q p : ℕ) → IsGraph graph → (ask graph s).step.ask ≡ Test q → is_candidate_of graph (mark (ask graph s).search Bad q) p ≡ (is_candidate_of graph s p && reaches (in_mode graph s.first_parent) q p)
 unfolding mark is_candidate
 after_bad graph s q p g h =
     after ∙ meet (is_candidate_of graph s p) (reaches (in_mode graph s.first_parent) a.asks_for.bad p) (reaches (in_mode graph s.first_parent) q p) (any_reaches graph s.goods p)

@@ -1,5 +1,5 @@
 //! Laws of runs.
-ghost use Rattle.std.specs.Prelude.{◌≡◌, ◌≢◌, ◌↔◌, ℕ, ◌<◌, true, false, [], Some, None, List, Option, length, map};
+ghost use Rattle.std.specs.Prelude.{◌≡◌, ◌≢◌, ◌↔◌, ℕ, ◌*◌, ◌^◌, ◌<◌, ◌≤◌, All, true, false, [], Some, None, List, Option, length, map};
 ghost use Rattle.std.specs.List.{AllPairs};
 ghost use Rattle.bf_graph.specs.Graph.{IsGraph};
 ghost use Rattle.bf_search.specs.declared.asks.Ask.TheVariants.{Test, MergeBaseBad};
@@ -10,9 +10,11 @@ ghost use Rattle.bf_search.specs.declared.outcomes.Outcome.{Outcome};
 ghost use Rattle.bf_search.specs.Outcomes.{Outcomes, outcomes_of_pairs};
 ghost use Rattle.bf_search.specs.State.{Search, IsSearchOver, ask, mark};
 ghost use Rattle.bf_search.specs.Run.{Leg, Open, left_after, with_entries, run, seq};
+ghost use Rattle.bf_search.specs.OpenPaths.{left_of};
 ghost use Rattle.bf_search.specs.Farm.{end_of};
 ghost use Rattle.bf_state.specs.Runs.{IsPartOf, is_open, is_unfinished, in_sequence};
 ghost use Rattle.bf_guesses.specs.Ends.{HasEnds, marks_of, IsUnspent};
+ghost use Rattle.bf_guesses.specs.Halving.{IsLine, NoneSkipped, IsGoodOrBad};
 ghost use Rattle.bf_guesses.specs.Used.{TellsUsed};
 
 /// A run that waits for an outcome goes on from the state that it reached, in the same leg.
@@ -101,4 +103,11 @@ pub fn whole_plans_end()
 pub fn bad_bases_are_told()
     ensures { (graph : List (List ℕ)) (s : Search) (q : ℕ) → IsGraph graph → (ask graph s).step.ask ≡ Test q → (ask graph s).search.checked ≡ false →
         (ask graph (mark (ask graph s).search Bad q)).step ≡ record { warned = []; ask = MergeBaseBad q } }
+{}
+
+/// Where the candidates stand in one line, a run that tests `n` of them, each good or bad, began with more
+/// than half of `2 ^ n` candidates: each test halves them.
+pub fn halving()
+    ensures { (graph : List (List ℕ)) (known : Outcomes) (left : Option ℕ) (s : Search) → IsGraph graph → IsSearchOver graph s → s.checked ≡ true → NoneSkipped s → IsLine graph s →
+        All (λ pair. IsGoodOrBad pair.1) (run graph known left s).used → 1 ≤ left_of graph s → 2 ^ length (run graph known left s).used < 2 * left_of graph s }
 {}
