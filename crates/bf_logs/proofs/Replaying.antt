@@ -1,5 +1,5 @@
 -- Replaying the command lines of entries leads where the entries lead.
-use Rattle.std.proofs.Common.{◌≡◌, ℕ, ◌==◌, Bool, true, false, List, [], ◌∷◌, map, codes, Option, Some, None, Result, Ok, refl, ap, ◌∙◌, eq-eqb}
+use Rattle.std.proofs.Common.{◌≡◌, ℕ, ◌==◌, cond, Bool, true, false, List, [], ◌∷◌, map, codes, Option, Some, None, Result, Ok, refl, ap, ◌∙◌, eq-eqb}
 use Rattle.std.proofs.lemmas.Bool.{and_from, cond-false, cond-true}
 use Rattle.std.specs.Cmp.Lexicographic.{pointwise}
 use Rattle.bf_search.specs.declared.entries.Entry.{Entry}
@@ -15,7 +15,7 @@ use Rattle.bf_reading.specs.declared.line.LogWord.TheVariants.{MarkWord}
 use Rattle.bf_terms.specs.Words.{term_fault}
 use Rattle.bf_terms.specs.declared.terms.TermFault.{TermFault}
 use Rattle.bf_logs.specs.Written.{given_term, names_of, start_word, words_of_entries}
-use Rattle.bf_logs.specs.Replay.{Setting, ReplayFault, Replayed, if_ok, named, places_of, started_at, tried, take_start, Worded, mark_of, worded, take_mark, stays_open, take_line, replay_from, replay}
+use Rattle.bf_logs.specs.Replay.{Setting, ReplayFault, Replayed, if_ok, named, places_of, begun_at, tried, take_start, Worded, mark_in, by_terms, open_sides, mark_of, worded, take_mark, stays_open, take_line, replay_from, replay}
 use Rattle.bf_logs.proofs.Terms.{accepted_from}
 use Rattle.bf_logs.specs.Resolved.{AreTerms, FitsStart, ArePlaced, AreResolved}
 
@@ -23,13 +23,20 @@ is_word_same : (w : List ℕ) → is_word w w ≡ true
 is_word_same [] = refl
 is_word_same (b ∷ bs) = and_from (b == b) (pointwise ◌==◌ bs bs) (eq-eqb b b refl) (is_word_same bs)
 
+mark_in_is : (sides : Sides) (m : Mark) → AreTerms sides → mark_in sides (word_of_mark sides m) ≡ Some m
+mark_in_is sides Bad t = cond-true (is_word sides.new sides.new) _ _ (is_word_same sides.new)
+mark_in_is sides Good t =
+    cond-false (is_word sides.new sides.old) _ _ t.apart
+    ∙ cond-true (is_word sides.old sides.old) _ _ (is_word_same sides.old)
+mark_in_is sides Skip t =
+    cond-false (is_word sides.new (codes "skip")) _ _ t.new_no_skip
+    ∙ cond-false (is_word sides.old (codes "skip")) _ _ t.old_no_skip
+
 mark_is : (sides : Sides) (m : Mark) (o : Bool) → AreTerms sides
     → mark_of sides o (word_of_mark sides m) ≡ Some (record { mark = m; terms = sides })
-mark_is sides Bad o t = cond-true (is_word sides.new sides.new) _ _ (is_word_same sides.new)
-mark_is sides Good o t = cond-false (is_word sides.new sides.old) _ _ t.apart
-    ∙ cond-true (is_word sides.old sides.old) _ _ (is_word_same sides.old)
-mark_is sides Skip o t = cond-false (is_word sides.new (codes "skip")) _ _ t.new_no_skip
-    ∙ cond-false (is_word sides.old (codes "skip")) _ _ t.old_no_skip
+mark_is sides m o t =
+    ap (λ (k : Option Mark). by_terms sides k (cond o (by_terms open_sides (mark_in open_sides (word_of_mark sides m)) None) None))
+    (mark_in_is sides m t)
 
 module _ {F : Type 0} (setting : Setting F) (commits : Commits) (sides : Sides) where
   mark_taken : (told : Told) (line : ℕ) (m : Mark) (p : ℕ) → AreTerms sides
@@ -98,38 +105,28 @@ module _ {F : Type 0} (setting : Setting F) (commits : Commits) (sides : Sides) 
         terms_open = false;
       })
   start_taken line first_parent true bad goods fits are placed =
-      ap (λ (o : Option TermFault). if_ok (tried line sides o)
-      (λ x. if_ok (places_of setting line (names_of commits (Some bad) goods))
-      (λ places. Ok (record {
-        told = started_at setting.graph first_parent true places;
-        terms = x;
-        terms_open = false;
-      })))) are
-      ∙ ap (λ (r : Result (List ℕ) (ReplayFault F)). if_ok r
-      (λ places. Ok (record {
-        told = started_at setting.graph first_parent true places;
-        terms = sides;
-        terms_open = false;
-      }))) (goods_placed line (bad ∷ goods) placed)
+      ap (λ (o : Option TermFault). if_ok (tried line sides o) (λ x. if_ok (places_of setting line
+          (names_of commits (Some bad) goods)) (λ places. Ok (given x places)))) are
+      ∙ ap (λ (r : Result (List ℕ) (ReplayFault F)). if_ok r (λ places. Ok (given sides places)))
+      (goods_placed line (bad ∷ goods) placed)
+    where
+      given : Sides → List ℕ → Replayed
+      given x places = begun_at setting.graph x first_parent (Some sides.new) (Some sides.old)
+          (names_of commits (Some bad) goods) places
   start_taken line first_parent false bad goods fits are placed =
-      ap (λ (o : Option TermFault). if_ok (tried line standard_sides o)
-      (λ x. if_ok (places_of setting line (names_of commits (Some bad) goods))
-      (λ places. Ok (record {
-        told = started_at setting.graph first_parent false places;
-        terms = x;
-        terms_open = false;
-      })))) (ap (λ (x : Sides). term_fault x.new x.old) fits ∙ are)
-      ∙ ap (λ (r : Result (List ℕ) (ReplayFault F)). if_ok r
-      (λ places. Ok (record {
-        told = started_at setting.graph first_parent false places;
-        terms = standard_sides;
-        terms_open = false;
-      }))) (goods_placed line (bad ∷ goods) placed)
+      ap (λ (o : Option TermFault). if_ok (tried line standard_sides o) (λ x. if_ok (places_of setting line
+          (names_of commits (Some bad) goods)) (λ places. Ok (given x places))))
+      (ap (λ (x : Sides). term_fault x.new x.old) fits ∙ are)
+      ∙ ap (λ (r : Result (List ℕ) (ReplayFault F)). if_ok r (λ places. Ok (given standard_sides places)))
+      (goods_placed line (bad ∷ goods) placed)
       ∙ ap (λ (x : Sides). Ok (record {
         told = started setting.graph first_parent false (Some bad) goods;
         terms = x;
         terms_open = false;
       })) fits
+    where
+      given : Sides → List ℕ → Replayed
+      given x places = begun_at setting.graph x first_parent None None (names_of commits (Some bad) goods) places
 
   -- Replaying the lines of a start with both ends, and of entries behind it, leads where they lead.
   pub replay_started : (first_parent terms_given : Bool) (bad : ℕ) (goods : List ℕ) (entries : List Entry)

@@ -63,20 +63,34 @@ abbrev pub tried : {F : Type 0} → ℕ → Sides → Option TermFault → Resul
 tried line sides None = Ok sides
 tried line sides (Some fault) = Err (Term line)
 
-abbrev pub started_at : List (List ℕ) → Bool → Bool → List ℕ → Told
-started_at graph first_parent terms_given [] = started graph first_parent terms_given None []
-started_at graph first_parent terms_given (bad ∷ goods) = started graph first_parent terms_given (Some bad) goods
+abbrev pub terms_tried : {F : Type 0} → ℕ → Sides → Result Sides (ReplayFault F)
+terms_tried line sides = tried line sides (term_fault sides.new sides.old)
+
+abbrev pub bad_of : List ℕ → Option ℕ
+bad_of [] = None
+bad_of (bad ∷ goods) = Some bad
+
+abbrev pub goods_of : List ℕ → List ℕ
+goods_of [] = []
+goods_of (bad ∷ goods) = goods
 
 -- a start with neither terms nor names leaves the terms open
+abbrev pub leaves_open : Option (List ℕ) → Option (List ℕ) → List (List ℕ) → Bool
+leaves_open new old revs = not (names_terms new old) && has_none revs
+
+abbrev pub begun_at : List (List ℕ) → Sides → Bool → Option (List ℕ) → Option (List ℕ) → List (List ℕ) → List ℕ → Replayed
+begun_at graph sides first_parent new old revs places = record {
+  told = started graph first_parent (names_terms new old) (bad_of places) (goods_of places);
+  terms = sides;
+  terms_open = leaves_open new old revs;
+}
+
 abbrev pub take_start : {F : Type 0} → Setting F → ℕ → Bool → Option (List ℕ) → Option (List ℕ) → List (List ℕ)
     → Result Replayed (ReplayFault F)
 take_start setting line first_parent new old revs =
-    if_ok (tried line (terms_of new old) (term_fault (terms_of new old).new (terms_of new old).old))
-    (λ sides. if_ok (places_of setting line revs) (λ places. Ok (record {
-      told = started_at setting.graph first_parent (names_terms new old) places;
-      terms = sides;
-      terms_open = not (names_terms new old) && has_none revs;
-    })))
+    if_ok (terms_tried line (terms_of new old))
+    (λ sides. if_ok (places_of setting line revs)
+    (λ places. Ok (begun_at setting.graph sides first_parent new old revs places)))
 
 -- ---- a mark: its word is tried first, then its name
 
@@ -88,15 +102,22 @@ pub record Worded : Type 0 where
 abbrev pub open_sides : Sides
 open_sides = record { new = codes "new"; old = codes "old" }
 
+-- the mark that a word makes by its terms
+abbrev pub mark_in : Sides → List ℕ → Option Mark
+mark_in sides word =
+    if is_word sides.new word then Some Bad
+    else if is_word sides.old word then Some Good
+    else if is_word (codes "skip") word then Some Skip
+    else None
+
+abbrev pub by_terms : Sides → Option Mark → Option Worded → Option Worded
+by_terms sides (Some mark) other = Some (record { mark = mark; terms = sides })
+by_terms sides None other = other
+
 -- while the terms are open, new and old make themselves the terms
 abbrev pub mark_of : Sides → Bool → List ℕ → Option Worded
 mark_of sides terms_open word =
-    if is_word sides.new word then Some (record { mark = Bad; terms = sides })
-    else if is_word sides.old word then Some (record { mark = Good; terms = sides })
-    else if is_word (codes "skip") word then Some (record { mark = Skip; terms = sides })
-    else if terms_open && is_word open_sides.new word then Some (record { mark = Bad; terms = open_sides })
-    else if terms_open && is_word open_sides.old word then Some (record { mark = Good; terms = open_sides })
-    else None
+    by_terms sides (mark_in sides word) (if terms_open then by_terms open_sides (mark_in open_sides word) None else None)
 
 -- the first good or bad mark closes the terms
 abbrev pub stays_open : Bool → Mark → Bool
