@@ -1,6 +1,6 @@
 -- A core goes on from the state that it has consumed to: the run on the longer table is the one so far, followed by the
 -- run from there, also with a leg.
-use Rattle.std.proofs.Common.{◌≡◌, ℕ, zero, suc, ◌-◌, ◌<◌, true, List, [], ◌∷◌, length, map, Option, Some, None, refl, sym, ap, ◌∙◌, arith}
+use Rattle.std.proofs.Common.{◌≡◌, ℕ, zero, suc, ◌-◌, ◌<◌, true, List, [], ◌∷◌, length, map, Option, Some, None, refl, sym, subst, ap, ◌∙◌, arith}
 use Rattle.std.specs.Option.{IfSome}
 use Rattle.bf_graph.specs.Graph.{IsGraph}
 use Rattle.bf_search.specs.declared.asks.Ask.{Ask}
@@ -17,6 +17,7 @@ use Rattle.bf_search.specs.LeftToAsk.{left_to_ask}
 use Rattle.bf_search.proofs.Turns.{left_to_ask-falls, left_to_ask-le, IsSearchOver-marked, run-is}
 use Rattle.bf_guesses.specs.Ends.{IsUnspent}
 use Rattle.bf_state.specs.Runs.{IsPartOf, is_open, in_sequence}
+use Rattle.bf_state.proofs.Asks.{ask_leaves, decision_within}
 use Rattle.bf_state.proofs.AskAgain.{ask_again}
 use Rattle.bf_state.proofs.Tables.{sequence_entries, over_asked}
 
@@ -124,3 +125,13 @@ run_asked graph known left s g over asked unspent =
     ∙ turn_asks graph known (run graph known) left s unspent
     ∙ sym (ap (λ (r : Run). with_entries (map (λ p. SkippedBase p) (ask graph s).step.warned) r)
     (run-is graph known left (ask graph s).search g asked ∙ turn_asks graph known (run graph known) left (ask graph s).search unspent ∙ ap (λ (a : Asked). after_ask known (run graph known) left a) (ask_again graph s)))
+
+-- the places of a search that has asked are places of the graph
+pub asked_over : (graph : List (List ℕ)) (s : Search) → IsGraph graph → IsSearchOver graph s → IsSearchOver graph (ask graph s).search
+asked_over graph s g over =
+    subst (λ (t : Search). IsSearchOver graph t) (sym (ask_leaves graph s)) (record {
+      bad = over.bad;
+      goods = over.goods;
+      skips = over.skips;
+      expected = decision_within graph s (ask graph s).search.checked (ask graph s).step g (record { checked = refl; step = refl });
+    })

@@ -9,12 +9,14 @@ ghost use Rattle.bf_guesses.specs.Tidy.{IsTidy};
 
 /// Legal events keep the claims of different workers and places, and each claimed place without an outcome.
 pub fn events_keep_farms_tidy()
-    ensures { (setting : Setting) (farm next : Farm) (events : List Event) → IsTidy farm → after_events setting (Some farm) events ≡ Some next → IsTidy next }
+    ensures { (setting : Setting) (farm next : Farm) (events : List Event) → IsTidy farm →
+        after_events setting (Some farm) events ≡ Some next → IsTidy next }
 {}
 
 /// Before the post of a claim its place has no outcome, so each place gets one at most.
 pub fn posts_tell_what_is_not_known()
-    ensures { (farm : Farm) (worker p : ℕ) → IsTidy farm → stands farm.claims worker p ≡ true → outcomes_of_table farm.table p ≡ None }
+    ensures { (farm : Farm) (worker p : ℕ) → IsTidy farm → stands farm.claims worker p ≡ true →
+        outcomes_of_table farm.table p ≡ None }
 {}
 
 /// Events one list after another lead where both lists lead together.
@@ -25,6 +27,7 @@ pub fn events_go_on()
 
 /// Where there is no ending and no claim, the place for which the run waits is the best one.
 pub fn no_claim_leaves_a_place()
-    ensures { (setting : Setting) (table : List (Option Outcome)) (p : ℕ) → (consumed setting table).end ≡ Open p →
+    ensures { (setting : Setting) (table : List (Option Outcome)) (p : ℕ) →
+        (consumed setting table).end ≡ Open p →
         best_place setting (record { table = table; claims = [] }) ≡ Some p }
 {}
