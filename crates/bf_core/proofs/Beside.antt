@@ -7,7 +7,7 @@ use Rattle.bf_search.specs.declared.farm.Ending.{Ending}
 use Rattle.bf_search.specs.declared.farm.Ending.TheVariants as endings
 use Rattle.bf_search.specs.Outcomes.{Outcomes}
 use Rattle.bf_search.specs.State.{Search}
-use Rattle.bf_search.specs.Run.{End, Answered, Leg, Open, Aborted, leg_of, run, seq}
+use Rattle.bf_search.specs.Run.{End, Answered, Leg, Open, Aborted, leg_of, seq}
 use Rattle.bf_search.specs.Farm.{end_of}
 use Rattle.bf_state.specs.Runs.{IsPartOf, is_open}
 use Rattle.bf_state.proofs.Tables.{seq_ends_alike}

@@ -1,29 +1,27 @@
 -- What the calls of a core leave.
-use Rattle.std.proofs.Common.{◌≡◌, ◌≢◌, ℕ, ◌<◌, ◌↔◌, Bool, true, false, List, [], ◌∷◌, ◌++◌, length, set, Option, Some, None, refl, sym, ap, ◌∙◌, subst, arith}
+use Rattle.std.proofs.Common.{◌≡◌, ◌≢◌, ℕ, ◌<◌, ◌↔◌, true, false, List, [], ◌∷◌, ◌++◌, length, set, Option, Some, None, refl, sym, ap, ◌∙◌, subst, arith}
 use Rattle.std.proofs.lemmas.List.{length-set}
-use Rattle.std.specs.List.{Contains}
 use Rattle.bf_graph.specs.Graph.{IsGraph}
 use Rattle.bf_search.specs.declared.entries.Entry.{Entry}
 use Rattle.bf_search.specs.declared.farm.Claim.{Claim}
 use Rattle.bf_search.specs.declared.farm.Ending.{Ending}
 use Rattle.bf_search.specs.declared.farm.Ending.TheVariants as endings
-use Rattle.bf_search.specs.declared.farm.Event.{Event}
 use Rattle.bf_search.specs.declared.farm.Event.TheVariants.{Claim as Claimed, Post as Posted, Give as Given}
 use Rattle.bf_search.specs.declared.outcomes.Outcome.{Outcome}
-use Rattle.bf_search.specs.Outcomes.{Outcomes, outcomes_of_table}
-use Rattle.bf_search.specs.State.{Search, Asked, IsSearchOver, ask}
+use Rattle.bf_search.specs.Outcomes.{outcomes_of_table}
+use Rattle.bf_search.specs.State.{Search, IsSearchOver, ask}
 use Rattle.bf_search.specs.Run.{End, Answered, Leg, Open, Aborted, Run}
-use Rattle.bf_search.specs.OpenPaths.{best_open, place_of, is_claimed}
-use Rattle.bf_search.specs.Farm.{Setting, Farm, consumed, place_at, best_place, has_claim, stands, without, step}
-use Rattle.bf_state.specs.Runs.{IsPartOf, is_open}
+use Rattle.bf_search.specs.OpenPaths.{best_open, place_of}
+use Rattle.bf_search.specs.Farm.{Setting, Farm, consumed, place_at, best_place, has_claim, stands, without}
+use Rattle.bf_state.specs.Runs.{is_open}
 use Rattle.bf_state.specs.Session.{Session, with_search}
 use Rattle.bf_spec.specs.Walks.{Tells}
 use Rattle.bf_spec.specs.Tree.{Guesses}
 use Rattle.bf_guesses.specs.Ends.{marks_of}
 use Rattle.bf_core.specs.declared.consuming.Consumed.{Consumed}
-use Rattle.bf_core.specs.Claims.{AreClaims, KeepsNodes}
-use Rattle.bf_core.specs.Consuming.{IsRun, IsRunOn, IsSameRun, Begins, Consumes, best_at, IsUnwanted, IsCore}
-use Rattle.bf_core.specs.Machine.{Machine, seen, setting_of, farm_of, run_of, IsConsumed, IsStarted, IsStep, IsSameButNodes, IsAllTaken, IsWanted, IsWithdrawn, IsUnmoved, IsLegOver}
+use Rattle.bf_core.specs.Claims.{AreClaims}
+use Rattle.bf_core.specs.Consuming.{IsRunOn, IsSameRun, Begins, Consumes, best_at, IsUnwanted, IsCore}
+use Rattle.bf_core.specs.Machine.{Machine, seen, setting_of, farm_of, run_of, IsConsumed, IsStep, IsAllTaken, IsWithdrawn, IsUnmoved, IsLegOver}
 use Rattle.bf_core.proofs.Opened.{IsFree, best_is_free}
 use Rattle.bf_core.proofs.Joining.{told_open, same_is_run}
 use Rattle.bf_core.proofs.Beside.{seq_stays, told_alike, none_is_open, leg_told}

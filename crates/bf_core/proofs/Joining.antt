@@ -1,12 +1,10 @@
 -- A core goes on with its run: what was consumed before, and a walk from the root of its tree.
-use Rattle.std.proofs.Common.{◌≡◌, ◌≢◌, ℕ, zero, suc, ◌+◌, ◌-◌, ◌<◌, ◌↔◌, Bool, true, false, is_some, List, [], ◌∷◌, ◌++◌, length, drop, map, Option, Some, None, Result, Ok, Err, refl, sym, ap, ◌∙◌, subst, append_assoc, length-append, arith}
+use Rattle.std.proofs.Common.{◌≡◌, ◌≢◌, ℕ, zero, suc, ◌+◌, ◌-◌, ◌↔◌, Bool, true, false, is_some, List, [], ◌∷◌, ◌++◌, length, drop, map, Option, Some, None, Result, Ok, Err, refl, sym, ap, ◌∙◌, subst, length-append, arith}
 use Rattle.std.specs.Result.{IfOk, OnOk, OnErr}
 use Rattle.std.specs.List.{All, Contains}
 use Rattle.std.proofs.lemmas.Bool.{both_ways}
 use Rattle.std.proofs.lemmas.List.Elements.{All-contains}
-use Rattle.std.specs.Prelude.{IsTrue}
 use Rattle.bf_graph.specs.Graph.{IsGraph}
-use Rattle.bf_search.specs.declared.asks.Ask.TheVariants.{Test}
 use Rattle.bf_search.specs.declared.entries.Entry.{Entry}
 use Rattle.bf_search.specs.declared.entries.Entry.TheVariants.{SkippedBase}
 use Rattle.bf_search.specs.declared.farm.Claim.{Claim}
@@ -17,9 +15,8 @@ use Rattle.bf_search.specs.Outcomes.{Outcomes, outcomes_of_table}
 use Rattle.bf_search.specs.State.{Search, Asked, IsSearchOver, ask}
 use Rattle.bf_search.specs.Run.{End, Answered, Leg, Open, Aborted, Run, with_entries, leg_of, left_after, run}
 use Rattle.bf_search.specs.Farm.{Setting, consumed}
-use Rattle.bf_state.specs.Runs.{IsPartOf, is_open, in_sequence}
+use Rattle.bf_state.specs.Runs.{is_open, in_sequence}
 use Rattle.bf_state.specs.Session.{Session, with_search}
-use Rattle.bf_state.specs.Steps.{tested}
 use Rattle.bf_state.proofs.Asks.{ask_leaves, decision_within}
 use Rattle.bf_state.proofs.Tables.{seq_ends_alike}
 use Rattle.bf_spec.specs.Walks.{Tells}

@@ -1,5 +1,5 @@
 -- The best open path asks for a place of the graph that has neither outcome nor claim.
-use Rattle.std.proofs.Common.{◌≡◌, ℕ, zero, suc, ◌<◌, Bool, true, false, List, [], ◌∷◌, length, Option, Some, None, refl, ⊎_elim, subst, sym}
+use Rattle.std.proofs.Common.{◌≡◌, ℕ, zero, suc, ◌<◌, Bool, true, false, List, length, Option, Some, None, refl, ⊎_elim, subst, sym}
 use Rattle.std.proofs.lemmas.Bool.{cases_Bool, cond-true, cond-false}
 use Rattle.std.specs.Option.{IfSome}
 use Rattle.bf_graph.specs.Graph.{IsGraph}

@@ -1,5 +1,5 @@
 -- A run goes along the paths: what they ask for from its start they ask for where it waits, unless it is known.
-use Rattle.std.proofs.Common.{◌≡◌, ℕ, zero, suc, List, [], ◌∷◌, length, map, Option, Some, None, refl, sym, ap, ◌∙◌, subst}
+use Rattle.std.proofs.Common.{◌≡◌, ℕ, zero, suc, List, [], ◌∷◌, length, Option, Some, None, refl, sym, ap, ◌∙◌, subst}
 use Rattle.bf_search.specs.declared.asks.Ask.{Ask}
 use Rattle.bf_search.specs.declared.asks.Ask.TheVariants.{WaitBoth, WaitBad, WaitGood, Test, MergeBaseBad, GoodNotAncestor, BothSides, FirstBad, OnlySkipped}
 use Rattle.bf_search.specs.declared.outcomes.Mark.{Mark}
@@ -8,7 +8,7 @@ use Rattle.bf_search.specs.declared.outcomes.Verdict.{Verdict}
 use Rattle.bf_search.specs.declared.outcomes.Verdict.TheVariants.{Mark as MarkOf, Abort}
 use Rattle.bf_search.specs.Outcomes.{Outcomes, verdict_of}
 use Rattle.bf_search.specs.State.{Search, Asked, ask, mark}
-use Rattle.bf_search.specs.Run.{Open, Run, with_entries, with_used, marked_one, after_verdict, after_look, after_step, after_ask, turn, run_within, run}
+use Rattle.bf_search.specs.Run.{Open, Run, marked_one, after_verdict, after_look, after_step, turn, run_within, run}
 use Rattle.bf_state.proofs.AskAgain.{ask_again}
 use Rattle.bf_search.specs.OpenPaths.{left_of, Allows, Leads}
 use Rattle.bf_spec.specs.Ways.{IsAsked}

@@ -1,18 +1,17 @@
 -- The claims that stand: what a claim, a post and a giving back leave of them.
 use Rattle.std.proofs.Common.{◌≡◌, ◌≢◌, ℕ, ◌<◌, ◌⊎◌, Bool, true, false, not, ◌&&◌, ◌==◌, List, [], ◌∷◌, ◌++◌, length, get_or, set, Option, Some, None, refl, sym, ap, ◌∙◌, subst, inl, inr, ⊎_elim, arith, eqb-true, eq-eqb}
-use Rattle.std.proofs.lemmas.Bool.{cases_Bool, cases_order, both_ways, and_parts, not-true, cond-true, cond-false, false_from_ne_true}
+use Rattle.std.proofs.lemmas.Bool.{cases_Bool, cases_order, both_ways, and_parts, not-true, cond-true, false_from_ne_true}
 use Rattle.std.proofs.lemmas.List.{length-set, get_or-set_other, set-set, set-get_or, get_or_default}
-use Rattle.std.proofs.lemmas.List.Elements.{All-filter, All-push, All-contains, All-weaker, filter_passes, Contains-get_or}
+use Rattle.std.proofs.lemmas.List.Elements.{All-filter, All-push, All-contains, All-weaker, filter_passes}
 use Rattle.std.proofs.lemmas.List.Folds.{Any-from_list_any, list_any_at}
 use Rattle.std.proofs.lemmas.List.Kept.{AllPairs-filter}
 use Rattle.std.proofs.lemmas.List.Quantifiers.{all_pairs_push}
-use Rattle.std.specs.List.{All, Any, AllPairs, Contains, filter, list_any}
+use Rattle.std.specs.List.{All, Any, Contains, list_any}
 use Rattle.std.specs.Option.{IfSome}
 use Rattle.bf_search.specs.declared.farm.Claim.{Claim}
-use Rattle.bf_search.specs.declared.farm.Event.{Event}
 use Rattle.bf_search.specs.declared.farm.Event.TheVariants.{Claim as Claimed, Post as Posted, Give as Given}
 use Rattle.bf_search.specs.declared.outcomes.Outcome.{Outcome}
-use Rattle.bf_search.specs.Outcomes.{Outcomes, outcomes_of_table}
+use Rattle.bf_search.specs.Outcomes.{outcomes_of_table}
 use Rattle.bf_search.specs.OpenPaths.{is_claimed}
 use Rattle.bf_search.specs.Farm.{Setting, Farm, has_claim, stands, without, is_best, best_place, step}
 use Rattle.bf_state.specs.Runs.{IsPartOf}

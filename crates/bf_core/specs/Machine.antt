@@ -16,7 +16,7 @@ use Rattle.bf_spec.specs.Walks.{Tells}
 use Rattle.bf_guesses.specs.Ends.{marks_of}
 use Rattle.bf_spec.specs.Ways.{IsAsked}
 use Rattle.bf_core.specs.declared.answers.Pick.{Pick}
-use Rattle.bf_core.specs.declared.answers.Pick.TheVariants.{Work, NotYet, Ended}
+use Rattle.bf_core.specs.declared.answers.Pick.TheVariants.{Work}
 use Rattle.bf_core.specs.declared.consuming.Consumed.{Consumed}
 use Rattle.bf_core.specs.Claims.{KeepsNodes}
 use Rattle.bf_core.specs.Consuming.{marks_since}

@@ -1,4 +1,4 @@
-use Rattle.std.proofs.Common.{rules, ap, ◌∙◌, List, ℕ, Vec, Global, sym, subst, arith}
+use Rattle.std.proofs.Common.{ap, ◌∙◌, List, ℕ, Vec, Global, subst}
 use Rattle.std.proofs.lemmas.List.{take_all}
 use Rattle.bf_search.specs.declared.farm.Claim.{Claim}
 use Rattle.bf_core.specs.Claims.{IsIdle}

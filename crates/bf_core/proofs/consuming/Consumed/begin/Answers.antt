@@ -7,7 +7,6 @@ use Rattle.bf_search.specs.declared.outcomes.Mark.{Mark}
 use Rattle.bf_search.specs.Outcomes.{outcomes_of_table}
 use Rattle.bf_search.specs.Run.{run}
 use Rattle.bf_core.specs.Claims.{IsSameTree}
-use Rattle.bf_core.specs.Consuming.{IsJoined}
 use Rattle.bf_core.proofs.Joining.{walk_of, begins_by}
 use Rattle.bf_core.proofs.consuming.Consumed.begin.Goals as goal
 

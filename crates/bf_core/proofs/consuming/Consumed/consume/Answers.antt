@@ -1,12 +1,9 @@
-use Rattle.std.proofs.Common.{rules, ◌≡◌, ◌↔◌, ℕ, true, Vec, Global, List, Option, Some, None, Result, ap, sym, ◌∙◌}
+use Rattle.std.proofs.Common.{◌↔◌, ℕ, true, Vec, Global, sym, ◌∙◌}
 use Rattle.std.specs.List.{Contains}
-use Rattle.std.specs.Result.{IfOk, OnOk}
-use Rattle.bf_search.specs.declared.farm.Claim.{Claim}
 use Rattle.bf_search.specs.Outcomes.{outcomes_of_table}
 use Rattle.bf_search.specs.Run.{Run, run}
 use Rattle.bf_core.specs.declared.consuming.Consumed.{Consumed}
 use Rattle.bf_core.specs.Claims.{IsSameTree, IsIdleWorker}
-use Rattle.bf_core.specs.Consuming.{IsSameRun, Consumes, IsUnwanted}
 use Rattle.bf_core.proofs.Picking.{idle_worker_along}
 use Rattle.bf_core.proofs.Joining.{IsWalk, iff_trans, if_ok_map, same_tree_trans, same_run_of, same_run_trans, walk_of, on_ok, on_err, none_of, ended_consumes, waiting_consumes, joined_nodes, unwanted_workers, ended_workers}
 use Rattle.bf_core.proofs.consuming.Consumed.consume.Goals as goal

@@ -1,8 +1,7 @@
-use Rattle.std.proofs.Common.{◌≡◌, ◌∷◌, ◌++◌, [], false, List, Option, ℕ, Some, sym, ap, ◌∙◌, subst, rules}
+use Rattle.std.proofs.Common.{◌≡◌, List, Some, sym, ap, ◌∙◌, rules}
 use Rattle.bf_search.specs.declared.farm.Claim.{Claim}
 use Rattle.bf_search.specs.Farm.{has_claim}
 use Rattle.bf_core.specs.Consuming.{best_at}
-use Rattle.bf_core.specs.Machine.{Machine}
 use Rattle.bf_core.proofs.Calls.{core_picked}
 use Rattle.bf_core.proofs.machine.Core.claim.Goals as goal
 

@@ -1,4 +1,4 @@
-use Rattle.std.proofs.Common.{◌≡◌, ◌∷◌, ◌++◌, [], false, List, Option, Some, sym, ap, ◌∙◌, subst}
+use Rattle.std.proofs.Common.{◌≡◌, false, List, sym, ap, ◌∙◌, subst}
 use Rattle.bf_search.specs.Farm.{has_claim}
 use Rattle.bf_search.specs.declared.farm.Claim.{Claim}
 use Rattle.bf_core.specs.Consuming.{best_at}

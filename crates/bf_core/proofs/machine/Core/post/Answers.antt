@@ -1,11 +1,10 @@
-use Rattle.std.proofs.Common.{◌≡◌, ◌≢◌, ◌↔◌, ℕ, true, List, Option, sym, ap, ◌∙◌, subst}
+use Rattle.std.proofs.Common.{◌≡◌, ◌≢◌, ◌↔◌, true, List, Option, sym, ap, ◌∙◌, subst}
 use Rattle.std.specs.List.{Contains}
 use Rattle.bf_search.specs.declared.farm.Claim.{Claim}
 use Rattle.bf_search.specs.declared.farm.Event.TheVariants.{Post as Posted}
 use Rattle.bf_search.specs.declared.outcomes.Outcome.{Outcome}
 use Rattle.bf_search.specs.Farm.{stands, without}
 use Rattle.bf_search.specs.Run.{Open}
-use Rattle.bf_core.specs.Claims.{AreClaims}
 use Rattle.bf_core.specs.Consuming.{IsCore, IsUnwanted}
 use Rattle.bf_core.specs.Machine.{Machine, seen, run_of, IsStep, IsSameButNodes, IsUnmoved}
 use Rattle.bf_core.proofs.Joining.{iff_trans}

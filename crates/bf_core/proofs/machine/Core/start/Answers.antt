@@ -1,4 +1,4 @@
-use Rattle.std.proofs.Common.{◌≡◌, refl, ◌∙◌, [], List, ℕ, sym, subst}
+use Rattle.std.proofs.Common.{◌≡◌, refl, ◌∙◌, [], List, sym, subst}
 use Rattle.bf_search.specs.declared.farm.Claim.{Claim}
 use Rattle.bf_state.specs.Session.{Session}
 use Rattle.bf_state.proofs.Below.{IsSearchOver-from_below}
