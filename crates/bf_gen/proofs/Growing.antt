@@ -5,7 +5,8 @@ use Rattle.bf_gen.specs.Steps.{states_on, commits_from}
 use Rattle.bf_io.specs.Told.{Appends, AppendsFront}
 use Rattle.bf_io.proofs.Told.{Appends-nil, Appends-trans, AppendsFront-all, AppendsFront-first, AppendsFront-second}
 
-pub commits_more : (state first count : ℕ) → commits_from state first (count + 1) ≡ commits_from state first count ++ commit_text (states_on state count) (first + count)
+pub commits_more : (state first count : ℕ)
+    → commits_from state first (count + 1) ≡ commits_from state first count ++ commit_text (states_on state count) (first + count)
 unfolding commits_from
 commits_more state first count = rw (add-one count) refl
 
@@ -38,12 +39,15 @@ pub states_to : (number done end : ℕ) → done ≤ end → state_of number end
 states_to number done end h = let sum : end ≡ done + (end - done) = omega arith in ap (state_of number) sum ∙ states number done (end - done)
 
 -- what is written up to a commit is a front of the stream
-pub front_to : (before after : Option (List ℕ)) (number done end : ℕ) → done ≤ end → Appends before after (stream number done) → AppendsFront before after (stream number end)
+pub front_to : (before after : Option (List ℕ)) (number done end : ℕ) → done ≤ end → Appends before after (stream number done)
+    → AppendsFront before after (stream number end)
 front_to before after number done end h p =
-    rw (grows_to number done end h) (AppendsFront-first before after (stream number done) (commits_from (state_of number done) done (end - done)) (AppendsFront-all before after (stream number done) p))
+    rw (grows_to number done end h) (AppendsFront-first before after (stream number done) (commits_from (state_of number done) done (end - done))
+    (AppendsFront-all before after (stream number done) p))
 
 -- and so is a front of the next commits behind it
-pub front_in : (before between after : Option (List ℕ)) (number done next end : ℕ) (text : List ℕ) → done ≤ next → next ≤ end → Appends before between (stream number done)
+pub front_in : (before between after : Option (List ℕ)) (number done next end : ℕ) (text : List ℕ) → done ≤ next → next ≤ end
+    → Appends before between (stream number done)
     → text ≡ commits_from (state_of number done) done (next - done) → AppendsFront between after text → AppendsFront before after (stream number end)
 front_in before between after number done next end text h k p is q =
     let whole = AppendsFront-second before between after (stream number done) text p q in
@@ -77,9 +81,11 @@ next_text old before new start state first commit h before_is state_is new_is =
     ap (λ s. commit_text s commit) state_is ∙ ap (λ c. commit_text (states_on start count) c) (sym place) in
     let more : commits_from start first count ++ commit_text state commit ≡ commits_from start first (commit + 1 - first) =
     ap (λ l. commits_from start first count ++ l) here ∙ sym (commits_more start first count) ∙ ap (commits_from start first) (sym next) in
-    new_is ∙ ap (λ l. l ++ commit_text state commit) before_is ∙ append_assoc old (commits_from start first count) (commit_text state commit) ∙ ap (λ l. old ++ l) more
+    new_is ∙ ap (λ l. l ++ commit_text state commit) before_is ∙ append_assoc old (commits_from start first count) (commit_text state commit)
+    ∙ ap (λ l. old ++ l) more
 
-pub next_states : (start state after first commit : ℕ) → first ≤ commit → state ≡ states_on start (commit - first) → after ≡ next_state state → after ≡ states_on start (commit + 1 - first)
+pub next_states : (start state after first commit : ℕ) → first ≤ commit → state ≡ states_on start (commit - first) → after ≡ next_state state
+    → after ≡ states_on start (commit + 1 - first)
 next_states start state after first commit h state_is after_is =
     let next : commit + 1 - first ≡ (commit - first) + 1 = omega arith in
     after_is ∙ ap next_state state_is ∙ sym (states_more start (commit - first)) ∙ ap (states_on start) (sym next)

@@ -10,4 +10,5 @@ states_on state (suc count) = next_state (states_on state count)
 -- so many commits from one on, whose state is this
 unfoldable pub commits_from : ℕ → ℕ → ℕ → List ℕ
 commits_from state first zero = []
-commits_from state first (suc count) = commits_from state first count ++ commit_text (states_on state count) (first + count)
+commits_from state first (suc count) =
+    commits_from state first count ++ commit_text (states_on state count) (first + count)

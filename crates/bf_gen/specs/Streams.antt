@@ -23,7 +23,8 @@ first_parent state commit = if high state % 4 == 0 then commit - 3 else commit -
 -- the second parent, where the commit is a merge: the second before it
 unfoldable pub second_parent : ℕ → ℕ → Option ℕ
 second_parent state commit =
-    if nat_le 2 commit && (high state % 3 == 0) && not (first_parent state commit == commit - 2) then Some (commit - 2) else None
+    if nat_le 2 commit && (high state % 3 == 0) && not (first_parent state commit == commit - 2)
+    then Some (commit - 2) else None
 
 -- ---- the lines
 

@@ -27,7 +27,8 @@ returns-in_err-write_whole-clause-front g c =
     c.as_slice.ensures ∙ c.in_ok-state.ensures.text ∙ ap (λ l. l ++ commits_from c.loop-done.state done (end - done)) c.clear.ensures
     ∙ ap (λ s. commits_from s done (end - done)) c.loop-done.invariant.state in
     at_error c.from_residual-in_err-write_whole.result
-    (front_in (g.K.Sink.held c.args.sink.now) (g.K.Sink.held c.loop-done.sink) (g.K.Sink.held c.write_whole.new.sink) c.args.number done end c.args.commits c.as_slice.result.now
+    (front_in (g.K.Sink.held c.args.sink.now) (g.K.Sink.held c.loop-done.sink)
+    (g.K.Sink.held c.write_whole.new.sink) c.args.number done end c.args.commits c.as_slice.result.now
     behind within c.loop-done.invariant.written text c.in_err-write_whole.ensures.front)
 
 pub loop-done-preserved : goal.loop-done-preserved
@@ -41,7 +42,8 @@ loop-done-preserved g c =
     record {
       within = omega arith;
       state = c.in_ok-state.ensures.state ∙ ap (λ s. states_on s (end - done)) c.loop-done.invariant.state ∙ sym (states_to c.args.number done end behind);
-      written = whole_to (g.K.Sink.held c.args.sink.now) (g.K.Sink.held c.loop-done.sink) (g.K.Sink.held c.write_whole.new.sink) c.args.number done end c.as_slice.result.now
+      written = whole_to (g.K.Sink.held c.args.sink.now) (g.K.Sink.held c.loop-done.sink)
+          (g.K.Sink.held c.write_whole.new.sink) c.args.number done end c.as_slice.result.now
           behind c.loop-done.invariant.written text c.in_ok-write_whole.ensures.whole;
       later = omega (arith, c.write_whole.ensures.cause.later);
     }
