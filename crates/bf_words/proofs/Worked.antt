@@ -40,11 +40,13 @@ simulate : read (codes "simulate main main~7 ggggbbbb") ≡ Ok (record (plain Si
 unfolding decimal_value option_of roles_after plains_of skips_of is_wrong is_wrong_at wrong_term forbidden missing further wrong_plan number_or number_in count_in request_of request
 simulate = refl
 
-replayed : read (codes "simulate --replay part.log ggbb --leg 2 --trace") ≡ Ok (record (plain Simulate) { replay = Some 2; plan = Some 3; leg = 2; trace = true })
+replayed : read (codes "simulate --replay part.log ggbb --leg 2 --trace") ≡ Ok
+    (record (plain Simulate) { replay = Some 2; plan = Some 3; leg = 2; trace = true })
 unfolding decimal_value option_of roles_after plains_of skips_of is_wrong is_wrong_at wrong_term forbidden missing further wrong_plan number_or number_in count_in request_of request
 replayed = refl
 
-run : read (codes "run --workers 8 --skip a main b c --skip -- -- sh -c") ≡ Ok (record (plain Run) { bad = Some 5; goods = 6 ∷ 7 ∷ []; skips = 4 ∷ 9 ∷ []; tail = Some 11; workers = 8 })
+run : read (codes "run --workers 8 --skip a main b c --skip -- -- sh -c") ≡ Ok
+    (record (plain Run) { bad = Some 5; goods = 6 ∷ 7 ∷ []; skips = 4 ∷ 9 ∷ []; tail = Some 11; workers = 8 })
 unfolding decimal_value option_of roles_after plains_of skips_of is_wrong is_wrong_at wrong_term forbidden missing further wrong_plan number_or number_in count_in request_of request
 run = refl
 

@@ -15,4 +15,5 @@ line_fault verb roles plains words = first_of (line_faults verb roles plains wor
 
 -- the answer for a line whose reading has no fault
 abbrev pub read_rest : Verb → List Role → List (List ℕ) → Result Request ℕ
-read_rest verb roles words = answer (first_of (wrong_term roles words ∷ line_faults verb roles (plains_of roles) words)) (request_of verb roles words)
+read_rest verb roles words =
+    answer (first_of (wrong_term roles words ∷ line_faults verb roles (plains_of roles) words)) (request_of verb roles words)

@@ -80,7 +80,8 @@ unfoldable pub is_wrong : Verb → List Role → Role → List ℕ → Bool
 is_wrong verb before Command word = false
 is_wrong verb before (Given choice form) word = is_again before choice
 is_wrong verb before (Value choice form) word = not (has_form form word)
-is_wrong verb before Plain word = begins_with_dash word || not (has_form (form_of_plain verb (count_by is_plain before)) word)
+is_wrong verb before Plain word =
+    begins_with_dash word || not (has_form (form_of_plain verb (count_by is_plain before)) word)
 is_wrong verb before Tail word = false
 
 unfoldable pub is_wrong_at : Verb → List Role → List (List ℕ) → ℕ → Bool
@@ -119,7 +120,8 @@ wrong_term_of new_at old_at new old = option_map (term_at new_at old_at) (term_f
 
 unfoldable pub wrong_term : List Role → List (List ℕ) → Option ℕ
 wrong_term roles words =
-    wrong_term_of (unwrap_or (value_at TermNew roles) 0) (unwrap_or (value_at TermOld roles) 0) (sides_of roles words).new (sides_of roles words).old
+    wrong_term_of (unwrap_or (value_at TermNew roles) 0) (unwrap_or (value_at TermOld roles) 0)
+    (sides_of roles words).new (sides_of roles words).old
 
 abbrev pub start_at : List Role → Option ℕ
 start_at roles = position is_of_start roles
@@ -158,7 +160,8 @@ lacks Gen roles = false
 lacks Sample roles = false
 
 unfoldable pub missing : Verb → List Role → List ℕ → List (List ℕ) → Option ℕ
-missing verb roles plains words = if nat_lt (length plains) (least verb (has_replay roles)) || lacks verb roles then Some (length words) else None
+missing verb roles plains words =
+    if nat_lt (length plains) (least verb (has_replay roles)) || lacks verb roles then Some (length words) else None
 
 -- how many plain words there are at most, where there is a bound
 abbrev pub most : Verb → Bool → Option ℕ

@@ -60,5 +60,6 @@ loop-word-preserved c =
 
 pub returns-clause-roles : goal.returns-clause-roles
 returns-clause-roles c =
-    let length_is : length c.args.words.now ≡ c.loop-word.word-index + 1 = omega (arith, c.loop-word-test.false, length_behind c.args.words.now, c.loop-word.auto.word-index-end, c.requires.some) in
+    let length_is : length c.args.words.now ≡ c.loop-word.word-index + 1 = omega
+    (arith, c.loop-word-test.false, length_behind c.args.words.now, c.loop-word.auto.word-index-end, c.requires.some) in
     sym (roles_end c.args.verb c.loop-word.read.items c.loop-word.last c.args.words.now (c.loop-word.word-index + 1) length_is c.loop-word.invariant.roles)
