@@ -8,6 +8,7 @@ mod rows;
 mod state;
 mod weighed;
 
+pub use rows::true_places;
 pub use state::State;
 pub use weighed::Weighed;
 
