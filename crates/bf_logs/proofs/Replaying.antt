@@ -106,7 +106,7 @@ module _ {F : Type 0} (setting : Setting F) (commits : Commits) (sides : Sides) 
       })
   start_taken line first_parent true bad goods fits are placed =
       ap (λ (o : Option TermFault). if_ok (tried line sides o) (λ x. if_ok (places_of setting line
-          (names_of commits (Some bad) goods)) (λ places. Ok (given x places)))) are
+      (names_of commits (Some bad) goods)) (λ places. Ok (given x places)))) are
       ∙ ap (λ (r : Result (List ℕ) (ReplayFault F)). if_ok r (λ places. Ok (given sides places)))
       (goods_placed line (bad ∷ goods) placed)
     where
@@ -115,7 +115,7 @@ module _ {F : Type 0} (setting : Setting F) (commits : Commits) (sides : Sides) 
           (names_of commits (Some bad) goods) places
   start_taken line first_parent false bad goods fits are placed =
       ap (λ (o : Option TermFault). if_ok (tried line standard_sides o) (λ x. if_ok (places_of setting line
-          (names_of commits (Some bad) goods)) (λ places. Ok (given x places))))
+      (names_of commits (Some bad) goods)) (λ places. Ok (given x places))))
       (ap (λ (x : Sides). term_fault x.new x.old) fits ∙ are)
       ∙ ap (λ (r : Result (List ℕ) (ReplayFault F)). if_ok r (λ places. Ok (given standard_sides places)))
       (goods_placed line (bad ∷ goods) placed)
