@@ -1,6 +1,10 @@
+pub mod Cuts
 pub mod Files
 pub mod Index
 pub mod Listing
 pub mod Nodes
+pub mod Opened
+pub mod Overlays
+pub mod Rests
 pub mod Slots
 pub mod Trees

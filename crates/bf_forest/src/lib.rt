@@ -2,11 +2,16 @@
 //! that list, and the name of a tree is that which git gives it.
 #![tactic(auto)]
 
+mod cuts;
 mod edits;
 mod entries;
+mod levels;
 mod nodes;
+mod opened;
 mod pool;
 mod slots;
+mod table;
+mod tail;
 mod trees;
 
 pub use edits::Edit;
