@@ -1,0 +1,4 @@
+pub mod History
+pub mod Rests
+pub mod Seen
+pub mod Soundness

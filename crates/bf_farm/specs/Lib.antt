@@ -1,0 +1,4 @@
+pub mod Boards
+pub mod Cores
+pub mod Reports
+pub mod Sound
