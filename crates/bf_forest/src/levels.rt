@@ -1,32 +1,34 @@
 //! A directory in a walk through the files of a tree.
 ghost use Rattle.std.specs.Prelude.{◌≡◌};
 
+use crate::nodes::Entry;
 use std::marker::Model;
 
-/// The numbers of the entries of a directory that are still to be walked, while one in it is walked.
+/// The entries of a directory that are still to be walked, while one in it is walked.
 #[derive(Debug, Drop)]
 pub(crate) struct Level<'a> {
-    numbers: &'a [u32],
+    entries: &'a [Entry],
 }
 
 impl<'a> Model for Level<'a> {
-    ghost use Rattle.std.specs.Prelude.{List, ℕ};
+    ghost use Rattle.std.specs.Prelude.{List};
+    ghost use Rattle.bf_forest.specs.declared.nodes.Entry.{Entry};
 
-    ghost Value = { List ℕ };
+    ghost Value = { List Entry };
 
-    ghost view = { λ l. l.numbers.now };
+    ghost view = { λ l. l.entries.now };
 }
 
 impl<'a> Level<'a> {
-    pub(crate) fn new(numbers: &'a [u32]) -> Level<'a>
-        ensures { result ≡ numbers.now }
+    pub(crate) fn new(entries: &'a [Entry]) -> Level<'a>
+        ensures { result ≡ entries.now }
     {
-        Level { numbers }
+        Level { entries }
     }
 
-    pub(crate) fn numbers(&self) -> &'a [u32]
+    pub(crate) fn entries(&self) -> &'a [Entry]
         ensures { result.now ≡ self.now }
     {
-        self.numbers
+        self.entries
     }
 }

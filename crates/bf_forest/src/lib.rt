@@ -10,8 +10,6 @@ mod nodes;
 mod opened;
 mod pool;
 mod slots;
-mod table;
-mod tail;
 mod trees;
 
 pub use edits::Edit;
