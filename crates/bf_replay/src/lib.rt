@@ -8,3 +8,6 @@ mod start;
 
 pub use fault::ReplayFault;
 pub use fold::{Replayed, replay};
+
+#[cfg(test)]
+mod tests;
