@@ -88,7 +88,8 @@ fn warned_by(alloc: Global, reach: &Reach, marks: &[(Mark, u32)]) -> Result<Vec<
 fn weighed_again(reach: &Reach, state: &State) -> Result<Weighed, AllocError>
     requires { length reach.now ≡ state.now.len }
     ensures mask { IfOk result (λ weighed. weighed.mask ≡ mask_of reach.now state.now.search) }
-    ensures weights { IfOk result (λ weighed. option_map (λ all. all.items) weighed.weights ≡ weights_needed reach.now state.now.search) }
+    ensures weights { IfOk result (λ weighed.
+        option_map (λ all. all.items) weighed.weights ≡ weights_needed reach.now state.now.search) }
 {
     let mask = state.try_clone()?.weigh(reach)?.mask;
     state.try_clone()?.weigh_over(reach, mask)
