@@ -9,6 +9,8 @@ mod answers;
 mod claims;
 mod consuming;
 mod machine;
+#[cfg(test)]
+mod tests;
 
 pub use answers::{ApplyFault, CoreParts, Pick, Withdrawn};
 pub use machine::Core;

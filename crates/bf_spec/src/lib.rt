@@ -6,6 +6,8 @@ mod follow;
 mod node;
 mod reroot;
 mod table;
+#[cfg(test)]
+mod tests;
 mod tree;
 mod walk;
 
