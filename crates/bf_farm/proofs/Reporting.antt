@@ -1,10 +1,9 @@
 -- What is reported of a board that tells of answers alone.
-use Rattle.std.proofs.Common.{◌≡◌, ℕ, false, List, [], ◌∷◌, length, get_or, Option, Some, None, All, Contains, refl, sym, ap, ◌∙◌, subst, arith}
+use Rattle.std.proofs.Common.{◌≡◌, ℕ, List, [], get_or, Option, Some, None, All, Contains, sym, ap, ◌∙◌, subst, arith}
 use Rattle.std.specs.List.{slice_get}
 use Rattle.bf_grammar.specs.declared.object.Oid.{Oid}
 use Rattle.bf_io.specs.Causes.{Rose}
 use Rattle.bf_search.specs.declared.farm.Ending.{Ending}
-use Rattle.bf_search.specs.declared.farm.Ending.TheVariants as endings
 use Rattle.bf_search.specs.declared.farm.Event.{Event}
 use Rattle.bf_search.specs.declared.farm.Event.TheVariants as events
 use Rattle.bf_search.specs.declared.outcomes.Outcome.{Outcome}
@@ -14,14 +13,14 @@ use Rattle.bf_search.specs.Run.{End, Open}
 use Rattle.bf_state.specs.Runs.{is_open}
 use Rattle.bf_state.specs.Session.{Session}
 use Rattle.bf_tester.specs.declared.answer.Answer.{Answer}
-use Rattle.bf_tester.specs.Replies.{answer_of, FollowsPlan}
+use Rattle.bf_tester.specs.Replies.{answer_of}
 use Rattle.bf_farm.specs.declared.report.Report.{Report}
 use Rattle.bf_farm.specs.Answering.{IsReport, IsSoundReport, HasHistory, HasFault}
 use Rattle.bf_farm.specs.Boards.{BoardView, unclaimed}
 use Rattle.bf_farm.specs.Cores.{CoreView, run_of, IsSameStart}
 use Rattle.bf_farm.specs.Ends.{EndsWith, StopsAt}
-use Rattle.bf_farm.specs.Reports.{IsAnswered, IsPostIn, AreAmong, TableIn, TableFollows}
-use Rattle.bf_farm.specs.Sound.{IsSound, IsSoundPost, IsSoundEvent}
+use Rattle.bf_farm.specs.Reports.{IsAnswered, IsPostIn, TableIn, TableFollows}
+use Rattle.bf_farm.specs.Sound.{IsSound, IsSoundEvent}
 
 post_in : (told : Option (List Outcome)) (names : List Oid) (answers : List Answer) (e : Event) → IsSoundEvent told names answers e → IsPostIn names answers e
 post_in told names answers (events.Post worker p outcome) h = h.answered

@@ -1,5 +1,5 @@
 -- What a run of tests promises of its report.
-use Rattle.std.specs.Prelude.{◌≡◌, ℕ, Bool, List, [], ◌++◌, map, filter, All, Option, Some, None}
+use Rattle.std.specs.Prelude.{◌≡◌, ℕ, List, map, filter, All, Option, Some}
 use Rattle.std.specs.List.{slice_get}
 use Rattle.std.specs.Option.{is_none}
 use Rattle.bf_grammar.specs.declared.object.Oid.{Oid}

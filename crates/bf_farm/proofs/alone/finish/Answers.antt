@@ -1,4 +1,3 @@
-use Rattle.std.proofs.Common.{◌≡◌, ◌∙◌}
 use Rattle.bf_farm.proofs.Reporting.{sound_report, stops_of, fault_told, same_report, same_history}
 use Rattle.bf_farm.proofs.alone.finish.Goals as goal
 

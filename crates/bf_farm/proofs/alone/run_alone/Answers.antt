@@ -1,4 +1,4 @@
-use Rattle.std.proofs.Common.{◌≡◌, List, Option, subst, sym, arith}
+use Rattle.std.proofs.Common.{List, Option, subst, sym, arith}
 use Rattle.bf_search.specs.declared.farm.Event.{Event}
 use Rattle.bf_farm.specs.Ends.{AreAlone}
 use Rattle.bf_search.specs.declared.outcomes.Outcome.{Outcome}

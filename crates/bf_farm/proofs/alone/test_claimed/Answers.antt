@@ -1,8 +1,4 @@
-use Rattle.std.proofs.Common.{◌≡◌, sym, subst, ◌∙◌}
 use Rattle.std.proofs.lemmas.Option.{slice_get-get_or}
-use Rattle.bf_search.specs.Farm.{stands}
-use Rattle.bf_tester.specs.declared.answer.TestReply.{TestReply}
-use Rattle.bf_tester.specs.Replies.{ReplyFollowsPlan, answers_after}
 use Rattle.bf_farm.proofs.Soundness.{sound_tested, sound_untested}
 use Rattle.bf_search.specs.declared.farm.Event.TheVariants as events
 use Rattle.bf_farm.proofs.Asked.{fewer_after, one_stands}

@@ -1,4 +1,4 @@
-use Rattle.std.proofs.Common.{true, ◌≡◌, List, ℕ, ◌++◌, sym, subst, take}
+use Rattle.std.proofs.Common.{true, ◌≡◌, List, ℕ, sym, subst, take}
 use Rattle.std.specs.Option.{is_some}
 use Rattle.bf_search.specs.Outcomes.{outcomes_of_table}
 use Rattle.bf_farm.specs.Used.{marked_places, AreAnswersAt}
