@@ -60,9 +60,11 @@ legal false x next e = cc e
 pub asks_claimed : (old new : BoardView) (p : ℕ) → old.core.farm.claims ≡ [] → Does old new (events.Claim 0 p) → IsAsking new.core p
 asks_claimed old new p none does =
     let farm : Farm = record old.core.farm { claims = old.core.farm.claims ++ (record { worker = 0; place = p }) ∷ [] } in
-    let is : farm ≡ new.core.farm = chosen (not (has_claim old.core.farm.claims 0) && is_best (best_place old.core.setting old.core.farm) p) farm new.core.farm does.done in
+    let is : farm ≡ new.core.farm = chosen (not (has_claim old.core.farm.claims 0) && is_best
+        (best_place old.core.setting old.core.farm) p) farm new.core.farm does.done in
     let best : is_best (best_place old.core.setting old.core.farm) p ≡ true =
-    (and_parts (not (has_claim old.core.farm.claims 0)) (is_best (best_place old.core.setting old.core.farm) p) (legal (not (has_claim old.core.farm.claims 0) && is_best (best_place old.core.setting old.core.farm) p) farm new.core.farm does.done)).1 in
+    (and_parts (not (has_claim old.core.farm.claims 0)) (is_best (best_place old.core.setting old.core.farm) p)
+        (legal (not (has_claim old.core.farm.claims 0) && is_best (best_place old.core.setting old.core.farm) p) farm new.core.farm does.done)).1 in
     let waits = best_waits old.core.setting old.core.farm (run_of old.core) (run_of old.core).end p best in
     let same : waits.0 ≡ p = eqb-true waits.0 p (subst (λ (o : Option ℕ). is_best o p ≡ true) (asked_alone old.core waits.0 none waits.1) best) in
     let run_same : run_of new.core ≡ run_of old.core =
@@ -88,7 +90,8 @@ none_after_give old new p asking does =
 pub none_after_post : (old new : BoardView) (p : ℕ) (outcome : Outcome) → IsAsking old.core p → Does old new (events.Post 0 p outcome)
     → (new.core.farm ≡ unclaimed (set old.core.farm.table p (Some outcome)))
 none_after_post old new p outcome asking does =
-    sym (chosen (stands old.core.farm.claims 0 p) (record { table = set old.core.farm.table p (Some outcome); claims = without old.core.farm.claims 0 }) new.core.farm does.done)
+    sym (chosen (stands old.core.farm.claims 0 p) (record { table = set old.core.farm.table p
+        (Some outcome); claims = without old.core.farm.claims 0 }) new.core.farm does.done)
     ∙ ap (λ (cs : List Claim). record { table = set old.core.farm.table p (Some outcome); claims = without cs 0 }) asking.claims
 
 -- ---- what a pick of the calling thread leaves
@@ -107,14 +110,16 @@ stands_there claims w p q is h = eqb-true q p (at (0 == w) (q == p) (subst (λ (
 none_stands : (claims : List Claim) (w p : ℕ) → claims ≡ [] → stands claims w p ≡ true → ⊥
 none_stands claims w p none h = cc (subst (λ (cs : List Claim). stands cs w p ≡ true) none h)
 
-new_some : (old new : BoardView) (pick : Pick) (w p : ℕ) → old.core.farm.claims ≡ [] → PicksNew old new 0 pick → stands new.core.farm.claims w p ≡ true → IsAsking new.core p
+new_some : (old new : BoardView) (pick : Pick) (w p : ℕ) → old.core.farm.claims ≡ [] → PicksNew old new 0 pick
+    → stands new.core.farm.claims w p ≡ true → IsAsking new.core p
 new_some old new (Work q) w p none picks h =
     let asking : IsAsking new.core q = asks_claimed old new q none picks in
     subst (λ (x : ℕ). IsAsking new.core x) (stands_there new.core.farm.claims w p q asking.claims h) asking
 new_some old new NotYet w p none picks h = absurd (none_stands new.core.farm.claims w p (same_none old new none picks.0) h)
 new_some old new Ended w p none picks h = absurd (none_stands new.core.farm.claims w p (same_none old new none picks.0) h)
 
-new_none : (old new : BoardView) (pick : Pick) → old.core.farm.claims ≡ [] → PicksNew old new 0 pick → new.core.farm.claims ≡ [] → is_open (run_of new.core).end ≡ false
+new_none : (old new : BoardView) (pick : Pick) → old.core.farm.claims ≡ [] → PicksNew old new 0 pick → new.core.farm.claims ≡ []
+    → is_open (run_of new.core).end ≡ false
 new_none old new (Work q) none picks h = cc (h, (asks_claimed old new q none picks).claims)
 new_none old new NotYet none picks h = absurd (never_waits old new none picks)
 new_none old new Ended none picks h = ap (λ (x : CoreView). is_open (run_of x).end) picks.0.core ∙ picks.1
@@ -125,7 +130,8 @@ new_is old new (Work q) picks = (true, q, picks)
 new_is old new NotYet picks = (false, 0, picks.0)
 new_is old new Ended picks = (false, 0, picks.0)
 
-pub without_claims : (old new : BoardView) (pick : Pick) → old.core.farm.claims ≡ [] → PicksFor (claimed_by old.core.farm.claims 0) old new 0 pick → PicksNew old new 0 pick
+pub without_claims : (old new : BoardView) (pick : Pick) → old.core.farm.claims ≡ [] → PicksFor (claimed_by old.core.farm.claims 0) old new 0 pick
+    → PicksNew old new 0 pick
 without_claims old new pick none picks = subst (λ (cs : List Claim). PicksFor (claimed_by cs 0) old new 0 pick) none picks
 
 pub next_some : (old new : BoardView) (pick : Pick) (w p : ℕ) → old.core.farm.claims ≡ [] → PicksFor (claimed_by old.core.farm.claims 0) old new 0 pick
@@ -153,7 +159,8 @@ alone_if true old new e by does all =
     subst (λ (es : List Event). AreAlone es) (sym does.noted) (All-push (λ (x : Event). worker_of x ≡ 0) old.events e all by)
 alone_if false old new e by same all = subst (λ (es : List Event). AreAlone es) (sym same.events) all
 
-pub pick_keeps : (old new : BoardView) (pick : Pick) → old.core.farm.claims ≡ [] → PicksFor (claimed_by old.core.farm.claims 0) old new 0 pick → KeepsAll old new
+pub pick_keeps : (old new : BoardView) (pick : Pick) → old.core.farm.claims ≡ [] → PicksFor (claimed_by old.core.farm.claims 0) old new 0 pick
+    → KeepsAll old new
 pick_keeps old new pick none picks =
     let is = new_is old new pick (without_claims old new pick none picks) in
     record {
@@ -173,17 +180,20 @@ fewer_missing (Some x ∷ t) zero outcome l e = cc e
 fewer_missing (None ∷ t) (suc p) outcome l e = let less = fewer_missing t p outcome (omega arith) e in omega arith
 fewer_missing (Some x ∷ t) (suc p) outcome l e = fewer_missing t p outcome (omega arith) e
 
-pub fewer_after : (old new : BoardView) (p : ℕ) (outcome : Outcome) → p < length old.core.farm.table → IsAsking old.core p → Does old new (events.Post 0 p outcome)
+pub fewer_after : (old new : BoardView) (p : ℕ) (outcome : Outcome) → p < length old.core.farm.table → IsAsking old.core p
+    → Does old new (events.Post 0 p outcome)
     → missing new.core.farm.table < missing old.core.farm.table
 fewer_after old new p outcome within asking does =
     subst (λ (f : Farm). missing f.table < missing old.core.farm.table) (sym (none_after_post old new p outcome asking does))
     (fewer_missing old.core.farm.table p outcome within
     ((told (outcomes_of_table old.core.farm.table) old.core.setting.graph (leg_of old.core.setting.leg) old.core.setting.start).unknown p asking.waits))
 
-pub failed_after_give : (old new : BoardView) (p before now : ℕ) (failed : Option ℕ) → IsAsking old.core p → Does old new (events.Give 0 p) → Rose before now → failed ≡ Some p
+pub failed_after_give : (old new : BoardView) (p before now : ℕ) (failed : Option ℕ) → IsAsking old.core p → Does old new (events.Give 0 p)
+    → Rose before now → failed ≡ Some p
     → HasFailed new.core before now failed p
 failed_after_give old new p before now failed asking does rose latest = record {
-  waits = ap (λ (f : Farm). (consumed new.core.setting f.table).end) (none_after_give old new p asking does) ∙ ap (λ (s : Setting). (consumed s old.core.farm.table).end) does.start.setting ∙ asking.waits;
+  waits = ap (λ (f : Farm). (consumed new.core.setting f.table).end) (none_after_give old new p asking does) ∙ ap
+      (λ (s : Setting). (consumed s old.core.farm.table).end) does.start.setting ∙ asking.waits;
   rose = rose;
   latest = latest;
 }

@@ -31,11 +31,13 @@ module _ (known : Outcomes) where
   listed_verdict go left t p outcome Abort h = refl
   listed_verdict go left t p outcome (MarkOf m) h = ap (λ (l : List ℕ). p ∷ l) (h (marked_one left) (mark t m p))
 
-  listed_look : (go : Go) (left : Option ℕ) (t : Search) (p : ℕ) (o : Option Outcome) → ((l : Option ℕ) (u : Search) → IsListed (go l u)) → IsListed (after_look known go left t p o)
+  listed_look : (go : Go) (left : Option ℕ) (t : Search) (p : ℕ) (o : Option Outcome) → ((l : Option ℕ) (u : Search) → IsListed (go l u))
+      → IsListed (after_look known go left t p o)
   listed_look go left t p None h = refl
   listed_look go left t p (Some outcome) h = listed_verdict go left t p outcome (verdict_of outcome) h
 
-  listed_step : (go : Go) (left : Option ℕ) (t : Search) (a : Ask) → ((l : Option ℕ) (u : Search) → IsListed (go l u)) → IsListed (after_step known go left t a)
+  listed_step : (go : Go) (left : Option ℕ) (t : Search) (a : Ask) → ((l : Option ℕ) (u : Search) → IsListed (go l u))
+      → IsListed (after_step known go left t a)
   listed_step go left t (Test p) h = listed_look go left t p (known p) h
   listed_step go left t (FirstBad p) h = refl
   listed_step go left t (OnlySkipped ps) h = refl
@@ -48,9 +50,11 @@ module _ (known : Outcomes) where
 
   listed_asked : (go : Go) (left : Option ℕ) (asked : Asked) → ((l : Option ℕ) (u : Search) → IsListed (go l u))
       → IsListed (with_entries (map (λ p. SkippedBase p) asked.step.warned) (after_step known go left asked.search asked.step.ask))
-  listed_asked go left asked h = listed_warned asked.step.warned (after_step known go left asked.search asked.step.ask) (listed_step go left asked.search asked.step.ask h)
+  listed_asked go left asked h = listed_warned asked.step.warned (after_step known go left asked.search asked.step.ask)
+      (listed_step go left asked.search asked.step.ask h)
 
-  listed_turn : (graph : List (List ℕ)) (go : Go) (left : Option ℕ) (s : Search) → ((l : Option ℕ) (u : Search) → IsListed (go l u)) → IsListed (turn graph known go left s)
+  listed_turn : (graph : List (List ℕ)) (go : Go) (left : Option ℕ) (s : Search) → ((l : Option ℕ) (u : Search) → IsListed (go l u))
+      → IsListed (turn graph known go left s)
   listed_turn graph go (Some zero) s h = refl
   listed_turn graph go (Some (suc k)) s h = listed_asked go (Some (suc k)) (ask graph s) h
   listed_turn graph go None s h = listed_asked go None (ask graph s) h

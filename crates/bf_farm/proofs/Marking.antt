@@ -18,12 +18,14 @@ behind (SkippedBase p) a b c h = h
 behind (FirstBadFound p) a b c h = h
 behind (OnlySkippedLeft ps) a b c h = h
 
-marks_step : (es : List Entry) (i : ℕ) (e : Entry) → i < length es → e ≡ get_or es i e → marked_places (take (suc i) es) ≡ marked_places (take i es) ++ marked_places (e ∷ [])
+marks_step : (es : List Entry) (i : ℕ) (e : Entry) → i < length es → e ≡ get_or es i e
+    → marked_places (take (suc i) es) ≡ marked_places (take i es) ++ marked_places (e ∷ [])
 marks_step [] i e l is = absurd (omega arith)
 marks_step (x ∷ es) zero e l is = ap (λ (y : Entry). marked_places (y ∷ [])) (sym is)
 marks_step (x ∷ es) (suc i) e l is = behind x (take (suc i) es) (take i es) (marked_places (e ∷ [])) (marks_step es i e (omega arith) is)
 
-pub marks_next : (es : List Entry) (i : ℕ) (e : Entry) → i < length es → e ≡ get_or es i e → marked_places (take (i + 1) es) ≡ marked_places (take i es) ++ marked_places (e ∷ [])
+pub marks_next : (es : List Entry) (i : ℕ) (e : Entry) → i < length es → e ≡ get_or es i e
+    → marked_places (take (i + 1) es) ≡ marked_places (take i es) ++ marked_places (e ∷ [])
 marks_next es i e l is =
     let one : suc i ≡ i + 1 = omega arith in
     subst (λ (n : ℕ). marked_places (take n es) ≡ marked_places (take i es) ++ marked_places (e ∷ [])) one (marks_step es i e l is)
@@ -43,7 +45,8 @@ other_marks P (SkippedBase p) es h = h
 other_marks P (FirstBadFound p) es h = h
 other_marks P (OnlySkippedLeft ps) es h = h
 
-pub known_at : (P : ℕ → Type 0) (es : List Entry) (i : ℕ) (e : Entry) → i < length es → e ≡ get_or es i e → All P (marked_places es) → All P (marked_places (e ∷ []))
+pub known_at : (P : ℕ → Type 0) (es : List Entry) (i : ℕ) (e : Entry) → i < length es → e ≡ get_or es i e → All P (marked_places es)
+    → All P (marked_places (e ∷ []))
 known_at P [] i e l is h = absurd (omega arith)
 known_at P (x ∷ es) zero e l is h = subst (λ (y : Entry). All P (marked_places (y ∷ []))) (sym is) (first_marks P x es h)
 known_at P (x ∷ es) (suc i) e l is h = known_at P es i e (omega arith) is (other_marks P x es h)
@@ -57,5 +60,6 @@ answer_more names table ps answers p a h is = record {
   named = All-push (λ (x : Answer). slice_get names x.place ≡ Some x.name) answers a h.named is.name;
 }
 
-pub no_answer_more : (names : List Oid) (table : List (Option Outcome)) (ps : List ℕ) (answers : List Answer) → AreAnswersAt names table ps answers → AreAnswersAt names table (ps ++ []) answers
+pub no_answer_more : (names : List Oid) (table : List (Option Outcome)) (ps : List ℕ) (answers : List Answer) → AreAnswersAt names table ps answers
+    → AreAnswersAt names table (ps ++ []) answers
 no_answer_more names table ps answers h = subst (λ (l : List ℕ). AreAnswersAt names table l answers) (sym (append-nil ps)) h

@@ -28,7 +28,8 @@ post_in told names answers (events.Claim worker p) h = tt
 post_in told names answers (events.Give worker p) h = tt
 
 -- an answer by its name
-named_answer : (names : List Oid) (answers : List Answer) (a : Answer) → IsAnswered names answers a.place a.outcome → slice_get names a.place ≡ Some a.name → Contains answers a
+named_answer : (names : List Oid) (answers : List Answer) (a : Answer) → IsAnswered names answers a.place a.outcome
+    → slice_get names a.place ≡ Some a.name → Contains answers a
 named_answer names answers a h named =
     let same : h.name ≡ a.name = cc (h.named, named) in
     subst (λ (name : Oid). Contains answers (answer_of a.place name a.outcome)) same h.given
@@ -44,10 +45,12 @@ sound_report told names answers b report sound table events used named =
       planned = λ p outcome h. (posts p outcome h).planned;
       posts = subst (λ (es : List Event). All (λ e. IsPostIn names answers e) es) (sym events)
           (λ k d l. post_in told names answers (get_or b.events k d) (sound.posts k d l));
-      used = λ k d l. let a : Answer = get_or report.used.items k d in named_answer names answers a (posts a.place a.outcome (used k d l)).answered (named k d l);
+      used = λ k d l. let a : Answer = get_or report.used.items k d in named_answer names answers a (posts a.place a.outcome (used k d l)).answered
+          (named k d l);
     }
 
-pub sound_start : (told : Option (List Outcome)) (names : List Oid) (answers : List Answer) (b : BoardView) (table : List (Option Outcome)) → b.core.farm ≡ unclaimed table → b.events ≡ []
+pub sound_start : (told : Option (List Outcome)) (names : List Oid) (answers : List Answer) (b : BoardView) (table : List (Option Outcome))
+    → b.core.farm ≡ unclaimed table → b.events ≡ []
     → TableIn names answers table → TableFollows told table → IsSound told names answers b
 sound_start told names answers b table farm events known plan = record {
   table = λ p outcome h. let e = subst (λ (f : Farm). outcomes_of_table f.table p ≡ Some outcome) farm h in record { answered = known p outcome e; planned = plan p outcome e };
@@ -58,23 +61,28 @@ pub stops_of : (core : CoreView) (before now : ℕ) (failed result : Option ℕ)
 stops_of core before now failed None ends = ends
 stops_of core before now failed (Some p) ends = ends.waits
 
-fault_of : (core : CoreView) (before now : ℕ) (failed result : Option ℕ) (p : ℕ) → EndsWith core before now failed result → (run_of core).end ≡ Open p → Rose before now × (failed ≡ Some p)
+fault_of : (core : CoreView) (before now : ℕ) (failed result : Option ℕ) (p : ℕ) → EndsWith core before now failed result → (run_of core).end ≡ Open p
+    → Rose before now × (failed ≡ Some p)
 fault_of core before now failed None p ends waits = cc (ends, ap (λ (e : End). is_open e) waits)
 fault_of core before now failed (Some q) p ends waits = (ends.rose, cc (ends.latest, ends.waits, waits))
 
-end_reported : (setting : Setting) (first : Session) (names : List Oid) (report : Report) → IsReport setting first names report → end_of report.ending ≡ (consumed setting report.table).end
+end_reported : (setting : Setting) (first : Session) (names : List Oid) (report : Report) → IsReport setting first names report
+    → end_of report.ending ≡ (consumed setting report.table).end
 end_reported setting first names report h = h.ending ∙ ap (λ r. r.end) h.table
 
 pub fault_told : (core : CoreView) (names : List Oid) (before now : ℕ) (failed result : Option ℕ) (report : Report) → EndsWith core before now failed result
     → IsReport core.setting core.first names report → report.table ≡ core.farm.table → HasFault before now failed report
 fault_told core names before now failed result report ends is table = λ p e.
     fault_of core before now failed result p ends
-    (ap (λ (t : List (Option Outcome)). (consumed core.setting t).end) (sym table) ∙ sym (end_reported core.setting core.first names report is) ∙ ap (λ (x : Ending). end_of x) e)
+    (ap (λ (t : List (Option Outcome)). (consumed core.setting t).end) (sym table) ∙ sym (end_reported core.setting core.first names report is) ∙ ap
+        (λ (x : Ending). end_of x) e)
 
-pub same_report : (old new : CoreView) (names : List Oid) (report : Report) → IsSameStart old new → IsReport new.setting new.first names report → IsReport old.setting old.first names report
+pub same_report : (old new : CoreView) (names : List Oid) (report : Report) → IsSameStart old new → IsReport new.setting new.first names report
+    → IsReport old.setting old.first names report
 same_report old new names report same h =
     subst (λ (s : Setting). IsReport s old.first names report) same.setting (subst (λ (f : Session). IsReport new.setting f names report) same.first h)
 
-pub same_history : (old new : BoardView) (report : Report) → IsSameStart old.core new.core → new.first ≡ old.first → HasHistory new.core.setting new.first report → HasHistory old.core.setting old.first report
+pub same_history : (old new : BoardView) (report : Report) → IsSameStart old.core new.core → new.first ≡ old.first
+    → HasHistory new.core.setting new.first report → HasHistory old.core.setting old.first report
 same_history old new report same first h =
     subst (λ (s : Setting). HasHistory s old.first report) same.setting (subst (λ (t : List (Option Outcome)). HasHistory new.core.setting t report) first h)

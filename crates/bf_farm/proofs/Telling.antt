@@ -21,7 +21,8 @@ use Rattle.bf_farm.specs.declared.report.Report.{Report}
 use Rattle.bf_farm.specs.Used.{marked_places, aborting_place, ending_place, used_places, AreAnswersAt}
 use Rattle.bf_farm.proofs.Listed.{listed}
 
-same_pair : (known : Outcomes) (a : Answer) (pair : ℕ × Outcome) → a.place ≡ pair.0 → known a.place ≡ Some a.outcome → known pair.0 ≡ Some pair.1 → pair_of a ≡ pair
+same_pair : (known : Outcomes) (a : Answer) (pair : ℕ × Outcome) → a.place ≡ pair.0 → known a.place ≡ Some a.outcome → known pair.0 ≡ Some pair.1
+    → pair_of a ≡ pair
 same_pair known a (p, outcome) at told other =
     let same : a.outcome ≡ outcome = cc (at, told, other) in
     ap (λ (q : ℕ). (q, a.outcome)) at ∙ ap (λ (o : Outcome). (p, o)) same
@@ -36,7 +37,8 @@ same_pairs known (a ∷ answers) (pair ∷ pairs) e h k =
     let heads : a.place ≡ pair.0 = cc e in
     let tails : map (λ a. a.place) answers ≡ map (λ pair. pair.0) pairs = cc e in
     ap (λ (q : ℕ × Outcome). q ∷ map pair_of answers) (same_pair known a pair heads (h 0 a (omega arith)) (k 0 pair (omega arith)))
-    ∙ ap (λ (l : List (ℕ × Outcome)). pair ∷ l) (same_pairs known answers pairs tails (λ i d l. h (suc i) d (omega arith)) (λ i d l. k (suc i) d (omega arith)))
+    ∙ ap (λ (l : List (ℕ × Outcome)). pair ∷ l) (same_pairs known answers pairs tails (λ i d l. h (suc i) d (omega arith))
+        (λ i d l. k (suc i) d (omega arith)))
 
 -- the answers of the used places are the pairs that the run used
 pub used_are : (setting : Setting) (table : List (Option Outcome)) (names : List Oid) (answers : List Answer)
@@ -75,15 +77,18 @@ pub ending_tells : (o : Option Ending) (end : End) → Tells o end → ending_pl
 ending_tells None end told = sym (waits_none end told)
 ending_tells (Some ending) end told = by_ending ending ∙ ap (λ (e : End). aborting_place e) told.0
 
-all_known : (known : Outcomes) (pairs : List (ℕ × Outcome)) → All (λ pair. known pair.0 ≡ Some pair.1) pairs → All (λ p. is_some (known p) ≡ true) (map (λ pair. pair.0) pairs)
+all_known : (known : Outcomes) (pairs : List (ℕ × Outcome)) → All (λ pair. known pair.0 ≡ Some pair.1) pairs
+    → All (λ p. is_some (known p) ≡ true) (map (λ pair. pair.0) pairs)
 all_known known [] h = All-nil (λ (p : ℕ). is_some (known p) ≡ true)
 all_known known (pair ∷ pairs) h =
     All-cons (λ (p : ℕ). is_some (known p) ≡ true) pair.0 (map (λ pair. pair.0) pairs) (ap (λ (o : Option Outcome). is_some o) (h 0 pair (omega arith)))
     (all_known known pairs (λ k d l. h (suc k) d (omega arith)))
 
-pub used_known : (setting : Setting) (table : List (Option Outcome)) → All (λ p. is_some (outcomes_of_table table p) ≡ true) (used_places (consumed setting table))
+pub used_known : (setting : Setting) (table : List (Option Outcome))
+    → All (λ p. is_some (outcomes_of_table table p) ≡ true) (used_places (consumed setting table))
 used_known setting table =
-    subst (λ (ps : List ℕ). All (λ p. is_some (outcomes_of_table table p) ≡ true) ps) (listed (outcomes_of_table table) setting.graph (leg_of setting.leg) setting.start)
+    subst (λ (ps : List ℕ). All (λ p. is_some (outcomes_of_table table p) ≡ true) ps)
+        (listed (outcomes_of_table table) setting.graph (leg_of setting.leg) setting.start)
     (all_known (outcomes_of_table table) (consumed setting table).used (told (outcomes_of_table table) setting.graph (leg_of setting.leg) setting.start).used)
 
 all_left : (P : ℕ → Type 0) (xs ys : List ℕ) → All P (xs ++ ys) → All P xs
@@ -94,30 +99,37 @@ all_right : (P : ℕ → Type 0) (xs ys : List ℕ) → All P (xs ++ ys) → All
 all_right P [] ys h = h
 all_right P (x ∷ xs) ys h = all_right P xs ys (λ k d l. h (suc k) d (omega arith))
 
-pub marked_known : (setting : Setting) (table other : List (Option Outcome)) (entries : List Entry) → other ≡ table → entries ≡ (consumed setting table).entries
+pub marked_known : (setting : Setting) (table other : List (Option Outcome)) (entries : List Entry) → other ≡ table
+    → entries ≡ (consumed setting table).entries
     → All (λ p. is_some (outcomes_of_table other p) ≡ true) (marked_places entries)
 marked_known setting table other entries same is =
     subst (λ (t : List (Option Outcome)). All (λ p. is_some (outcomes_of_table t p) ≡ true) (marked_places entries)) (sym same)
     (subst (λ (es : List Entry). All (λ p. is_some (outcomes_of_table table p) ≡ true) (marked_places es)) (sym is)
-    (all_left (λ p. is_some (outcomes_of_table table p) ≡ true) (marked_places (consumed setting table).entries) (aborting_place (consumed setting table).end) (used_known setting table)))
+    (all_left (λ p. is_some (outcomes_of_table table p) ≡ true) (marked_places (consumed setting table).entries)
+        (aborting_place (consumed setting table).end) (used_known setting table)))
 
 pub ending_known : (setting : Setting) (table other : List (Option Outcome)) (o : Option Ending) → other ≡ table → Tells o (consumed setting table).end
     → All (λ p. is_some (outcomes_of_table other p) ≡ true) (ending_place o)
 ending_known setting table other o same tells =
     subst (λ (t : List (Option Outcome)). All (λ p. is_some (outcomes_of_table t p) ≡ true) (ending_place o)) (sym same)
     (subst (λ (ps : List ℕ). All (λ p. is_some (outcomes_of_table table p) ≡ true) ps) (sym (ending_tells o (consumed setting table).end tells))
-    (all_right (λ p. is_some (outcomes_of_table table p) ≡ true) (marked_places (consumed setting table).entries) (aborting_place (consumed setting table).end) (used_known setting table)))
+    (all_right (λ p. is_some (outcomes_of_table table p) ≡ true) (marked_places (consumed setting table).entries)
+        (aborting_place (consumed setting table).end) (used_known setting table)))
 
 -- the answers of the places that entries and ending tell
-pub answers_of_run : (setting : Setting) (names : List Oid) (table other : List (Option Outcome)) (entries : List Entry) (o : Option Ending) (answers : List Answer) → other ≡ table
-    → entries ≡ (consumed setting table).entries → Tells o (consumed setting table).end → AreAnswersAt names other (marked_places entries ++ ending_place o) answers
+pub answers_of_run : (setting : Setting) (names : List Oid) (table other : List (Option Outcome)) (entries : List Entry) (o : Option Ending)
+    (answers : List Answer) → other ≡ table
+    → entries ≡ (consumed setting table).entries → Tells o (consumed setting table).end → AreAnswersAt names other
+        (marked_places entries ++ ending_place o) answers
     → AreAnswersAt names table (used_places (consumed setting table)) answers
 answers_of_run setting names table other entries o answers same is tells h =
     subst (λ (t : List (Option Outcome)). AreAnswersAt names t (used_places (consumed setting table)) answers) same
     (subst (λ (ps : List ℕ). AreAnswersAt names other ps answers)
-    (ap (λ (es : List Entry). marked_places es ++ ending_place o) is ∙ ap (λ (l : List ℕ). marked_places (consumed setting table).entries ++ l) (ending_tells o (consumed setting table).end tells)) h)
+    (ap (λ (es : List Entry). marked_places es ++ ending_place o) is ∙ ap (λ (l : List ℕ). marked_places (consumed setting table).entries ++ l)
+        (ending_tells o (consumed setting table).end tells)) h)
 
-pub reports : (setting : Setting) (first : Session) (names : List Oid) (table : List (Option Outcome)) (report : Report) → report.entries.items ≡ (consumed setting table).entries
+pub reports : (setting : Setting) (first : Session) (names : List Oid) (table : List (Option Outcome)) (report : Report)
+    → report.entries.items ≡ (consumed setting table).entries
     → report.state ≡ with_search first (consumed setting table).search → end_of report.ending ≡ (consumed setting table).end → report.table ≡ table
     → AreAnswersAt names table (used_places (consumed setting table)) report.used.items → IsReport setting first names report
 reports setting first names table report entries state ending same h =
