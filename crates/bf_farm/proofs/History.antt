@@ -30,7 +30,8 @@ chosen true x next e = cc
 chosen false x next e = cc
 
 at_most : (claims : List Claim) (worker : ℕ) → length (without claims worker) ≤ length claims
-at_most claims worker = omega (arith, length-filter_both (λ (c : Claim). not (c.worker == worker)) (λ (c : Claim). not (not (c.worker == worker))) (λ c. refl) claims)
+at_most claims worker = omega (arith, length-filter_both (λ (c : Claim). not (c.worker == worker)) (λ (c : Claim). not (not (c.worker == worker)))
+    (λ c. refl) claims)
 
 fewer_after : (b q s : Bool) (c : Claim) (rest claims : List Claim) → ((b && q) || s) ≡ true → length rest ≤ length claims
     → (s ≡ true → length rest < length claims) → length (cond (not b) (c ∷ rest) rest) < suc (length claims)
@@ -41,12 +42,14 @@ fewer_after false q s c rest claims h most more = let l : length rest < length c
 pub fewer : (claims : List Claim) (worker p : ℕ) → stands claims worker p ≡ true → length (without claims worker) < length claims
 fewer [] worker p h = cc
 fewer (c ∷ claims) worker p h =
-    fewer_after (c.worker == worker) (c.place == p) (stands claims worker p) c (without claims worker) claims h (at_most claims worker) (fewer claims worker p)
+    fewer_after (c.worker == worker) (c.place == p) (stands claims worker p) c (without claims worker) claims h (at_most claims worker)
+        (fewer claims worker p)
 
 pub claims_after_claim : (setting : Setting) (farm next : Farm) (worker p : ℕ) → step setting farm (events.Claim worker p) ≡ Some next
     → length next.claims ≡ length farm.claims + 1
 claims_after_claim setting farm next worker p e =
-    let same = chosen (not (has_claim farm.claims worker) && is_best (best_place setting farm) p) (record farm { claims = farm.claims ++ (record { worker = worker; place = p }) ∷ [] }) next e in
+    let same = chosen (not (has_claim farm.claims worker) && is_best (best_place setting farm) p)
+        (record farm { claims = farm.claims ++ (record { worker = worker; place = p }) ∷ [] }) next e in
     subst (λ (f : Farm). length f.claims ≡ length farm.claims + 1) same
     (omega (arith, length-append farm.claims ((record { worker = worker; place = p }) ∷ [])))
 
@@ -68,7 +71,8 @@ found false c rest s e h = h e
 
 pub no_claim : (claims : List Claim) (worker : ℕ) → claimed_by claims worker ≡ None → has_claim claims worker ≡ false
 no_claim [] worker e = refl
-no_claim (c ∷ claims) worker e = found (c.worker == worker) c (find (λ (k : Claim). k.worker == worker) claims) (has_claim claims worker) e (no_claim claims worker)
+no_claim (c ∷ claims) worker e = found (c.worker == worker) c (find (λ (k : Claim). k.worker == worker) claims) (has_claim claims worker) e
+    (no_claim claims worker)
 
 -- ---- a core after an event
 
@@ -85,9 +89,11 @@ claimed old new worker p pick work is = subst (λ (k : Pick). ClaimsWork old wor
 pub claims_after : (setting : Setting) (farm next : Farm) (e : Event) → step setting farm e ≡ Some next → length next.claims ≤ length farm.claims + 1
 claims_after setting farm next (events.Claim worker p) h = let more = claims_after_claim setting farm next worker p h in omega arith
 claims_after setting farm next (events.Post worker p outcome) h =
-    subst (λ (f : Farm). length f.claims ≤ length farm.claims + 1) (chosen (stands farm.claims worker p) _ next h) (let most = at_most farm.claims worker in omega arith)
+    subst (λ (f : Farm). length f.claims ≤ length farm.claims + 1) (chosen (stands farm.claims worker p) _ next h)
+        (let most = at_most farm.claims worker in omega arith)
 claims_after setting farm next (events.Give worker p) h =
-    subst (λ (f : Farm). length f.claims ≤ length farm.claims + 1) (chosen (stands farm.claims worker p) _ next h) (let most = at_most farm.claims worker in omega arith)
+    subst (λ (f : Farm). length f.claims ≤ length farm.claims + 1) (chosen (stands farm.claims worker p) _ next h)
+        (let most = at_most farm.claims worker in omega arith)
 
 -- ---- claims given back
 

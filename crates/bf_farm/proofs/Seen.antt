@@ -27,7 +27,8 @@ none_is_not_some None e h = cc h
 none_is_not_some (Some x) e h = cc
 
 -- a pick of a core that goes on
-pub picks_of : (old new : Machine) (worker : ℕ) (pick : Pick) → old.ending ≡ None → is_open (run_of old).end ≡ true → ClaimsWork old worker new pick → LeavesPick old worker new pick
+pub picks_of : (old new : Machine) (worker : ℕ) (pick : Pick) → old.ending ≡ None → is_open (run_of old).end ≡ true → ClaimsWork old worker new pick
+    → LeavesPick old worker new pick
     → (pick ≡ NotYet → IsAllTaken old) → (pick ≡ Ended → IsSome old.ending) → Picks (view_of old) (view_of new) worker pick
 picks_of old new worker (Work p) goes waits work leaves taken ended = work.farm
 picks_of old new worker NotYet goes waits work leaves taken ended = (ap (λ (m : Machine). farm_of m) leaves, (taken refl).none_open, waits)
@@ -56,6 +57,8 @@ wanted_again core p consumed wanted = record {
 
 pub withdrawn_seen : (core : Machine) (workers : List ℕ) → IsConsumed core → machine.AreWithdrawn core workers → AreWithdrawn (view_of core) workers
 withdrawn_seen core workers consumed are worker = (
-  λ c. let w = (are worker).0 c in record { claim = w.claim; among = w.among; by = w.by; dropped = λ wanted. w.dropped (wanted_again core w.claim.place consumed wanted) },
-  λ w. (are worker).1 (record { claim = w.claim; among = w.among; by = w.by; dropped = λ wanted. w.dropped (wanted_seen core w.claim.place consumed wanted) }),
+  λ c. let w = (are worker).0 c in record { claim = w.claim; among = w.among; by = w.by; dropped = λ wanted. w.dropped
+      (wanted_again core w.claim.place consumed wanted) },
+  λ w. (are worker).1 (record { claim = w.claim; among = w.among; by = w.by; dropped = λ wanted. w.dropped
+      (wanted_seen core w.claim.place consumed wanted) }),
 )

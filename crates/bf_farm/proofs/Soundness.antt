@@ -44,7 +44,8 @@ table_sound told names answers table (events.Claim worker q) sound before = befo
 table_sound told names answers table (events.Give worker q) sound before = before
 table_sound told names answers table (events.Post worker q put) sound before = λ p outcome h.
     elim (set_cases table q p put outcome h) [
-      | inl e ↦ subst (λ (n : ℕ). IsSoundPost told names answers n outcome) (sym e.0) (subst (λ (o : Outcome). IsSoundPost told names answers q o) (sym e.1) sound)
+      | inl e ↦ subst (λ (n : ℕ). IsSoundPost told names answers n outcome) (sym e.0)
+          (subst (λ (o : Outcome). IsSoundPost told names answers q o) (sym e.1) sound)
       | inr e ↦ before p outcome e
     ]
 
@@ -61,7 +62,8 @@ sound_does told names answers old new e does event sound = record {
 sound_same : (told : Option (List Outcome)) (names : List Oid) (answers : List Answer) (old new : BoardView)
     → IsSameBoard old new → IsSound told names answers old → IsSound told names answers new
 sound_same told names answers old new same sound = record {
-  table = λ p outcome h. sound.table p outcome (subst (λ (t : List (Option Outcome)). outcomes_of_table t p ≡ Some outcome) (ap (λ (x : CoreView). x.farm.table) same.core) h);
+  table = λ p outcome h. sound.table p outcome (subst (λ (t : List (Option Outcome)). outcomes_of_table t p ≡ Some outcome)
+      (ap (λ (x : CoreView). x.farm.table) same.core) h);
   posts = subst (λ (l : List Event). All (λ x. IsSoundEvent told names answers x) l) (sym same.events) sound.posts;
 }
 
@@ -114,7 +116,8 @@ among_itself answers = All-contains_itself answers
 pub among_then : (a b c : List Answer) → AreAmong c b → AreAmong b a → AreAmong c a
 among_then a b c x y = λ k d l. All-contains (λ (v : Answer). Contains c v) b (get_or a k d) x (y k d l)
 
-answered_wider : (names : List Oid) (more answers : List Answer) (p : ℕ) (outcome : Outcome) → AreAmong more answers → IsAnswered names answers p outcome → IsAnswered names more p outcome
+answered_wider : (names : List Oid) (more answers : List Answer) (p : ℕ) (outcome : Outcome) → AreAmong more answers
+    → IsAnswered names answers p outcome → IsAnswered names more p outcome
 answered_wider names more answers p outcome among h = record {
   name = h.name;
   named = h.named;
@@ -139,7 +142,8 @@ sound_wider told names more answers b among h = record {
 }
 
 -- a test that was done, and whose outcome was posted
-pub sound_tested : (told : Option (List Outcome)) (names : List Oid) (answers more : List Answer) (legal : Bool) (old new : BoardView) (worker p : ℕ) (outcome : Outcome) (name : Oid)
+pub sound_tested : (told : Option (List Outcome)) (names : List Oid) (answers more : List Answer) (legal : Bool) (old new : BoardView) (worker p : ℕ)
+    (outcome : Outcome) (name : Oid)
     → more ≡ answers ++ answer_of p name outcome ∷ [] → slice_get names p ≡ Some name → FollowsPlan told p outcome
     → DoesIf legal old new (events.Post worker p outcome) → IsSound told names answers old → IsSound told names more new
 sound_tested told names answers more legal old new worker p outcome name e named planned does sound =
@@ -148,7 +152,8 @@ sound_tested told names answers more legal old new worker p outcome name e named
       answered = record {
         name = name;
         named = named;
-        given = All-contains (λ (a : Answer). Contains more a) (answer_of p name outcome ∷ []) (answer_of p name outcome) (among_after more answers (answer_of p name outcome ∷ []) e) (0, omega arith, refl);
+        given = All-contains (λ (a : Answer). Contains more a) (answer_of p name outcome ∷ []) (answer_of p name outcome)
+            (among_after more answers (answer_of p name outcome ∷ []) e) (0, omega arith, refl);
       };
       planned = planned;
     })

@@ -50,7 +50,8 @@ manner_by told command is_lenient grounds recalled t =
     record { told = told t; command = command t; is_lenient = is_lenient t; grounds = grounds t; recalled = recalled t }
 
 -- a tester that tested more: it is of the same manner, and its answers follow the plan
-abbrev pub IsPart : {T : Type 0} → (T → Option (List Outcome)) → (T → List (List ℕ)) → (T → Bool) → (T → List Ground) → (T → List Answer) → (T → List Answer) → T → T → Type 0
+abbrev pub IsPart : {T : Type 0} → (T → Option (List Outcome)) → (T → List
+    (List ℕ)) → (T → Bool) → (T → List Ground) → (T → List Answer) → (T → List Answer) → T → T → Type 0
 IsPart told command is_lenient grounds recalled answers before after =
     (manner_by told command is_lenient grounds recalled after ≡ manner_by told command is_lenient grounds recalled before)
     × AnswersFollow (told before) (answers after)

@@ -4,10 +4,12 @@ ghost use Rattle.bf_guesses.specs.Ends.{HasEnds};
 ghost use Rattle.bf_search.specs.Farm.{stands, has_claim};
 ghost use Rattle.bf_search.specs.declared.farm.Event.TheVariants as event;
 ghost use Rattle.std.specs.List.Sorted.{IsStrictlyIncreasing};
-ghost use Rattle.bf_farm.specs.Cores.{AreWithdrawn};
-ghost use Rattle.bf_farm.specs.Boards.{unclaimed, BoardView, IsSameBoard, Does, DoesIf, PicksFor, PicksNew, claimed_by, GivesBack};
+ghost use Rattle.bf_farm.specs.Cores.{AreWithdrawn, run_of};
+ghost use Rattle.bf_state.specs.Session.{with_search};
+ghost use Rattle.bf_spec.specs.Walks.{Tells};
+ghost use Rattle.bf_farm.specs.Boards.{LeadsTo, unclaimed, BoardView, IsSameBoard, Does, DoesIf, PicksFor, PicksNew, claimed_by, GivesBack};
 
-use bf_core::{ApplyFault, Core, Pick, Withdrawn};
+use bf_core::{ApplyFault, Core, CoreParts, Pick, Withdrawn};
 use bf_reach::Reach;
 use bf_search::{Claim, Event, Outcome};
 use bf_spec::Table;
@@ -130,11 +132,24 @@ impl<'r> Board<'r> {
     }
 
     /// The oldest claim that stands.
-    fn first_claim(&self) -> Option<Claim>
+    pub(crate) fn first_claim(&self) -> Option<Claim>
+        ensures within { IfSome result (λ claim. claim.place < length self.now.core.farm.table) }
         ensures some { IfSome result (λ claim. stands self.now.core.farm.claims claim.worker claim.place ≡ true) }
         ensures none { IfNone result (self.now.core.farm.claims ≡ []) }
     {
         self.core.claims().first().copied()
+    }
+
+    /// The parts of the core, and the events.
+    pub(crate) fn into_parts(self) -> (CoreParts, Vec<Event>)
+        ensures entries { result.0.entries.items ≡ (run_of self.entry.core).entries }
+        ensures state { result.0.state ≡ with_search self.entry.core.first (run_of self.entry.core).search }
+        ensures ending { Tells result.0.ending (run_of self.entry.core).end }
+        ensures table { result.0.table ≡ self.entry.core.farm.table }
+        ensures events { result.1.items ≡ self.entry.events }
+        ensures history { LeadsTo self.entry.core.setting self.entry.first self.entry.events self.entry.core.farm }
+    {
+        (self.core.into_parts(), self.events)
     }
 
     /// The events so far.
