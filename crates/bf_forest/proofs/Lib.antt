@@ -1,10 +1,13 @@
 pub mod Applied
 pub mod Changed
 pub mod Copied
+pub mod Cutting
 pub mod Entered
+pub mod Heft
 pub mod Indexed
 pub mod Joining
 pub mod Keys
+pub mod Leveled
 pub mod Listed
 pub mod Loops
 pub mod Making
@@ -15,3 +18,4 @@ pub mod Pooled
 pub mod Sameness
 pub mod Settling
 pub mod Slotted
+pub mod Walking

@@ -2,9 +2,12 @@
 //! that list, and the name of a tree is that which git gives it.
 #![tactic(auto)]
 
+mod cuts;
 mod edits;
 mod entries;
+mod levels;
 mod nodes;
+mod opened;
 mod pool;
 mod slots;
 mod trees;

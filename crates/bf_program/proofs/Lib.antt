@@ -1,5 +1,4 @@
-pub mod Braces
-pub mod Fronts
-pub mod Importing
-pub mod Naming
-pub mod Outputs
+mod Fronts
+mod Gathering
+mod Importing
+mod Skipping

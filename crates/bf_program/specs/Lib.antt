@@ -1,7 +1,4 @@
 pub mod Answers
-pub mod Output
-pub mod Requests
-pub mod Statuses
+pub mod Steps
 pub mod Tellings
-pub mod Words
 pub mod Writes

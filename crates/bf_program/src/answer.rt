@@ -1,9 +1,10 @@
 //! What the program is about to write.
 ghost use Rattle.std.specs.Prelude.{◌≡◌};
 ghost use Rattle.bf_program.specs.declared.answer.Cut.TheVariants as cuts;
+ghost use Rattle.bf_program.specs.declared.answer.Stop.TheVariants as stops;
 
-use crate::status::Status;
 use bf_io::Bytes;
+use bf_output::Status;
 use std::alloc::{AllocError, AllocFailed};
 use thiserror::Error;
 
@@ -38,5 +39,30 @@ impl<T: Drop> From<AllocFailed<T>> for Cut {
 
     fn from(_: AllocFailed<T>) -> Cut {
         Cut::NoMemory
+    }
+}
+
+/// Why a step of a command gives no value.
+#[derive(Drop)]
+pub(crate) enum Stop {
+    /// The command is refused, with this answer.
+    Refused(Answer),
+    /// Memory ran out.
+    NoMemory,
+}
+
+impl From<AllocError> for Stop {
+    ghost from_gives = { λ _ e. e ≡ stops.NoMemory };
+
+    fn from(_: AllocError) -> Stop {
+        Stop::NoMemory
+    }
+}
+
+impl<T: Drop> From<AllocFailed<T>> for Stop {
+    ghost from_gives = { λ _ e. e ≡ stops.NoMemory };
+
+    fn from(_: AllocFailed<T>) -> Stop {
+        Stop::NoMemory
     }
 }

@@ -3,19 +3,18 @@
 #![tactic(auto)]
 
 mod answer;
-mod law;
+mod begin;
+mod named;
+mod plan;
 mod refusals;
-mod resolve;
-mod search;
-mod status;
+mod simulate;
+mod skips;
+mod tell;
 mod top;
-mod words;
 
-pub use law::{one_output, some_output};
-pub use status::{NameFault, Status, StreamKind};
+pub use bf_names::NameFault;
+pub use bf_output::{Status, StreamKind};
 pub use top::{bisect_main, say};
 
-#[cfg(test)]
-mod rows;
 #[cfg(test)]
 mod tests;

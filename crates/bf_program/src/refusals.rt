@@ -1,20 +1,24 @@
 //! The answers that are refusals.
-ghost use Rattle.std.specs.Prelude.{◌≡◌, IfOk, IsErrOf};
+ghost use Rattle.std.specs.Prelude.{◌≡◌, ◌++◌, length, is_some, IfOk, OnOk, IsErrOf};
+ghost use Rattle.bf_output.specs.Refusals as refusals;
+ghost use Rattle.bf_output.specs.Statuses as words;
 ghost use Rattle.bf_program.specs.Answers.{IsWhole};
-ghost use Rattle.bf_program.specs.Output as output;
-ghost use Rattle.bf_program.specs.Statuses as words;
 ghost use Rattle.bf_program.specs.Tellings.{told_of};
 
 use crate::answer::{Answer, Cut};
-use crate::status::{NameFault, Status, StreamKind};
+use crate::tell::sides_of;
 use bf_grammar::{Limit, StreamFault};
 use bf_history::ImportFault;
 use bf_io::{Bytes, put_decimal};
+use bf_log::{Sides, write_waiting};
+use bf_names::NameFault;
+use bf_output::{Status, StreamKind};
+use bf_state::State;
 use std::alloc::{AllocError, Global};
 
 /// The answer to a stream that gave no history.
 pub(crate) fn refusal(alloc: Global, fault: ImportFault) -> Result<Answer, Cut>
-    ensures tells { IfOk result (λ answer. told_of answer ≡ output.refusal fault) }
+    ensures tells { IfOk result (λ answer. told_of answer ≡ refusals.refusal fault) }
     ensures whole { IfOk result (λ answer. IsWhole answer.status) }
     ensures read { IsErrOf result Cut.Read → fault ≡ ImportFault.Stream StreamFault.Read }
 {
@@ -30,7 +34,7 @@ pub(crate) fn refusal(alloc: Global, fault: ImportFault) -> Result<Answer, Cut>
 }
 
 fn refusal_of_stream(alloc: Global, fault: StreamFault) -> Result<Answer, Cut>
-    ensures tells { IfOk result (λ answer. told_of answer ≡ output.refusal_of_stream fault) }
+    ensures tells { IfOk result (λ answer. told_of answer ≡ refusals.refusal_of_stream fault) }
     ensures whole { IfOk result (λ answer. IsWhole answer.status) }
     ensures read { IsErrOf result Cut.Read → fault ≡ StreamFault.Read }
 {
@@ -45,9 +49,9 @@ fn refusal_of_stream(alloc: Global, fault: StreamFault) -> Result<Answer, Cut>
     }
 }
 
-#[tactic(auto, unfolding(crate::specs::Output::refused_at))]
+#[tactic(auto, unfolding(bf_output::specs::Refusals::refused_at))]
 fn refused_at(alloc: Global, line: u64, kind: StreamKind) -> Result<Answer, Cut>
-    ensures tells { IfOk result (λ answer. told_of answer ≡ output.refused_at line kind) }
+    ensures tells { IfOk result (λ answer. told_of answer ≡ refusals.refused_at line kind) }
     ensures whole { IfOk result (λ answer. IsWhole answer.status) }
     ensures no_read { IsErrOf result Cut.Read → ⊥ }
 {
@@ -62,9 +66,9 @@ fn refused_at(alloc: Global, line: u64, kind: StreamKind) -> Result<Answer, Cut>
     })
 }
 
-#[tactic(auto, unfolding(crate::specs::Output::too_large))]
+#[tactic(auto, unfolding(bf_output::specs::Refusals::too_large))]
 fn too_large(alloc: Global, what: Limit) -> Result<Answer, Cut>
-    ensures tells { IfOk result (λ answer. told_of answer ≡ output.too_large what) }
+    ensures tells { IfOk result (λ answer. told_of answer ≡ refusals.too_large what) }
     ensures whole { IfOk result (λ answer. IsWhole answer.status) }
     ensures no_read { IsErrOf result Cut.Read → ⊥ }
 {
@@ -78,15 +82,15 @@ fn too_large(alloc: Global, what: Limit) -> Result<Answer, Cut>
 }
 
 /// The answer to a name that means no commit.
-#[tactic(auto, unfolding(crate::specs::Output::name_refused))]
+#[tactic(auto, unfolding(bf_output::specs::Refusals::name_refused))]
 pub(crate) fn name_refusal(alloc: Global, word: u32, fault: NameFault) -> Result<Answer, AllocError>
-    ensures tells { IfOk result (λ answer. told_of answer ≡ output.name_refused word fault) }
+    ensures tells { IfOk result (λ answer. told_of answer ≡ refusals.name_refused word fault) }
     ensures whole { IfOk result (λ answer. IsWhole answer.status) }
 {
     let mut text = Bytes::from_slice(alloc, b"name refused at word ")?;
     put_decimal(&mut text, u64::from(word))?;
     text.append(b": ")?;
-    text.append(words_of_name_fault(fault))?;
+    put_name_fault(&mut text, fault)?;
     text.append(b"\n")?;
     Ok(Answer {
         status: Status::NameRefused { word, fault },
@@ -96,7 +100,7 @@ pub(crate) fn name_refusal(alloc: Global, word: u32, fault: NameFault) -> Result
 
 /// The answer to words that ask for something that is not built yet.
 pub(crate) fn unbuilt(alloc: Global) -> Result<Answer, AllocError>
-    ensures tells { IfOk result (λ answer. told_of answer ≡ output.unbuilt) }
+    ensures tells { IfOk result (λ answer. told_of answer ≡ refusals.unbuilt) }
     ensures whole { IfOk result (λ answer. IsWhole answer.status) }
 {
     Ok(Answer {
@@ -132,10 +136,52 @@ fn word_of_limit(what: Limit) -> &'static [u8]
     }
 }
 
-fn words_of_name_fault(fault: NameFault) -> &'static [u8]
-    ensures { result.now ≡ words.words_of_name_fault fault }
+fn put_name_fault(out: &mut Bytes, fault: NameFault) -> Result<(), AllocError>
+    ensures { OnOk result (out.new ≡ out.old ++ words.words_of_name_fault fault) }
 {
     match fault {
-        NameFault::Unknown => b"unknown",
+        NameFault::Unknown => out.append(b"unknown"),
+        NameFault::Ambiguous { count } => {
+            out.append(b"ambiguous ")?;
+            put_decimal(out, u64::from(count))
+        }
+        NameFault::NoParent => out.append(b"no parent"),
+        NameFault::BadForm => out.append(b"bad form"),
+        NameFault::NoMemory => out.append(b"out of memory"),
     }
+}
+
+/// The answer to words that are in no form.
+#[tactic(auto, unfolding(bf_output::specs::Refusals::usage))]
+pub(crate) fn usage(alloc: Global, word: u32) -> Result<Answer, AllocError>
+    ensures tells { IfOk result (λ answer. told_of answer ≡ refusals.usage word) }
+    ensures whole { IfOk result (λ answer. IsWhole answer.status) }
+{
+    let mut text = Bytes::from_slice(alloc, b"usage fault at word ")?;
+    put_decimal(&mut text, u64::from(word))?;
+    text.append(b"\n")?;
+    Ok(Answer {
+        status: Status::Usage { word },
+        text,
+    })
+}
+
+/// The answer of a search that waits for an end.
+#[tactic(auto, unfolding(bf_output::specs::Refusals::waiting))]
+pub(crate) fn waiting(alloc: Global, state: &State) -> Result<Answer, AllocError>
+    ensures tells { IfOk result (λ answer. told_of answer ≡ refusals.waiting state.now.terms (is_some state.now.search.bad) (length state.now.search.goods)) }
+    ensures whole { IfOk result (λ answer. IsWhole answer.status) }
+{
+    let mut text = Bytes::new(alloc);
+    let goods = state.goods.len() as u64;
+    write_waiting(
+        sides_of(&state.terms),
+        state.bad.is_some(),
+        goods,
+        &mut text,
+    )?;
+    Ok(Answer {
+        status: Status::Waiting,
+        text,
+    })
 }

@@ -1,29 +1,406 @@
-//! Answers that need no commit.
-use crate::{NameFault, Status, StreamKind, bisect_main};
-use bf_grammar::Limit;
-use bf_io::{Bytes, MemSink, PlainSink, PlainSource, Word};
+//! Whole runs over small streams, each with its words, its status and what it writes.
+ghost use Rattle.std.specs.Prelude.{◌<◌};
+
+use crate::{Status, bisect_main};
+use bf_io::{Bytes, MemSink, MemSource, PlainSink, Word};
 use std::alloc::{AllocError, Global};
 use std::test::Fail;
 
-const UNBUILT: &[u8] = b"not built yet\n";
+const FIRST: &[u8] = b"commit refs/heads/old
+mark :1
+committer T <t@e> 0 +0000
+data 2
+c0
+commit refs/heads/main
+mark :2
+committer T <t@e> 1 +0000
+data 2
+c1
+from :1
+commit refs/heads/main
+mark :3
+committer T <t@e> 2 +0000
+data 2
+c2
+commit refs/heads/main
+mark :4
+committer T <t@e> 3 +0000
+data 2
+c3
+";
 
-const VERB: &[u8] = b"simulate";
+const FORK: &[u8] = b"commit refs/heads/main
+mark :1
+committer T <t@e> 0 +0000
+data 2
+c0
+commit refs/heads/main
+mark :2
+committer T <t@e> 1 +0000
+data 2
+c1
+commit refs/heads/side
+mark :3
+committer T <t@e> 2 +0000
+data 2
+c2
+from :1
+";
 
-const MAIN: &[u8] = b"refs/heads/main";
+const DIAMOND: &[u8] = b"commit refs/heads/main
+mark :1
+committer T <t@e> 0 +0000
+data 2
+c0
+commit refs/heads/main
+mark :2
+committer T <t@e> 1 +0000
+data 2
+c1
+commit refs/heads/side
+mark :3
+committer T <t@e> 2 +0000
+data 2
+c2
+from :1
+commit refs/heads/main
+mark :4
+committer T <t@e> 3 +0000
+data 2
+c3
+merge :3
+";
 
-const OLD: &[u8] = b"refs/heads/old";
+const TWO: &[u8] = b"commit refs/heads/main
+mark :1
+committer T <t@e> 0 +0000
+data 2
+c0
+commit refs/heads/main
+mark :2
+committer T <t@e> 1 +0000
+data 2
+c1
+";
 
-// Words that are in no form.
-const OTHER_WORDS: [&[&[u8]]; 9] = [
-    &[],
-    &[VERB, MAIN, OLD],
-    &[VERB, MAIN, OLD, b"gb", b"gb"],
-    &[b"run", MAIN, OLD, b"gb"],
-    &[VERB, b"main", OLD, b"gb"],
-    &[VERB, MAIN, b"refs/heads/old~1", b"gb"],
-    &[VERB, b"refs/heads/main@{1}", OLD, b"gb"],
-    &[VERB, MAIN, OLD, b"gx"],
-    &[VERB, MAIN, OLD, b"gB"],
+const EIGHT: &[u8] = b"commit refs/heads/main
+mark :1
+committer T <t@e> 0 +0000
+data 2
+c0
+commit refs/heads/main
+mark :2
+committer T <t@e> 1 +0000
+data 2
+c1
+commit refs/heads/main
+mark :3
+committer T <t@e> 2 +0000
+data 2
+c2
+commit refs/heads/main
+mark :4
+committer T <t@e> 3 +0000
+data 2
+c3
+commit refs/heads/main
+mark :5
+committer T <t@e> 4 +0000
+data 2
+c4
+commit refs/heads/main
+mark :6
+committer T <t@e> 5 +0000
+data 2
+c5
+commit refs/heads/main
+mark :7
+committer T <t@e> 6 +0000
+data 2
+c6
+commit refs/heads/main
+mark :8
+committer T <t@e> 7 +0000
+data 2
+c7
+";
+
+const THREE: &[u8] = b"commit refs/heads/main
+mark :1
+committer T <t@e> 0 +0000
+data 2
+c0
+commit refs/heads/main
+mark :2
+committer T <t@e> 1 +0000
+data 2
+c1
+commit refs/heads/main
+mark :3
+committer T <t@e> 2 +0000
+data 2
+c2
+";
+
+const EMPTY: &[u8] = b"";
+
+const CUT: &[u8] = b"commit refs/heads/main
+committer A <a@b> 0 +0000
+data 10
+abc
+";
+
+const CHECKPOINT: &[u8] = b"checkpoint
+";
+
+/// Words over a stream, and what is answered and written.
+struct Row {
+    words: &'static [&'static [u8]],
+    stream: &'static [u8],
+    status: u8,
+    text: &'static [u8],
+}
+
+// Searches, each with its end. Past the end of the plan a test is skipped.
+static SEARCHES: [Row; 10] = [
+    Row {
+        words: &[b"simulate", b"refs/heads/main", b"refs/heads/old", b"ggbb"],
+        stream: FIRST,
+        status: 0,
+        text: b"# bad: [771edca49728d8c78d5b371976ec2debc7c92b35] c3
+# good: [56b29d9c130e2ec4b506a48d4fe5a18d92d8d1e3] c0
+git bisect start '771edca49728d8c78d5b371976ec2debc7c92b35' '56b29d9c130e2ec4b506a48d4fe5a18d92d8d1e3'
+# good: [f570778fec974dd2b05ee862e235ff38a61118d3] c1
+git bisect good f570778fec974dd2b05ee862e235ff38a61118d3
+# bad: [2a83eb598262042db81ddad6b0c3b6c0d200c521] c2
+git bisect bad 2a83eb598262042db81ddad6b0c3b6c0d200c521
+# first bad commit: [2a83eb598262042db81ddad6b0c3b6c0d200c521] c2
+2a83eb598262042db81ddad6b0c3b6c0d200c521 is the first bad commit
+",
+    },
+    Row {
+        words: &[b"simulate", b"main", b"side", b"bbg"],
+        stream: FORK,
+        status: 3,
+        text: b"# bad: [f570778fec974dd2b05ee862e235ff38a61118d3] c1
+# good: [cf280beb8e59855da6095186b2544590849cd8dd] c2
+git bisect start 'f570778fec974dd2b05ee862e235ff38a61118d3' 'cf280beb8e59855da6095186b2544590849cd8dd'
+# bad: [56b29d9c130e2ec4b506a48d4fe5a18d92d8d1e3] c0
+git bisect bad 56b29d9c130e2ec4b506a48d4fe5a18d92d8d1e3
+The merge base 56b29d9c130e2ec4b506a48d4fe5a18d92d8d1e3 is bad.
+The change was undone between it and one of the good commits.
+",
+    },
+    Row {
+        words: &[b"simulate", b"main", b"side", b"sbg"],
+        stream: FORK,
+        status: 0,
+        text: b"# bad: [f570778fec974dd2b05ee862e235ff38a61118d3] c1
+# good: [cf280beb8e59855da6095186b2544590849cd8dd] c2
+git bisect start 'f570778fec974dd2b05ee862e235ff38a61118d3' 'cf280beb8e59855da6095186b2544590849cd8dd'
+# skip: [56b29d9c130e2ec4b506a48d4fe5a18d92d8d1e3] c0
+git bisect skip 56b29d9c130e2ec4b506a48d4fe5a18d92d8d1e3
+# skipped merge base: [56b29d9c130e2ec4b506a48d4fe5a18d92d8d1e3] c0
+# first bad commit: [f570778fec974dd2b05ee862e235ff38a61118d3] c1
+f570778fec974dd2b05ee862e235ff38a61118d3 is the first bad commit
+",
+    },
+    Row {
+        words: &[b"simulate", b"--first-parent", b"main", b"main~2", b"gggb"],
+        stream: DIAMOND,
+        status: 0,
+        text: b"# bad: [5cd6ff3c76dd421bcbf1c51e84af82d13c982912] c3
+# good: [56b29d9c130e2ec4b506a48d4fe5a18d92d8d1e3] c0
+git bisect start '--first-parent' '5cd6ff3c76dd421bcbf1c51e84af82d13c982912' '56b29d9c130e2ec4b506a48d4fe5a18d92d8d1e3'
+# good: [f570778fec974dd2b05ee862e235ff38a61118d3] c1
+git bisect good f570778fec974dd2b05ee862e235ff38a61118d3
+# first bad commit: [5cd6ff3c76dd421bcbf1c51e84af82d13c982912] c3
+5cd6ff3c76dd421bcbf1c51e84af82d13c982912 is the first bad commit
+",
+    },
+    Row {
+        words: &[
+            b"simulate",
+            b"--term-new",
+            b"fixed",
+            b"--term-old",
+            b"broken",
+            b"main",
+            b"main~1",
+            b"gb",
+        ],
+        stream: TWO,
+        status: 0,
+        text: b"# fixed: [f570778fec974dd2b05ee862e235ff38a61118d3] c1
+# broken: [56b29d9c130e2ec4b506a48d4fe5a18d92d8d1e3] c0
+git bisect start '--term-new' 'fixed' '--term-old' 'broken' 'f570778fec974dd2b05ee862e235ff38a61118d3' '56b29d9c130e2ec4b506a48d4fe5a18d92d8d1e3'
+# first fixed commit: [f570778fec974dd2b05ee862e235ff38a61118d3] c1
+f570778fec974dd2b05ee862e235ff38a61118d3 is the first fixed commit
+",
+    },
+    Row {
+        words: &[
+            b"simulate",
+            b"--skip",
+            b"main~5..main~3",
+            b"main",
+            b"main~7",
+            b"ggggbbbb",
+        ],
+        stream: EIGHT,
+        status: 2,
+        text: b"# bad: [38d7eeaa2c641133c0a59de3e3515352366303d6] c7
+# good: [56b29d9c130e2ec4b506a48d4fe5a18d92d8d1e3] c0
+git bisect start '38d7eeaa2c641133c0a59de3e3515352366303d6' '56b29d9c130e2ec4b506a48d4fe5a18d92d8d1e3'
+# skip: [771edca49728d8c78d5b371976ec2debc7c92b35] c3
+git bisect skip 771edca49728d8c78d5b371976ec2debc7c92b35
+# skip: [271bb9a08b2d5aa03871aa65fdadc01c488fa408] c4
+git bisect skip 271bb9a08b2d5aa03871aa65fdadc01c488fa408
+# good: [2a83eb598262042db81ddad6b0c3b6c0d200c521] c2
+git bisect good 2a83eb598262042db81ddad6b0c3b6c0d200c521
+# bad: [3dff7cbfbc1ec2409d1dc7dba41ba991437e56aa] c5
+git bisect bad 3dff7cbfbc1ec2409d1dc7dba41ba991437e56aa
+# only skipped commits left to test
+# possible first bad commit: [771edca49728d8c78d5b371976ec2debc7c92b35] c3
+# possible first bad commit: [271bb9a08b2d5aa03871aa65fdadc01c488fa408] c4
+# possible first bad commit: [3dff7cbfbc1ec2409d1dc7dba41ba991437e56aa] c5
+There are only 'skip'ped commits left to test.
+The first bad commit could be any of:
+771edca49728d8c78d5b371976ec2debc7c92b35
+271bb9a08b2d5aa03871aa65fdadc01c488fa408
+3dff7cbfbc1ec2409d1dc7dba41ba991437e56aa
+We cannot bisect more!
+",
+    },
+    Row {
+        words: &[
+            b"simulate",
+            b"--lenient-exit",
+            b"main",
+            b"main~7",
+            b"gggnbbbb",
+        ],
+        stream: EIGHT,
+        status: 0,
+        text: b"# bad: [38d7eeaa2c641133c0a59de3e3515352366303d6] c7
+# good: [56b29d9c130e2ec4b506a48d4fe5a18d92d8d1e3] c0
+git bisect start '38d7eeaa2c641133c0a59de3e3515352366303d6' '56b29d9c130e2ec4b506a48d4fe5a18d92d8d1e3'
+# bad: [771edca49728d8c78d5b371976ec2debc7c92b35] c3
+git bisect bad 771edca49728d8c78d5b371976ec2debc7c92b35
+# good: [f570778fec974dd2b05ee862e235ff38a61118d3] c1
+git bisect good f570778fec974dd2b05ee862e235ff38a61118d3
+# good: [2a83eb598262042db81ddad6b0c3b6c0d200c521] c2
+git bisect good 2a83eb598262042db81ddad6b0c3b6c0d200c521
+# first bad commit: [771edca49728d8c78d5b371976ec2debc7c92b35] c3
+771edca49728d8c78d5b371976ec2debc7c92b35 is the first bad commit
+",
+    },
+    Row {
+        words: &[b"simulate", b"main", b"main~7", b"gggkbbbb"],
+        stream: EIGHT,
+        status: 6,
+        text: b"# bad: [38d7eeaa2c641133c0a59de3e3515352366303d6] c7
+# good: [56b29d9c130e2ec4b506a48d4fe5a18d92d8d1e3] c0
+git bisect start '38d7eeaa2c641133c0a59de3e3515352366303d6' '56b29d9c130e2ec4b506a48d4fe5a18d92d8d1e3'
+bisect aborted: killed on 771edca49728d8c78d5b371976ec2debc7c92b35
+",
+    },
+    Row {
+        words: &[b"simulate", b"main~2", b"main", b"bbb"],
+        stream: THREE,
+        status: 4,
+        text: b"# bad: [56b29d9c130e2ec4b506a48d4fe5a18d92d8d1e3] c0
+# good: [2a83eb598262042db81ddad6b0c3b6c0d200c521] c2
+git bisect start '56b29d9c130e2ec4b506a48d4fe5a18d92d8d1e3' '2a83eb598262042db81ddad6b0c3b6c0d200c521'
+Some good commits are not ancestors of the bad commit 56b29d9c130e2ec4b506a48d4fe5a18d92d8d1e3.
+",
+    },
+    Row {
+        words: &[b"simulate", b"main~1", b"main^", b"bbb"],
+        stream: THREE,
+        status: 5,
+        text: b"# bad: [f570778fec974dd2b05ee862e235ff38a61118d3] c1
+# good: [f570778fec974dd2b05ee862e235ff38a61118d3] c1
+git bisect start 'f570778fec974dd2b05ee862e235ff38a61118d3' 'f570778fec974dd2b05ee862e235ff38a61118d3'
+f570778fec974dd2b05ee862e235ff38a61118d3 was both good and bad
+",
+    },
+];
+
+// Words, streams and names that are refused.
+static REFUSALS: [Row; 9] = [
+    Row {
+        words: &[],
+        stream: EMPTY,
+        status: 1,
+        text: b"usage fault at word 0
+",
+    },
+    Row {
+        words: &[b"simulate", b"main"],
+        stream: EIGHT,
+        status: 1,
+        text: b"usage fault at word 2
+",
+    },
+    Row {
+        words: &[b"simulate", b"--workers", b"65", b"main", b"main~1", b"g"],
+        stream: EIGHT,
+        status: 1,
+        text: b"usage fault at word 2
+",
+    },
+    Row {
+        words: &[b"simulate", b"main", b"main~1", b"gx"],
+        stream: EIGHT,
+        status: 1,
+        text: b"usage fault at word 3
+",
+    },
+    Row {
+        words: &[
+            b"simulate",
+            b"--term-old",
+            b"x",
+            b"--term-new",
+            b"x",
+            b"main",
+            b"main~1",
+            b"g",
+        ],
+        stream: EIGHT,
+        status: 1,
+        text: b"usage fault at word 4
+",
+    },
+    Row {
+        words: &[b"simulate", b"main", b"main~1", b"g"],
+        stream: CUT,
+        status: 7,
+        text: b"stream refused at line 3: truncated
+",
+    },
+    Row {
+        words: &[b"simulate", b"refs/heads/none", b"refs/heads/old", b"ggbb"],
+        stream: FIRST,
+        status: 8,
+        text: b"name refused at word 1: unknown
+",
+    },
+    Row {
+        words: &[b"simulate", b"main", b"main~7", b"ggggbbbb"],
+        stream: CHECKPOINT,
+        status: 7,
+        text: b"stream refused at line 1: unsupported
+",
+    },
+    Row {
+        words: &[b"simulate", b"main", b"main~1", b"g"],
+        stream: EMPTY,
+        status: 8,
+        text: b"name refused at word 1: unknown
+",
+    },
 ];
 
 fn words_of(alloc: Global, texts: &[&[u8]]) -> Result<Vec<Word>, AllocError> {
@@ -34,47 +411,61 @@ fn words_of(alloc: Global, texts: &[&[u8]]) -> Result<Vec<Word>, AllocError> {
     Ok(words)
 }
 
-/// Whether these words are answered as not built yet, over an empty stream.
-fn are_unbuilt(alloc: Global, texts: &[&[u8]]) -> Result<bool, AllocError> {
-    let words = words_of(alloc, texts)?;
-    let mut stream = PlainSource::new(Bytes::new(alloc));
+/// Whether the row holds, with the stream in pieces of so many bytes.
+fn holds(alloc: Global, row: &Row, piece: usize) -> Result<bool, AllocError>
+    requires { 0 < piece }
+{
+    let words = words_of(alloc, row.words)?;
+    let bytes = Bytes::from_slice(alloc, row.stream)?;
+    let mut stream = MemSource::new(bytes, piece, Vec::new(alloc));
     let mut out = PlainSink::new(alloc);
     let status = bisect_main(&(), alloc, words.as_slice(), &mut stream, &mut out);
-    Ok(status == Status::Unbuilt && out.bytes() == UNBUILT)
+    Ok(status.number() == row.status && out.bytes() == row.text)
 }
 
 #[test]
-fn words_in_another_form(rt: HostRuntime) -> Result<(), Fail> {
-    for texts in OTHER_WORDS {
-        assert!(rt; are_unbuilt(rt.alloc(), texts)?);
+fn searches_and_their_ends(rt: HostRuntime) -> Result<(), Fail> {
+    for row in &SEARCHES {
+        assert!(rt; holds(rt.alloc(), row, 65_536)?, "{:?}", row.words);
     }
     Ok(())
 }
 
-// A write that fails, and one that is cut in its middle.
 #[test]
-fn output_that_cannot_be_written(rt: HostRuntime) -> Result<(), Fail> {
-    let alloc = rt.alloc();
-    let mut stream = PlainSource::new(Bytes::new(alloc));
-    let mut out = MemSink::new(alloc, 16, [1].to_vec(alloc)?);
-    let status = bisect_main(&(), alloc, &[], &mut stream, &mut out);
-    assert_eq!(rt; status, Status::WriteFault);
-    assert_eq!(rt; out.bytes(), b"".as_slice());
-    let mut out = MemSink::new(alloc, 4, [3].to_vec(alloc)?);
-    let status = bisect_main(&(), alloc, &[], &mut stream, &mut out);
-    assert_eq!(rt; status, Status::WriteFault);
-    assert_eq!(rt; out.bytes(), b"not buil".as_slice());
+fn words_streams_and_names_that_are_refused(rt: HostRuntime) -> Result<(), Fail> {
+    for row in &REFUSALS {
+        assert!(rt; holds(rt.alloc(), row, 7)?, "{:?}", row.words);
+    }
     Ok(())
 }
 
+// A source that fails at its second read, and sinks that fail at a write and at the flush behind it.
 #[test]
-fn numbers_of_statuses(rt: HostRuntime) {
-    let kind = StreamKind::BadMark;
-    let what = Limit::Entries;
-    let fault = NameFault::Unknown;
-    assert_eq!(rt; Status::Done.number(), 0);
-    assert_eq!(rt; Status::StreamRefused { line: 4, kind }.number(), 7);
-    assert_eq!(rt; Status::NameRefused { word: 1, fault }.number(), 8);
-    assert_eq!(rt; Status::TooLarge { what }.number(), 9);
-    assert_eq!(rt; Status::Unbuilt.number(), 18);
+fn devices_that_fail(rt: HostRuntime) -> Result<(), Fail> {
+    let alloc = rt.alloc();
+    let words = words_of(alloc, SEARCHES[0].words)?;
+    let fails = [2].to_vec(alloc)?;
+    let mut stream = MemSource::new(Bytes::from_slice(alloc, FIRST)?, 16, fails);
+    let mut out = PlainSink::new(alloc);
+    let status = bisect_main(&(), alloc, words.as_slice(), &mut stream, &mut out);
+    assert_eq!(rt; status, Status::ReadFault);
+    assert_eq!(rt; out.bytes(), b"read fault\n".as_slice());
+    let mut stream = MemSource::new(Bytes::from_slice(alloc, FIRST)?, 16, Vec::new(alloc));
+    let mut out = MemSink::new(alloc, 64, [1].to_vec(alloc)?);
+    let status = bisect_main(&(), alloc, words.as_slice(), &mut stream, &mut out);
+    assert_eq!(rt; status, Status::WriteFault);
+    assert_eq!(rt; out.bytes(), b"".as_slice());
+    Ok(())
+}
+
+// Words alone are answered before the stream is read; the answer is flushed, and a flush that fails is told.
+#[test]
+fn answers_are_flushed(rt: HostRuntime) -> Result<(), Fail> {
+    let alloc = rt.alloc();
+    let mut stream = MemSource::new(Bytes::new(alloc), 16, Vec::new(alloc));
+    let mut out = MemSink::new(alloc, 65_536, [2].to_vec(alloc)?);
+    let status = bisect_main(&(), alloc, &[], &mut stream, &mut out);
+    assert_eq!(rt; status, Status::WriteFault);
+    assert_eq!(rt; out.bytes(), b"usage fault at word 0\n".as_slice());
+    Ok(())
 }

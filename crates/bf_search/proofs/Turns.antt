@@ -24,6 +24,7 @@ use Rattle.bf_search.specs.Choice.{is_eligible, eligible, best}
 use Rattle.bf_search.specs.Bases.{has_place, common_places, merge_bases, reaches_all, check_open, check_bases, check}
 use Rattle.bf_search.specs.Outcomes.{Outcomes, verdict_of}
 use Rattle.bf_search.specs.State.{Search, IsSearchOver, Asked, with_test, without_test, ask_best, ask_among, best_of, ask_candidates, ask_checked, ask_ends, ask, mark}
+use Rattle.bf_search.specs.LeftToAsk.{is_below, may_ask, left_to_ask}
 use Rattle.bf_search.specs.Run.{Run, with_entries, with_used, marked_one, after_verdict, after_look, after_step, turn, run_within, run}
 use Rattle.bf_search.proofs.Reaching.{Reaches-from_test, reaches-true, Reaches-refl, Reaches-trans, Reaches-le}
 use Rattle.bf_search.proofs.Modes.{Reaches-in_mode}
@@ -32,7 +33,7 @@ use Rattle.bf_search.proofs.RowLemmas.{set-kept}
 
 -- ---- lists
 
-find_tells : (test : ℕ → Bool) (xs : List ℕ) (x : ℕ) → find test xs ≡ Some x → Contains xs x × (test x ≡ true)
+pub find_tells : (test : ℕ → Bool) (xs : List ℕ) (x : ℕ) → find test xs ≡ Some x → Contains xs x × (test x ≡ true)
 find_tells test [] x h = cc
 find_tells test (y ∷ ys) x h =
     ⊎_elim
@@ -48,16 +49,16 @@ find_tells test (y ∷ ys) x h =
 pub has_place-true : (ps : List ℕ) (p : ℕ) → Contains ps p → has_place ps p ≡ true
 has_place-true ps p h = list_any-from_Any (λ q. q == p) ps (h.0, p, h.1, h.2, eq-eqb p p refl)
 
-range_within : (n : ℕ) → All (λ p. p < n) (range_with_len 0 n)
+pub range_within : (n : ℕ) → All (λ p. p < n) (range_with_len 0 n)
 range_within n = λ k d l.
     let short : k < n = omega (arith, length-range_with_len 0 n) in
     rw (get_or-range_with_len 0 n k d short) (omega arith)
 
-count_as : (f : ℕ → Bool) (x : ℕ) (xs : List ℕ) (b : Bool) → f x ≡ b → count_by f (x ∷ xs) ≡ cond b 1 0 + count_by f xs
+pub count_as : (f : ℕ → Bool) (x : ℕ) (xs : List ℕ) (b : Bool) → f x ≡ b → count_by f (x ∷ xs) ≡ cond b 1 0 + count_by f xs
 count_as f x xs b e = sum_by-cons (λ y. cond (f y) 1 0) x xs ∙ ap (λ (v : Bool). cond v 1 0 + count_by f xs) e
 
 -- a test that tells more passes at least as often
-count_le : (f g : ℕ → Bool) (xs : List ℕ) → ((q : ℕ) → f q ≡ true → g q ≡ true) → count_by f xs ≤ count_by g xs
+pub count_le : (f g : ℕ → Bool) (xs : List ℕ) → ((q : ℕ) → f q ≡ true → g q ≡ true) → count_by f xs ≤ count_by g xs
 count_le f g [] h = omega arith
 count_le f g (x ∷ xs) h =
     ⊎_elim
@@ -66,7 +67,7 @@ count_le f g (x ∷ xs) h =
     (cases_Bool (f x))
 
 -- and more often where it passes at some place and the other test fails there
-count_lt : (f g : ℕ → Bool) (xs : List ℕ) (p : ℕ) → ((q : ℕ) → f q ≡ true → g q ≡ true) → Contains xs p → f p ≡ false → g p ≡ true → count_by f xs < count_by g xs
+pub count_lt : (f g : ℕ → Bool) (xs : List ℕ) (p : ℕ) → ((q : ℕ) → f q ≡ true → g q ≡ true) → Contains xs p → f p ≡ false → g p ≡ true → count_by f xs < count_by g xs
 count_lt f g [] p h c fp gp = absurd (omega (arith, c.1))
 count_lt f g (x ∷ xs) p h (zero, l, e) fp gp =
     omega (arith, count_as f x xs false (ap f e ∙ fp), count_as g x xs true (ap g e ∙ gp), count_le f g xs h)
@@ -96,7 +97,7 @@ pub record SameMarks (s t : Search) : Type 0 where
   pub goods : t.goods ≡ s.goods
   pub skips : t.skips ≡ s.skips
 
-best_tells : (graph : List (List ℕ)) (s : Search) (bad p : ℕ) → IsGraph graph → s.bad ≡ Some bad → best_of graph s bad ≡ Some p → AsksFor graph s p
+pub best_tells : (graph : List (List ℕ)) (s : Search) (bad p : ℕ) → IsGraph graph → s.bad ≡ Some bad → best_of graph s bad ≡ Some p → AsksFor graph s p
 unfolding best_of best
 best_tells graph s bad p g bad_is h = record {
   bad = bad;
@@ -143,7 +144,7 @@ check_open_tells : (o : Option ℕ) (bases goods : List ℕ) (skips : List Bool)
 check_open_tells None bases goods skips p h = cc
 check_open_tells (Some q) bases goods skips p h = cc
 
-common_tell : (graph : List (List ℕ)) (bad : ℕ) (goods : List ℕ) (p : ℕ) → Contains (merge_bases graph bad goods) p → (p < length graph) × Reaches graph bad p
+pub common_tell : (graph : List (List ℕ)) (bad : ℕ) (goods : List ℕ) (p : ℕ) → Contains (merge_bases graph bad goods) p → (p < length graph) × Reaches graph bad p
 unfolding merge_bases common_places
 common_tell graph bad goods p h = (
   All-contains (λ q. q < length graph) (merge_bases graph bad goods) p
@@ -159,7 +160,7 @@ common_tell graph bad goods p h = (
     common : List ℕ
     common = filter (λ q. reaches graph bad q && any_reaches graph goods q) (places graph)
 
-check_bases_tells : (bases : List ℕ) (bad : ℕ) (goods : List ℕ) (skips : List Bool) (p : ℕ) → check_bases bases bad goods skips ≡ TestBase p
+pub check_bases_tells : (bases : List ℕ) (bad : ℕ) (goods : List ℕ) (skips : List Bool) (p : ℕ) → check_bases bases bad goods skips ≡ TestBase p
     → (has_place bases bad ≡ false) × Contains bases p × (has_place goods p ≡ false) × (is_in skips p ≡ false)
 unfolding check_bases
 check_bases_tells bases bad goods skips p h =
@@ -175,7 +176,7 @@ check_bases_tells bases bad goods skips p h =
     test : ℕ → Bool
     test q = not (has_place goods q) && not (is_in skips q)
 
-check_tells : (graph : List (List ℕ)) (s : Search) (bad p : ℕ) → s.bad ≡ Some bad → check graph bad s.goods s.skips ≡ TestBase p → AsksFor graph s p
+pub check_tells : (graph : List (List ℕ)) (s : Search) (bad p : ℕ) → s.bad ≡ Some bad → check graph bad s.goods s.skips ≡ TestBase p → AsksFor graph s p
 unfolding check
 check_tells graph s bad p bad_is h =
     ⊎_elim
@@ -268,33 +269,22 @@ asking graph s p g h = ends_ask graph s s.bad s.goods g refl p h
 
 -- ---- the places that are left to ask
 
-abbrev is_below : List (List ℕ) → Option ℕ → ℕ → Bool
-is_below graph None q = false
-is_below graph (Some bad) q = reaches graph bad q && not (q == bad)
-
--- the bad place reaches it, and it is neither the bad one nor good nor skipped
-abbrev pub may_ask : List (List ℕ) → Search → ℕ → Bool
-may_ask graph s q = is_below graph s.bad q && not (has_place s.goods q) && not (is_in s.skips q)
-
-abbrev pub left_to_ask : List (List ℕ) → Search → ℕ
-left_to_ask graph s = count_by (λ q. may_ask graph s q) (places graph)
-
 -- a place that may be asked, in parts
-record MayAsk (graph : List (List ℕ)) (s : Search) (q : ℕ) : Type 0 where
-  below : is_below graph s.bad q ≡ true
-  not_good : has_place s.goods q ≡ false
-  not_skipped : is_in s.skips q ≡ false
+pub record MayAsk (graph : List (List ℕ)) (s : Search) (q : ℕ) : Type 0 where
+  pub below : is_below graph s.bad q ≡ true
+  pub not_good : has_place s.goods q ≡ false
+  pub not_skipped : is_in s.skips q ≡ false
 
-may_ask_parts : (graph : List (List ℕ)) (s : Search) (q : ℕ) → may_ask graph s q ≡ true → MayAsk graph s q
+pub may_ask_parts : (graph : List (List ℕ)) (s : Search) (q : ℕ) → may_ask graph s q ≡ true → MayAsk graph s q
 may_ask_parts graph s q h =
     let outer = and_parts (is_below graph s.bad q && not (has_place s.goods q)) (not (is_in s.skips q)) h in
     let inner = and_parts (is_below graph s.bad q) (not (has_place s.goods q)) outer.0 in
     record { below = inner.0; not_good = not-true _ inner.1; not_skipped = not-true _ outer.1 }
 
-may_ask_from : (graph : List (List ℕ)) (s : Search) (q : ℕ) → MayAsk graph s q → may_ask graph s q ≡ true
+pub may_ask_from : (graph : List (List ℕ)) (s : Search) (q : ℕ) → MayAsk graph s q → may_ask graph s q ≡ true
 may_ask_from graph s q m = and_from _ _ (and_from _ _ m.below (not_from_false _ m.not_good)) (not_from_false _ m.not_skipped)
 
-may_ask_asked : (graph : List (List ℕ)) (s : Search) (p : ℕ) → IsGraph graph → AsksFor graph s p → may_ask graph s p ≡ true
+pub may_ask_asked : (graph : List (List ℕ)) (s : Search) (p : ℕ) → IsGraph graph → AsksFor graph s p → may_ask graph s p ≡ true
 may_ask_asked graph s p g a = may_ask_from graph s p (record {
   below = subst (λ (b : Option ℕ). is_below graph b p ≡ true) (sym a.bad_is) (and_from _ _ (reaches-true graph a.bad p g a.reached) (not_from_false _ (ne_eqb p a.bad a.not_bad)));
   not_good = a.not_good;
@@ -302,13 +292,13 @@ may_ask_asked graph s p g a = may_ask_from graph s p (record {
 })
 
 -- the goods with one more place
-has_place-push : (ps : List ℕ) (p q : ℕ) → has_place (ps ++ p ∷ []) q ≡ false → (has_place ps q ≡ false) × (p ≡ q → ⊥)
+pub has_place-push : (ps : List ℕ) (p q : ℕ) → has_place (ps ++ p ∷ []) q ≡ false → (has_place ps q ≡ false) × (p ≡ q → ⊥)
 has_place-push ps p q h =
     let parts = or_parts (has_place ps q) ((p == q) || false) (sym (list_any-append (λ r. r == q) ps (p ∷ [])) ∙ h) in
     (parts.0, λ e. both_ways ((p == q) || false) parts.1 (rw (eq-eqb p q e) refl))
 
 -- after a mark of the asked place no place may be asked that might not before, and that place no more
-shrinks : (graph : List (List ℕ)) (s t : Search) (m : Mark) (p q : ℕ) → IsGraph graph → AsksFor graph s p → SameMarks s t → p < length s.skips → may_ask graph (mark t m p) q ≡ true → MayAsk graph s q × (p ≡ q → ⊥)
+pub shrinks : (graph : List (List ℕ)) (s t : Search) (m : Mark) (p q : ℕ) → IsGraph graph → AsksFor graph s p → SameMarks s t → p < length s.skips → may_ask graph (mark t m p) q ≡ true → MayAsk graph s q × (p ≡ q → ⊥)
 unfolding mark
 shrinks graph s t Good p q g a same room h =
     let now : MayAsk graph (mark t Good p) q = may_ask_parts graph (mark t Good p) q h in

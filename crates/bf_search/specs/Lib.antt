@@ -5,3 +5,7 @@ pub mod Bases
 pub mod Outcomes
 pub mod State
 pub mod Run
+pub mod LeftToAsk
+pub mod Guesses
+pub mod OpenPaths
+pub mod Farm

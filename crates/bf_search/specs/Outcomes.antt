@@ -1,5 +1,5 @@
 -- What the outcome of a test says of its commit (git-bisect(1), "Bisect run"), and the outcomes that a plan gives.
-use Rattle.std.specs.Prelude.{ℕ, nat_le, ◌||◌, ◌==◌, if◌then◌else◌, List, Option, Some, None}
+use Rattle.std.specs.Prelude.{ℕ, nat_le, ◌||◌, ◌==◌, if◌then◌else◌, List, [], ◌∷◌, Option, Some, None}
 use Rattle.std.specs.List.{slice_index_or}
 use Rattle.bf_search.specs.declared.outcomes.Outcome.{Outcome}
 use Rattle.bf_search.specs.declared.outcomes.Outcome.TheVariants.{Exit, Killed}
@@ -45,3 +45,8 @@ outcomes_of_plan plan p = Some (planned plan p)
 
 abbrev pub outcomes_of_table : List (Option Outcome) → Outcomes
 outcomes_of_table table p = slice_index_or table p None
+
+-- Pairs of a place and its outcome. Of two pairs of one place the first counts.
+abbrev pub outcomes_of_pairs : List (ℕ × Outcome) → Outcomes
+outcomes_of_pairs [] p = None
+outcomes_of_pairs ((q, outcome) ∷ pairs) p = if q == p then Some outcome else outcomes_of_pairs pairs p

@@ -43,6 +43,11 @@ abbrev pub marked_one : Option ℕ → Option ℕ
 marked_one None = None
 marked_one (Some k) = Some (k - 1)
 
+-- the marks that are left after so many more
+abbrev pub left_after : Option ℕ → ℕ → Option ℕ
+left_after None n = None
+left_after (Some k) n = Some (k - n)
+
 -- an abort ends the run; any other verdict is marked, and the run goes on
 abbrev pub after_verdict : (Option ℕ → Search → Run) → Option ℕ → Search → ℕ → Outcome → Verdict → Run
 after_verdict go left s p outcome Abort = ended [] s (Aborted p outcome)

@@ -4,9 +4,11 @@
 
 mod asks;
 mod entries;
+mod farm;
 pub mod laws;
 mod outcomes;
 
 pub use asks::{Ask, Check, Step};
 pub use entries::Entry;
+pub use farm::{Claim, Ending, Event};
 pub use outcomes::{Mark, Outcome, Verdict};

@@ -1,7 +1,6 @@
 -- Lemmas on an ask, part by part.
-use Rattle.std.proofs.Common.{◌≡◌, ℕ, ◌<◌, Bool, true, false, ◌==◌, cond, List, [], ◌∷◌, length, Option, Some, None, Result, Ok, Err, refl, sym, ap, ◌∙◌, subst}
+use Rattle.std.proofs.Common.{◌≡◌, ℕ, ◌<◌, Bool, true, false, ◌==◌, cond, List, [], ◌∷◌, length, Option, Some, None, refl, sym, ap, ◌∙◌, subst}
 use Rattle.std.specs.Option.{IfSome}
-use Rattle.std.specs.Result.{IfOk}
 use Rattle.bf_graph.specs.Graph.{IsGraph}
 use Rattle.bf_search.specs.declared.asks.Ask.{Ask}
 use Rattle.bf_search.specs.declared.asks.Ask.TheVariants.{WaitBoth, WaitBad, WaitGood, Test, MergeBaseBad, GoodNotAncestor, BothSides, FirstBad, OnlySkipped}
@@ -14,7 +13,6 @@ use Rattle.bf_search.specs.Choice.{best}
 use Rattle.bf_search.specs.State.{Search, Asked, without_test, ask_best, ask_among, best_of, ask_candidates, ask_checked, ask_ends, ask}
 use Rattle.bf_search.proofs.CandidateLemmas.{places_of-candidate_row}
 use Rattle.bf_search.proofs.Turns.{asking}
-use Rattle.bf_state.specs.declared.asking.Decision.{Decision}
 use Rattle.bf_state.specs.Steps.{tested, ending, ask_of_best, IsDecision, followed}
 
 -- ---- what an ask leaves in the search
@@ -132,7 +130,7 @@ one_step : (b : Bool) (s t : Search) (bad : ℕ) (warned ps : List ℕ) (chosen 
 one_step true s t bad warned ps chosen = refl
 one_step false s t bad warned ps chosen = best_step s t warned ps chosen
 
-among_step : (s t : Search) (bad : ℕ) (warned ps : List ℕ) (chosen : Option ℕ) → (ask_among t bad warned ps chosen).step ≡ record { warned = warned; ask = (ask_among s bad [] ps chosen).step.ask }
+pub among_step : (s t : Search) (bad : ℕ) (warned ps : List ℕ) (chosen : Option ℕ) → (ask_among t bad warned ps chosen).step ≡ record { warned = warned; ask = (ask_among s bad [] ps chosen).step.ask }
 among_step s t bad warned [] chosen = refl
 among_step s t bad warned (p ∷ []) chosen = one_step (p == bad) s t bad warned (p ∷ []) chosen
 among_step s t bad warned (p ∷ q ∷ ps) chosen = best_step s t warned (p ∷ q ∷ ps) chosen
@@ -142,29 +140,6 @@ passed_step : (graph : List (List ℕ)) (s : Search) (bad : ℕ) (warned : List 
     → (ask_candidates graph (record s { checked = true }) bad warned).step ≡ record { warned = warned; ask = (ask_candidates graph s bad []).step.ask }
 unfolding best_of
 passed_step graph s bad warned = among_step s (record s { checked = true }) bad warned (candidates graph bad s.goods s.first_parent) (best_of graph s bad)
-
-pub decide_checked : (graph : List (List ℕ)) (s : Search) (bad : ℕ) (a : Ask) → s.bad ≡ Some bad → (s.goods ≡ [] → ⊥) → s.checked ≡ true → a ≡ (ask_candidates graph s bad []).step.ask
-    → IsDecision (ask graph s) s.checked (record { warned = []; ask = a })
-decide_checked graph s bad a b g c e = record {
-  checked = sym (ap (λ (x : Asked). x.search.checked) whole ∙ ap (λ (t : Search). t.checked) (candidates_settle graph s bad []));
-  step = ap (λ (x : Ask). record { warned = []; ask = x }) e ∙ sym (among_step s s bad [] (candidates graph bad s.goods s.first_parent) (best_of graph s bad)) ∙ sym (ap (λ (x : Asked). x.step) whole);
-}
-  where
-    whole : ask graph s ≡ ask_candidates graph s bad []
-    whole = known_ends graph s bad b g ∙ ap (λ (v : Bool). cond v (ask_candidates graph s bad []) (ask_checked graph s bad (check graph bad s.goods s.skips))) c
-
-decide_unchecked : (graph : List (List ℕ)) (s : Search) (bad : ℕ) (c : Check) (passed : Bool) (next : Step) → s.bad ≡ Some bad → (s.goods ≡ [] → ⊥) → s.checked ≡ false → c ≡ check graph bad s.goods s.skips
-    → IsDecision (ask_checked graph s bad c) passed next → IsDecision (ask graph s) passed next
-decide_unchecked graph s bad c passed next b g f e d =
-    subst (λ (x : Asked). IsDecision x passed next) (ap (λ (k : Check). ask_checked graph s bad k) e ∙ sym whole) d
-  where
-    whole : ask graph s ≡ ask_checked graph s bad (check graph bad s.goods s.skips)
-    whole = known_ends graph s bad b g ∙ ap (λ (v : Bool). cond v (ask_candidates graph s bad []) (ask_checked graph s bad (check graph bad s.goods s.skips))) f
-
-pub decide_by_check : (graph : List (List ℕ)) (s : Search) (bad : ℕ) (c : Check) {E : Type 0} (r : Result Decision E) → s.bad ≡ Some bad → (s.goods ≡ [] → ⊥) → s.checked ≡ false → c ≡ check graph bad s.goods s.skips
-    → IfOk r (λ d. IsDecision (ask_checked graph s bad c) d.checked d.step) → IfOk r (λ d. IsDecision (ask graph s) d.checked d.step)
-decide_by_check graph s bad c (Ok d) b g f e h = decide_unchecked graph s bad c d.checked d.step b g f e h
-decide_by_check graph s bad c (Err x) b g f e h = tt
 
 pub decide_passed : (graph : List (List ℕ)) (s : Search) (bad : ℕ) (warned : List ℕ) (a : Ask) → a ≡ (ask_candidates graph s bad []).step.ask
     → IsDecision (ask_checked graph s bad (Passed warned)) true (record { warned = warned; ask = a })
@@ -189,7 +164,7 @@ pub listed : (graph : List (List ℕ)) (s : Search) (bad : ℕ) (goods : List �
     → ps ≡ candidates graph bad s.goods s.first_parent
 listed graph s bad goods first_parent mask ps p m g f = p ∙ ap places_of m ∙ (λ i. places_of (candidate_row graph bad (g i) (f i))) ∙ places_of-candidate_row graph bad s.goods s.first_parent
 
-best_is : (s : Search) (warned ps : List ℕ) (chosen : Option ℕ) → (ask_best s warned ps chosen).step.ask ≡ ask_of_best ps chosen
+pub best_is : (s : Search) (warned ps : List ℕ) (chosen : Option ℕ) → (ask_best s warned ps chosen).step.ask ≡ ask_of_best ps chosen
 best_is s warned ps (Some p) = refl
 best_is s warned ps None = refl
 

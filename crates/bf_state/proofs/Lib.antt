@@ -6,3 +6,5 @@ pub mod Below
 pub mod AskAgain
 pub mod Tables
 pub mod Parted
+pub mod Within
+pub mod Passing

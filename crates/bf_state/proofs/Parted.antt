@@ -19,7 +19,7 @@ use Rattle.bf_search.proofs.Modes.{IsGraph-in_mode, Reaches-in_mode, parents_of-
 use Rattle.bf_search.proofs.RowLemmas.{is_in-lt}
 use Rattle.bf_search.proofs.CandidateLemmas.{SomeReaches, SomeReaches-from_test, any_reaches-true, IsCandidate, IsCandidate-from_test, length-candidate_row, is_in-candidate_row}
 use Rattle.bf_search.proofs.Turns.{Asking, asking}
-use Rattle.bf_state.specs.Guesses.{is_candidate_below, is_candidate_of, IsParted}
+use Rattle.bf_search.specs.Guesses.{is_candidate_below, is_candidate_of, IsParted}
 use Rattle.bf_state.proofs.Firsts.{only_has}
 
 -- ---- first parents lead along one line
@@ -28,7 +28,7 @@ first_parents_agree : (xs : List ℕ) (a b : ℕ) → Contains (take 1 xs) a →
 first_parents_agree [] a b h k = absurd (omega (arith, h.1))
 first_parents_agree (x ∷ xs) a b h k = sym (only_has x a h) ∙ only_has x b k
 
-one_line : (graph : List (List ℕ)) (start : ℕ) (one : List ℕ) (q : ℕ) (other : List ℕ) (p : ℕ) → IsPath (in_mode graph true) start one q → IsPath (in_mode graph true) start other p
+pub one_line : (graph : List (List ℕ)) (start : ℕ) (one : List ℕ) (q : ℕ) (other : List ℕ) (p : ℕ) → IsPath (in_mode graph true) start one q → IsPath (in_mode graph true) start other p
     → Reaches (in_mode graph true) q p ⊎ Reaches (in_mode graph true) p q
 one_line graph start [] q other p h k = inl (record { path = other; leads = subst (λ (x : ℕ). IsPath (in_mode graph true) x other p) h k })
 one_line graph start (next ∷ one) q [] p h k = inr (record { path = next ∷ one; leads = subst (λ (x : ℕ). IsPath (in_mode graph true) x (next ∷ one) q) k h })
@@ -38,7 +38,7 @@ one_line graph start (next ∷ one) q (after ∷ other) p h k =
     one_line graph next one q other p h.1 (subst (λ (x : ℕ). IsPath (in_mode graph true) x other p) same k.1)
 
 -- in a mode, what the bad place reaches and q reaches is reached from q in the mode
-reached_in_mode : (graph : List (List ℕ)) (first_parent : Bool) (bad q p : ℕ) → IsGraph graph → Reaches (in_mode graph first_parent) bad q → Reaches (in_mode graph first_parent) bad p → Reaches graph q p → Reaches (in_mode graph first_parent) q p
+pub reached_in_mode : (graph : List (List ℕ)) (first_parent : Bool) (bad q p : ℕ) → IsGraph graph → Reaches (in_mode graph first_parent) bad q → Reaches (in_mode graph first_parent) bad p → Reaches graph q p → Reaches (in_mode graph first_parent) q p
 reached_in_mode graph false bad q p g to_q to_p down = down
 reached_in_mode graph true bad q p g to_q to_p down =
     ⊎_elim
@@ -51,10 +51,10 @@ reached_in_mode graph true bad q p g to_q to_p down =
 
 -- ---- how a place was asked: a good place reaches it, or it is a candidate
 
-abbrev Reason : List (List ℕ) → Search → ℕ → ℕ → Type 0
+abbrev pub Reason : List (List ℕ) → Search → ℕ → ℕ → Type 0
 Reason graph s bad q = (any_reaches graph s.goods q ≡ true) ⊎ (is_candidate graph bad s.goods s.first_parent q ≡ true)
 
-find_contains : (test : ℕ → Bool) (xs : List ℕ) (x : ℕ) → find test xs ≡ Some x → Contains xs x
+pub find_contains : (test : ℕ → Bool) (xs : List ℕ) (x : ℕ) → find test xs ≡ Some x → Contains xs x
 find_contains test [] x h = cc
 find_contains test (y ∷ ys) x h =
     ⊎_elim
@@ -64,7 +64,7 @@ find_contains test (y ∷ ys) x h =
     (suc rest.0, omega (arith, rest.1), rest.2))
     (cases_Bool (test y))
 
-best_is_candidate : (graph : List (List ℕ)) (s : Search) (bad q : ℕ) → best_of graph s bad ≡ Some q → is_candidate graph bad s.goods s.first_parent q ≡ true
+pub best_is_candidate : (graph : List (List ℕ)) (s : Search) (bad q : ℕ) → best_of graph s bad ≡ Some q → is_candidate graph bad s.goods s.first_parent q ≡ true
 unfolding best_of best
 best_is_candidate graph s bad q h = sym (is_in-candidate_row graph bad s.goods s.first_parent q place) ∙ inside
   where
@@ -80,7 +80,7 @@ best_is_candidate graph s bad q h = sym (is_in-candidate_row graph bad s.goods s
     place : q < length graph
     place = omega (arith, is_in-lt mask q inside, length-candidate_row graph bad s.goods s.first_parent)
 
-base_is_reached : (graph : List (List ℕ)) (bad : ℕ) (goods : List ℕ) (q : ℕ) → Contains (merge_bases graph bad goods) q → any_reaches graph goods q ≡ true
+pub base_is_reached : (graph : List (List ℕ)) (bad : ℕ) (goods : List ℕ) (q : ℕ) → Contains (merge_bases graph bad goods) q → any_reaches graph goods q ≡ true
 unfolding merge_bases common_places
 base_is_reached graph bad goods q h =
     (and_parts (reaches graph bad q) (any_reaches graph goods q)
@@ -95,7 +95,7 @@ open_is_found : (o : Option ℕ) (bases goods : List ℕ) (skips : List Bool) (q
 open_is_found None bases goods skips q h = cc
 open_is_found (Some p) bases goods skips q h = cc
 
-tested_base : (bases : List ℕ) (bad : ℕ) (goods : List ℕ) (skips : List Bool) (q : ℕ) → check_bases bases bad goods skips ≡ TestBase q → Contains bases q
+pub tested_base : (bases : List ℕ) (bad : ℕ) (goods : List ℕ) (skips : List Bool) (q : ℕ) → check_bases bases bad goods skips ≡ TestBase q → Contains bases q
 unfolding check_bases
 tested_base bases bad goods skips q h =
     ⊎_elim
@@ -106,7 +106,7 @@ tested_base bases bad goods skips q h =
     test : ℕ → Bool
     test p = not (has_place goods p) && not (is_in skips p)
 
-check_reaches : (graph : List (List ℕ)) (bad : ℕ) (goods : List ℕ) (skips : List Bool) (q : ℕ) → check graph bad goods skips ≡ TestBase q → any_reaches graph goods q ≡ true
+pub check_reaches : (graph : List (List ℕ)) (bad : ℕ) (goods : List ℕ) (skips : List Bool) (q : ℕ) → check graph bad goods skips ≡ TestBase q → any_reaches graph goods q ≡ true
 unfolding check
 check_reaches graph bad goods skips q h =
     ⊎_elim
@@ -151,13 +151,13 @@ ends_reason graph s (Some found) (good ∷ goods) bad h =
     let same : found ≡ bad = cc in
     subst (λ (x : ℕ). HasReason graph s x (ask_ends graph s (Some found) (good ∷ goods))) same (known_reason s.checked graph s found)
 
-reason_of : (graph : List (List ℕ)) (s : Search) (bad q : ℕ) → s.bad ≡ Some bad → (ask graph s).step.ask ≡ Test q → Reason graph s bad q
+pub reason_of : (graph : List (List ℕ)) (s : Search) (bad q : ℕ) → s.bad ≡ Some bad → (ask graph s).step.ask ≡ Test q → Reason graph s bad q
 unfolding ask
 reason_of graph s bad q b h = ends_reason graph s s.bad s.goods bad b q h
 
 -- ---- the candidates after each guess
 
-any_reaches-push : (graph : List (List ℕ)) (goods : List ℕ) (q p : ℕ) → any_reaches graph (goods ++ q ∷ []) p ≡ (any_reaches graph goods p || reaches graph q p)
+pub any_reaches-push : (graph : List (List ℕ)) (goods : List ℕ) (q p : ℕ) → any_reaches graph (goods ++ q ∷ []) p ≡ (any_reaches graph goods p || reaches graph q p)
 unfolding any_reaches
 any_reaches-push graph goods q p = list_any-append (λ from. reaches graph from p) goods (q ∷ []) ∙ ap (λ b. list_any (λ from. reaches graph from p) goods || b) (or_false (reaches graph q p))
   where

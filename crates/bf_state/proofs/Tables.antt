@@ -12,17 +12,18 @@ use Rattle.bf_search.specs.declared.outcomes.Verdict.{Verdict}
 use Rattle.bf_search.specs.declared.outcomes.Verdict.TheVariants.{Mark as MarkOf, Abort}
 use Rattle.bf_search.specs.Outcomes.{Outcomes, verdict_of}
 use Rattle.bf_search.specs.State.{Search, Asked, IsSearchOver, ask, mark}
+use Rattle.bf_search.specs.LeftToAsk.{left_to_ask}
 use Rattle.bf_search.specs.Run.{Answered, Leg, Open, Aborted, Run, ended, with_entries, with_used, leg_of, marked_one, after_verdict, after_look, after_step, after_ask, turn, run_within, run, seq}
-use Rattle.bf_search.proofs.Turns.{Asking, asking, left_to_ask, left_to_ask-falls, left_to_ask-le, IsSearchOver-marked, run-is}
+use Rattle.bf_search.proofs.Turns.{Asking, asking, left_to_ask-falls, left_to_ask-le, IsSearchOver-marked, run-is}
 use Rattle.bf_state.specs.Runs.{IsPartOf, GoesOn, is_open, is_unfinished, in_sequence}
 use Rattle.bf_state.proofs.AskAgain.{ask_again}
 
 -- ---- where more is known
 
 -- the other run has the same entries as far as this one goes, and is the same if this one is not open
-record IsLonger (run more : Run) : Type 0 where
-  begins : GoesOn run.entries more.entries
-  alike : is_open run.end ≡ false → more ≡ run
+pub record IsLonger (run more : Run) : Type 0 where
+  pub begins : GoesOn run.entries more.entries
+  pub alike : is_open run.end ≡ false → more ≡ run
 
 same_is_longer : (r : Run) → IsLonger r r
 same_is_longer r = record { begins = record { rest = []; goes_on = sym (append_nil r.entries) }; alike = λ h. refl }
@@ -91,7 +92,7 @@ within_longer zero graph known more left s part = same_is_longer (ended [] s Leg
 within_longer (suc n) graph known more left s part =
     turn_longer graph known more (run_within n graph known) (run_within n graph more) left s part (λ l u. within_longer n graph known more l u part)
 
-run_longer : (graph : List (List ℕ)) (known more : Outcomes) (left : Option ℕ) (s : Search) → IsPartOf known more → IsLonger (run graph known left s) (run graph more left s)
+pub run_longer : (graph : List (List ℕ)) (known more : Outcomes) (left : Option ℕ) (s : Search) → IsPartOf known more → IsLonger (run graph known left s) (run graph more left s)
 unfolding run
 run_longer graph known more left s part = within_longer (suc (length graph)) graph known more left s part
 
@@ -103,7 +104,7 @@ seq_ends_alike graph s known more k part h = (run_longer graph known more (leg_o
 
 -- ---- one run after another
 
-sequence_entries : (es : List Entry) (first second : Run) → in_sequence (with_entries es first) second ≡ with_entries es (in_sequence first second)
+pub sequence_entries : (es : List Entry) (first second : Run) → in_sequence (with_entries es first) second ≡ with_entries es (in_sequence first second)
 sequence_entries es first second = ap (λ (xs : List Entry). record second { entries = xs; used = first.used ++ second.used }) (append_assoc es first.entries second.entries)
 
 module _ (graph : List (List ℕ)) (known more : Outcomes) (g : IsGraph graph) (part : IsPartOf known more) where
@@ -115,7 +116,7 @@ module _ (graph : List (List ℕ)) (known more : Outcomes) (g : IsGraph graph) (
   StepFollows first whole = is_unfinished first.end ≡ true → whole ≡ in_sequence first (run graph more None first.search)
 
   -- the state that was asked is over the graph
-  over_asked : (s : Search) (p : ℕ) → IsSearchOver graph s → (ask graph s).step.ask ≡ Test p → IsSearchOver graph (ask graph s).search
+  pub over_asked : (s : Search) (p : ℕ) → IsSearchOver graph s → (ask graph s).step.ask ≡ Test p → IsSearchOver graph (ask graph s).search
   over_asked s p over h = record {
     bad = rw a.same.bad over.bad;
     goods = rw a.same.goods over.goods;

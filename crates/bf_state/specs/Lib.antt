@@ -2,4 +2,4 @@ pub mod Session
 pub mod FirstBad
 pub mod Steps
 pub mod Runs
-pub mod Guesses
+pub mod Weighed

@@ -1,11 +1,15 @@
 -- The parts of an ask.
-use Rattle.std.specs.Prelude.{◌≡◌, ℕ, ◌==◌, Bool, if◌then◌else◌, List, [], ◌∷◌, Option, Some, None}
+use Rattle.std.specs.Prelude.{◌≡◌, ◌≢◌, ℕ, ◌==◌, Bool, true, false, if◌then◌else◌, List, [], ◌∷◌, Option, Some, None}
 use Rattle.bf_search.specs.declared.asks.Ask.{Ask}
 use Rattle.bf_search.specs.declared.asks.Ask.TheVariants.{Test, BothSides, FirstBad, OnlySkipped}
 use Rattle.bf_search.specs.declared.asks.Step.{Step}
 use Rattle.bf_search.specs.declared.outcomes.Mark.{Mark}
 use Rattle.bf_search.specs.declared.outcomes.Mark.TheVariants.{Good}
-use Rattle.bf_search.specs.State.{Search, Asked}
+use Rattle.bf_search.specs.Candidates.{places_of}
+use Rattle.bf_search.specs.Choice.{best}
+use Rattle.bf_search.specs.State.{Search, Asked, ask_candidates}
+use Rattle.bf_state.specs.declared.asking.Passage.{Passage}
+use Rattle.bf_state.specs.declared.asking.Passage.TheVariants.{Asks, Passed}
 use Rattle.bf_texts.specs.Texts.{with_good}
 
 -- the place that an ask asks to test
@@ -28,6 +32,40 @@ ask_of_best ps None = OnlySkipped ps
 pub record IsDecision (asked : Asked) (passed : Bool) (next : Step) : Type 0 where
   pub checked : passed ≡ asked.search.checked
   pub step : next ≡ asked.step
+
+-- an ask ends without a look at the candidates: ends are missing, or the check has not passed
+pub record IsStopped (asked : Asked) (s : Search) (next : Step) : Type 0 where
+  pub decides : IsDecision asked s.checked next
+  pub unpassed : (bad : ℕ) → s.bad ≡ Some bad → s.goods ≢ [] → s.checked ≡ false
+
+-- both ends are known and the check has passed, so the candidates are asked
+pub record HasPassed (graph : List (List ℕ)) (asked : Asked) (s : Search) (warned : List ℕ) (bad : ℕ) : Type 0 where
+  pub bad_is : s.bad ≡ Some bad
+  pub some_good : s.goods ≢ []
+  pub asks : asked ≡ ask_candidates graph (record s { checked = true }) bad warned
+
+-- how far an ask goes without a look at the candidates
+abbrev pub IsPassage : List (List ℕ) → Asked → Search → Passage → Type 0
+IsPassage graph asked s (Asks next) = IsStopped asked s next
+IsPassage graph asked s (Passed warned bad) = HasPassed graph asked s warned bad
+
+-- whether the check has passed then, and the bases to warn of
+abbrev pub passed_after : Bool → Passage → Bool
+passed_after checked (Asks next) = checked
+passed_after checked (Passed warned bad) = true
+
+abbrev pub warned_after : Passage → List ℕ
+warned_after (Asks next) = next.warned
+warned_after (Passed warned bad) = warned
+
+-- the ask among these candidates, of which this one is the best
+abbrev pub ask_listed : Option Ask → List ℕ → Option ℕ → Ask
+ask_listed (Some a) ps chosen = a
+ask_listed None ps chosen = ask_of_best ps chosen
+
+-- the ask among the candidates of a row, with these weights
+abbrev pub ask_over : List Bool → List ℕ → ℕ → List Bool → Ask
+ask_over mask weights bad skips = let ps = places_of mask in ask_listed (ending ps bad) ps (best mask weights bad skips)
 
 -- what an ask leaves in a search
 abbrev pub followed : Search → Bool → Option ℕ → Search

@@ -1,7 +1,8 @@
 //! The choice of the next ask.
-ghost use Rattle.std.specs.Prelude.{◌≡◌, ◌<◌, [], length, false, if◌then◌else◌, Some, IfOk};
+ghost use Rattle.std.specs.Prelude.{◌≡◌, ◌≢◌, ℕ, ◌≤◌, false, List, All, [], length, if◌then◌else◌, Some, IfOk};
 ghost use Rattle.bf_graph.specs.Graph.{IsGraph};
 ghost use Rattle.bf_search.specs.Candidates.{candidate_row, IsCandidateRow};
+ghost use Rattle.bf_search.specs.Choice.{count_in};
 ghost use Rattle.bf_search.specs.State.{best_of, ask_candidates, ask_checked, ask};
 ghost use Rattle.bf_search.specs.Bases.{check};
 ghost use Rattle.bf_state.specs.Session.{IsSearchBelow};
@@ -24,6 +25,35 @@ use std::alloc::AllocError;
 pub(crate) struct Decision {
     pub(crate) checked: bool,
     pub(crate) step: Step,
+}
+
+/// How far an ask goes without a look at the candidates.
+#[derive(Drop)]
+pub(crate) enum Passage {
+    /// Ends are missing, or the check of the merge bases has not passed: this is the step.
+    Asks(Step),
+    /// The check has passed, with these bases to warn of, so a candidate of this bad place is asked.
+    Passed { warned: Places, bad: u32 },
+}
+
+/// Whether the check of the merge bases has passed after so much of an ask.
+pub(crate) fn passed_after(checked: bool, passage: &Passage) -> bool
+    ensures { result ≡ steps.passed_after checked passage.now }
+{
+    match passage {
+        Passage::Asks(_) => checked,
+        Passage::Passed { .. } => true,
+    }
+}
+
+/// The bases to warn of.
+pub(crate) fn warned_after(passage: Passage) -> Places
+    ensures { result ≡ steps.warned_after passage }
+{
+    match passage {
+        Passage::Asks(step) => step.warned,
+        Passage::Passed { warned, .. } => warned,
+    }
 }
 
 /// The place that an ask asks to test.
@@ -85,6 +115,25 @@ fn ask_candidates(state: &State, reach: &Reach, bad: u32) -> Result<Ask, AllocEr
     Ok(ask_of_best(places, best))
 }
 
+/// The ask of a state whose check has passed, over these candidates and their weights.
+pub(crate) fn ask_over(
+    state: &State,
+    bad: u32,
+    mask: &Row,
+    weights: &[u32],
+) -> Result<Ask, AllocError>
+    requires len { length mask.now ≡ state.now.len }
+    requires weights { length weights.now ≡ length mask.now }
+    requires within { All (λ weight. weight ≤ count_in mask.now) weights.now }
+    ensures { IfOk result (λ answer. answer ≡ steps.ask_over mask.now weights.now bad state.now.search.skips) }
+{
+    let places = true_places(state.goods.allocator(), mask)?;
+    if let Some(ask) = ending(places.as_slice(), bad) {
+        return Ok(ask);
+    }
+    Ok(ask_of_best(places, choose(mask, weights, bad, &state.skips)))
+}
+
 /// A step that asks this, with no base to warn of.
 fn step_of(state: &State, ask: Ask) -> Step
     ensures { result ≡ record { warned = []; ask = ask } }
@@ -95,29 +144,17 @@ fn step_of(state: &State, ask: Ask) -> Step
     }
 }
 
-/// What the check of the merge bases leaves.
-fn decide_by(state: &State, reach: &Reach, bad: u32, answer: Check) -> Result<Decision, AllocError>
-    requires len { length reach.now ≡ state.now.len }
+/// What the check of the merge bases leaves to ask.
+fn passage_of(state: &State, bad: u32, answer: Check) -> Passage
     requires bad { state.now.search.bad ≡ Some bad }
+    requires goods { state.now.search.goods ≢ [] }
     requires unchecked { state.now.search.checked ≡ false }
-    ensures { IfOk result (λ d. steps.IsDecision (ask_checked reach.now state.now.search bad answer) d.checked d.step) }
+    ensures { (graph : List (List ℕ)) → steps.IsPassage graph (ask_checked graph state.now.search bad answer) state.now.search result }
 {
     match answer {
-        Check::Passed { warned } => Ok(Decision {
-            checked: true,
-            step: Step {
-                warned,
-                ask: ask_candidates(state, reach, bad)?,
-            },
-        }),
-        Check::Bad(base) => Ok(Decision {
-            checked: false,
-            step: step_of(state, ask_of_bad_base(base, state.bad_asked)),
-        }),
-        Check::Test(base) => Ok(Decision {
-            checked: false,
-            step: step_of(state, Ask::Test(base)),
-        }),
+        Check::Passed { warned } => Passage::Passed { warned, bad },
+        Check::Bad(base) => Passage::Asks(step_of(state, ask_of_bad_base(base, state.bad_asked))),
+        Check::Test(base) => Passage::Asks(step_of(state, Ask::Test(base))),
     }
 }
 
@@ -131,6 +168,36 @@ fn ask_of_bad_base(base: u32, bad_asked: bool) -> Ask
     }
 }
 
+/// How far the next ask of a state goes without a look at its candidates.
+pub(crate) fn pass(state: &State, reach: &Reach) -> Result<Passage, AllocError>
+    requires { length reach.now ≡ state.now.len }
+    ensures graph { IsGraph reach.now }
+    ensures below { IsSearchBelow state.now.len state.now.search }
+    ensures passes { IfOk result (λ passage. steps.IsPassage reach.now (ask reach.now state.now.search) state.now.search passage) }
+{
+    prove!(reach.len() == state.len);
+    let Some(bad) = state.bad else {
+        let ask = if state.goods.is_empty() {
+            Ask::WaitBoth
+        } else {
+            Ask::WaitBad
+        };
+        return Ok(Passage::Asks(step_of(state, ask)));
+    };
+    if state.goods.is_empty() {
+        return Ok(Passage::Asks(step_of(state, Ask::WaitGood)));
+    }
+    let alloc = state.goods.allocator();
+    if state.checked {
+        return Ok(Passage::Passed {
+            warned: Places::new(alloc),
+            bad,
+        });
+    }
+    let answer = check(alloc, reach, bad, state.goods.as_slice(), &state.skips)?;
+    Ok(passage_of(state, bad, answer))
+}
+
 /// What the next ask of a state leaves.
 pub(crate) fn decide(state: &State, reach: &Reach) -> Result<Decision, AllocError>
     requires { length reach.now ≡ state.now.len }
@@ -138,33 +205,17 @@ pub(crate) fn decide(state: &State, reach: &Reach) -> Result<Decision, AllocErro
     ensures below { IsSearchBelow state.now.len state.now.search }
     ensures decides { IfOk result (λ d. steps.IsDecision (ask reach.now state.now.search) d.checked d.step) }
 {
-    prove!(reach.len() == state.len);
-    let checked = state.checked;
-    let Some(bad) = state.bad else {
-        let ask = if state.goods.is_empty() {
-            Ask::WaitBoth
-        } else {
-            Ask::WaitBad
-        };
-        return Ok(Decision {
-            checked,
-            step: step_of(state, ask),
-        });
-    };
-    if state.goods.is_empty() {
-        return Ok(Decision {
-            checked,
-            step: step_of(state, Ask::WaitGood),
-        });
+    match pass(state, reach)? {
+        Passage::Asks(step) => Ok(Decision {
+            checked: state.checked,
+            step,
+        }),
+        Passage::Passed { warned, bad } => {
+            let ask = ask_candidates(state, reach, bad)?;
+            Ok(Decision {
+                checked: true,
+                step: Step { warned, ask },
+            })
+        }
     }
-    if checked {
-        let ask = ask_candidates(state, reach, bad)?;
-        return Ok(Decision {
-            checked,
-            step: step_of(state, ask),
-        });
-    }
-    let goods = state.goods.as_slice();
-    let answer = check(state.goods.allocator(), reach, bad, goods, &state.skips)?;
-    decide_by(state, reach, bad, answer)
 }

@@ -6,7 +6,7 @@ ghost use Rattle.bf_search.specs.declared.outcomes.Mark.TheVariants.{Good, Bad};
 ghost use Rattle.bf_search.specs.Outcomes.{Outcomes};
 ghost use Rattle.bf_search.specs.State.{Search, IsSearchOver, ask, mark};
 ghost use Rattle.bf_search.specs.Run.{run, seq};
-ghost use Rattle.bf_state.specs.Guesses.{is_candidate_of, IsParted};
+ghost use Rattle.bf_search.specs.Guesses.{is_candidate_of, IsParted};
 ghost use Rattle.bf_state.specs.Runs.{IsPartOf, GoesOn, is_open, is_unfinished, in_sequence};
 
 /// Asking again asks the same and leaves the same, and warns of nothing more.

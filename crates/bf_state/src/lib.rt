@@ -6,8 +6,11 @@ mod goods;
 pub mod laws;
 mod rows;
 mod state;
+mod weighed;
 
+pub use rows::true_places;
 pub use state::State;
+pub use weighed::Weighed;
 
 #[cfg(test)]
 mod tests;

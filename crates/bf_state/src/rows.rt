@@ -7,7 +7,7 @@ use bf_rows::Row;
 use std::alloc::{AllocError, Global};
 
 /// The true places of a row, in order.
-pub(crate) fn true_places(alloc: Global, row: &Row) -> Result<Places, AllocError>
+pub fn true_places(alloc: Global, row: &Row) -> Result<Places, AllocError>
     ensures { IfOk result (λ places. places ≡ places_of row.now) }
 {
     let mut places = Vec::with_capacity(alloc, row.count() as usize)?;

@@ -6,10 +6,13 @@ ghost use Rattle.bf_search.specs.State as searches;
 ghost use Rattle.bf_search.specs.declared.asks.Ask.TheVariants.{Test, FirstBad};
 ghost use Rattle.bf_state.specs.Session.{with_search, begun, IsSearchBelow};
 ghost use Rattle.bf_state.specs.FirstBad.{IsFirstBad};
+ghost use Rattle.std.specs.Option.{option_map};
 ghost use Rattle.bf_state.specs.Steps as steps;
+ghost use Rattle.bf_state.specs.Weighed.{mask_of, weights_of, weights_needed};
 
-use crate::asking::{Decision, decide, tested};
+use crate::asking::{Decision, decide, pass, passed_after, tested, warned_after};
 use crate::goods::{add_good, each_once};
+use crate::weighed::{self, Weighed, Weighing, decide_over};
 use bf_graph::Places;
 use bf_reach::Reach;
 use bf_rows::Row;
@@ -126,9 +129,63 @@ impl State {
         ensures state { OnOk result (self.new ≡ with_search self.old (searches.ask reach.now self.old.search).search) }
         ensures err { OnErr result (self.new ≡ self.old) }
         ensures asked { IfOk result (λ step. (p : ℕ) → step.ask ≡ Test p → p < self.old.len) }
+        ensures warned { IfOk result (λ step. All (λ p. p < self.old.len) step.warned) }
         ensures first_bad { IfOk result (λ step. (p : ℕ) → step.ask ≡ FirstBad p → IsFirstBad reach.now self.old.search p) }
     {
         let decision = decide(self, reach)?;
+        self.follow(&decision);
+        Ok(decision.step)
+    }
+
+    /// Asks what comes next, and hands out the candidates and the weights that the ask has in hand.
+    /// After an error the state is as before.
+    pub fn weigh(&mut self, reach: &Reach) -> Result<Weighed, AllocError>
+        requires { length reach.now ≡ self.old.len }
+        ensures step { IfOk result (λ weighed. weighed.step ≡ (searches.ask reach.now self.old.search).step) }
+        ensures mask { IfOk result (λ weighed. weighed.mask ≡ mask_of reach.now self.old.search) }
+        ensures weights { IfOk result (λ weighed. option_map (λ all. all.items) weighed.weights ≡ weights_needed reach.now self.old.search) }
+        ensures state { OnOk result (self.new ≡ with_search self.old (searches.ask reach.now self.old.search).search) }
+        ensures err { OnErr result (self.new ≡ self.old) }
+    {
+        let mask = weighed::mask_of(self, reach)?;
+        self.weigh_over(reach, mask)
+    }
+
+    /// The same, where the candidates are known. After an error the state is as before.
+    pub fn weigh_over(&mut self, reach: &Reach, mask: Row) -> Result<Weighed, AllocError>
+        requires len { length reach.now ≡ self.old.len }
+        requires mask { mask ≡ mask_of reach.now self.old.search }
+        ensures step { IfOk result (λ weighed. weighed.step ≡ (searches.ask reach.now self.old.search).step) }
+        ensures mask { IfOk result (λ weighed. weighed.mask ≡ mask_of reach.now self.old.search) }
+        ensures weights { IfOk result (λ weighed. option_map (λ all. all.items) weighed.weights ≡ weights_needed reach.now self.old.search) }
+        ensures state { OnOk result (self.new ≡ with_search self.old (searches.ask reach.now self.old.search).search) }
+        ensures err { OnErr result (self.new ≡ self.old) }
+    {
+        let Weighing { decision, weights } = weighed::weigh(self, reach, &mask)?;
+        self.follow(&decision);
+        Ok(Weighed {
+            step: decision.step,
+            mask,
+            weights,
+        })
+    }
+
+    /// Asks what comes next, where the candidates and their weights are known: they are not weighed
+    /// again. After an error the state is as before.
+    pub fn advance_over(
+        &mut self,
+        reach: &Reach,
+        mask: &Row,
+        weights: &[u32],
+    ) -> Result<Step, AllocError>
+        requires len { length reach.now ≡ self.old.len }
+        requires mask { mask.now ≡ mask_of reach.now self.old.search }
+        requires weights { weights.now ≡ weights_of reach.now self.old.search }
+        ensures step { IfOk result (λ step. step ≡ (searches.ask reach.now self.old.search).step) }
+        ensures state { OnOk result (self.new ≡ with_search self.old (searches.ask reach.now self.old.search).search) }
+        ensures err { OnErr result (self.new ≡ self.old) }
+    {
+        let decision = decide_over(self, reach, mask, weights)?;
         self.follow(&decision);
         Ok(decision.step)
     }
@@ -153,11 +210,29 @@ impl State {
         ensures state { OnOk result (self.new ≡ with_search self.old (searches.mark (searches.ask reach.now self.old.search).search mark place)) }
         ensures err { OnErr result (self.new ≡ self.old) }
     {
+        if let Mark::Skip = mark {
+            return self.take_skip(reach, place);
+        }
         let decision = decide(self, reach)?;
         self.add_if_good(mark, place)?;
         self.follow(&decision);
         self.settle(mark, place);
         Ok(decision.step.warned.into_vec())
+    }
+
+    /// Asks what comes next and then skips a place. Whatever the ask would choose plays no part then, so
+    /// no candidate is looked at.
+    fn take_skip(&mut self, reach: &Reach, place: u32) -> Result<Vec<u32>, AllocError>
+        requires len { length reach.now ≡ self.old.len }
+        requires place { place < self.old.len }
+        ensures warned { IfOk result (λ warned. warned.items ≡ (searches.ask reach.now self.old.search).step.warned) }
+        ensures state { OnOk result (self.new ≡ with_search self.old (searches.mark (searches.ask reach.now self.old.search).search Mark.Skip place)) }
+        ensures err { OnErr result (self.new ≡ self.old) }
+    {
+        let passage = pass(self, reach)?;
+        self.checked = passed_after(self.checked, &passage);
+        self.settle(Mark::Skip, place);
+        Ok(warned_after(passage).into_vec())
     }
 
     /// Adds a place that is marked good. After an error the state is as before.

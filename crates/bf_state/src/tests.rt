@@ -1,10 +1,12 @@
 //! Searches over small graphs.
 ghost use Rattle.std.specs.Prelude.{◌≡◌, ◌<◌, length, All, IfOk};
+ghost use Rattle.std.specs.Option.{option_map};
+ghost use Rattle.bf_state.specs.Weighed.{mask_of, weights_needed};
 
-use crate::State;
+use crate::{State, Weighed};
 use bf_graph::Graph;
 use bf_reach::Reach;
-use bf_search::{Ask, Mark};
+use bf_search::{Ask, Mark, Step};
 use bf_terms::Terms;
 use std::alloc::{AllocError, Global};
 use std::test::Fail;
@@ -82,6 +84,31 @@ fn warned_by(alloc: Global, reach: &Reach, marks: &[(Mark, u32)]) -> Result<Vec<
     Ok(warned)
 }
 
+/// A second ask over the candidates of a first, each of the same state.
+fn weighed_again(reach: &Reach, state: &State) -> Result<Weighed, AllocError>
+    requires { length reach.now ≡ state.now.len }
+    ensures mask { IfOk result (λ weighed. weighed.mask ≡ mask_of reach.now state.now.search) }
+    ensures weights { IfOk result (λ weighed.
+        option_map (λ all. all.items) weighed.weights ≡ weights_needed reach.now state.now.search) }
+{
+    let mask = state.try_clone()?.weigh(reach)?.mask;
+    state.try_clone()?.weigh_over(reach, mask)
+}
+
+/// The weights of a state, and what is asked over them. There are none where an ask needs none.
+fn asked_over(reach: &Reach, state: &State) -> Result<Option<(Vec<u32>, Step)>, AllocError>
+    requires { length reach.now ≡ state.now.len }
+{
+    let Weighed { mask, weights, .. } = weighed_again(reach, state)?;
+    let Some(weights) = weights else {
+        return Ok(None);
+    };
+    let step = state
+        .try_clone()?
+        .advance_over(reach, &mask, weights.as_slice())?;
+    Ok(Some((weights, step)))
+}
+
 #[test]
 fn the_base_of_a_fork(rt: HostRuntime) -> Result<(), Fail> {
     let reach = fork(rt.alloc())?;
@@ -137,5 +164,16 @@ fn a_copy_has_each_good_place_once(rt: HostRuntime) -> Result<(), Fail> {
     let state = State::new(rt.alloc(), 3, terms, true, false, None, &[2, 0, 2])?;
     let goods = state.try_clone()?.goods.into_vec();
     assert_eq!(rt; goods.as_slice(), [2, 0].as_slice());
+    Ok(())
+}
+
+#[test]
+fn the_weights_of_a_diamond(rt: HostRuntime) -> Result<(), Fail> {
+    let reach = diamond(rt.alloc())?;
+    let terms = Terms::standard(rt.alloc())?;
+    let state = State::new(rt.alloc(), 4, terms, false, false, Some(3), &[0])?;
+    let (weights, step) = asked_over(&reach, &state)?.expect(&rt, "weights");
+    assert!(rt; step.ask == Ask::Test(1));
+    assert_eq!(rt; weights.as_slice(), [0, 1, 1, 3].as_slice());
     Ok(())
 }

@@ -10,20 +10,25 @@ use std::io;
 use std::process::ExitCode;
 
 const HELP: &[u8] = b"\
-farmdawn simulate BAD GOOD PLAN < STREAM
+farmdawn simulate [OPTION..] BAD GOOD.. PLAN < STREAM
 
 Searches the history of a git fast-import stream for the first bad commit, as git bisect does,
 and prints the log and the answer. No test is run: PLAN says how each would end.
 
-  BAD, GOOD  full names of refs, such as refs/heads/main
-  PLAN       a letter for each commit in the order of the stream: g good, b bad, s skip,
-             a exit 128, k killed, n exit 127; commits past its end are skipped
+  BAD, GOOD         names of commits, as gitrevisions(7) has them: main, v1.0, main~3, 1a2b3c4
+  PLAN              a letter for each commit in the order of the stream: g good, b bad, s skip,
+                    a exit 128, k killed, n exit 127; commits past its end are skipped
+  --first-parent    follow first parents alone
+  --term-new T      the word for bad; --term-old T the word for good
+  --skip REV        a commit, or a range A..B, that is not to be tested; any number of times
+  --lenient-exit    take the statuses 126 and 127 of a test as bad
 
-The status is 0 where the first bad commit was found, 2 where only skipped commits are left,
-3 where a merge base is bad, 4 where GOOD is no ancestor of BAD, 5 where they are the same,
-6 where a test aborts the search, 7 to 9 where the stream or a name is refused, 12 where the
-stream cannot be read, 13 where the output cannot be written, 15 where memory runs out, and
-18 for any other words.
+The status is 0 where the first bad commit was found, 1 where a word is wrong, 2 where only
+skipped commits are left, 3 where a merge base is bad, 4 where a good commit is no ancestor of
+the bad one, 5 where one commit is both, 6 where a test aborts the search, 7 to 9 where the
+stream or a name is refused or a limit is passed, 12 where the stream cannot be read, 13 where
+the output cannot be written, 15 where memory runs out, 17 where no good commit is named, and
+18 for what is not built yet.
 ";
 
 const VERSION: &[u8] = b"farmdawn 0.1.0\n";

@@ -1,4 +1,5 @@
 use Rattle.std.proofs.Common.{◌<◌, ℕ, sym, ap, ◌∙◌, subst}
+use Rattle.std.specs.List.{All}
 use Rattle.std.specs.Option.{IfSome}
 use Rattle.bf_search.specs.declared.asks.Step.{Step}
 use Rattle.bf_search.specs.State.{Search}
@@ -7,6 +8,7 @@ use Rattle.bf_state.specs.Session.{with_search, IsSearchBelow}
 use Rattle.bf_state.specs.Steps.{tested}
 use Rattle.bf_state.proofs.Asks.{decision_leaves, decision_within}
 use Rattle.bf_state.proofs.Firsts.{first_bad}
+use Rattle.bf_state.proofs.Within.{warned_in_session}
 use Rattle.bf_state.proofs.state.State.advance.Goals as goal
 
 pub follow-requires : goal.follow-requires
@@ -29,3 +31,7 @@ returns-clause-first_bad c = λ p h.
     first_bad c.args.reach.now c.args.self.now.search p c.in_ok-decision.ensures.graph
     (subst (λ (n : ℕ). IsSearchBelow n c.args.self.now.search) (sym c.requires) c.in_ok-decision.ensures.below)
     (ap (λ (t : Step). t.ask) (sym c.in_ok-decision.ensures.decides.step) ∙ h)
+
+pub returns-clause-warned : goal.returns-clause-warned
+returns-clause-warned c =
+    subst (λ (t : Step). All (λ p. p < c.args.self.now.len) t.warned) (sym c.in_ok-decision.ensures.decides.step) (warned_in_session c.args.reach.now c.args.self.now c.requires c.in_ok-decision.ensures.below)

@@ -1,0 +1,232 @@
+-- What the calls of a core leave.
+use Rattle.std.proofs.Common.{◌≡◌, ◌≢◌, ℕ, ◌<◌, ◌↔◌, true, false, List, [], ◌∷◌, ◌++◌, length, set, Option, Some, None, refl, sym, ap, ◌∙◌, subst, arith}
+use Rattle.std.proofs.lemmas.List.{length-set}
+use Rattle.bf_graph.specs.Graph.{IsGraph}
+use Rattle.bf_search.specs.declared.entries.Entry.{Entry}
+use Rattle.bf_search.specs.declared.farm.Claim.{Claim}
+use Rattle.bf_search.specs.declared.farm.Ending.{Ending}
+use Rattle.bf_search.specs.declared.farm.Ending.TheVariants as endings
+use Rattle.bf_search.specs.declared.farm.Event.TheVariants.{Claim as Claimed, Post as Posted, Give as Given}
+use Rattle.bf_search.specs.declared.outcomes.Outcome.{Outcome}
+use Rattle.bf_search.specs.Outcomes.{outcomes_of_table}
+use Rattle.bf_search.specs.State.{Search, IsSearchOver, ask}
+use Rattle.bf_search.specs.Run.{End, Answered, Leg, Open, Aborted, Run}
+use Rattle.bf_search.specs.OpenPaths.{best_open, place_of}
+use Rattle.bf_search.specs.Farm.{Setting, Farm, consumed, place_at, best_place, has_claim, stands, without}
+use Rattle.bf_state.specs.Runs.{is_open}
+use Rattle.bf_state.specs.Session.{Session, with_search}
+use Rattle.bf_spec.specs.Walks.{Tells}
+use Rattle.bf_spec.specs.Tree.{Guesses}
+use Rattle.bf_guesses.specs.Ends.{marks_of}
+use Rattle.bf_core.specs.declared.consuming.Consumed.{Consumed}
+use Rattle.bf_core.specs.Claims.{AreClaims}
+use Rattle.bf_core.specs.Consuming.{IsRunOn, IsSameRun, Begins, Consumes, best_at, IsUnwanted, IsCore}
+use Rattle.bf_core.specs.Machine.{Machine, seen, setting_of, farm_of, run_of, IsConsumed, IsStep, IsAllTaken, IsWithdrawn, IsUnmoved, IsLegOver}
+use Rattle.bf_core.proofs.Opened.{IsFree, best_is_free}
+use Rattle.bf_core.proofs.Joining.{told_open, same_is_run}
+use Rattle.bf_core.proofs.Beside.{seq_stays, told_alike, none_is_open, leg_told}
+use Rattle.bf_guesses.proofs.Causes.{leg_ends, leg_made}
+use Rattle.bf_core.proofs.Standing.{part_put, put_elsewhere, put_back, standing_place, claims_without, claims_posted, claims_pushed, no_claims, step_post, step_give, step_claim}
+
+pub consumed_of : (first : Session) (leg : ℕ) (table : List (Option Outcome)) (claims : List Claim) (run : Consumed) → IsCore first leg table claims run → IsConsumed (seen first leg table claims run)
+consumed_of first leg table claims run h = record { entries = h.run.entries; state = h.run.state; ending = h.run.ending }
+
+pub waits : (core : Machine) → IsConsumed core → (core.ending ≡ None) ↔ (is_open (run_of core).end ≡ true)
+waits core h = none_is_open core.ending (run_of core).end h.ending
+
+pub leg_over : (first : Session) (leg : ℕ) (table : List (Option Outcome)) (claims : List Claim) (run : Consumed) → IsCore first leg table claims run
+    → (run.ending ≡ Some endings.Leg) ↔ IsLegOver (seen first leg table claims run)
+leg_over first leg table claims run h =
+    let whole : Run = consumed (setting_of (seen first leg table claims run)) table in
+    let told = leg_told run.ending whole.end h.run.ending in (
+      λ e. let over = leg_ends run.tree.graph (outcomes_of_table table) h.parents first.search leg h.over (told.0 e) in record { has_end = over.0; made = ap (λ (es : List Entry). length (marks_of es)) h.run.entries ∙ over.1 },
+      λ over. told.1 (leg_made run.tree.graph (outcomes_of_table table) h.parents first.search leg h.over over.has_end (ap (λ (es : List Entry). length (marks_of es)) (sym h.run.entries) ∙ over.made)),
+    )
+
+-- ---- a start
+
+-- what a core keeps, from its first run
+pub starts : (graph : List (List ℕ)) (state : Session) (table : List (Option Outcome)) (leg : ℕ) (tree : Guesses) (run : Consumed) → IsGraph graph → IsSearchOver graph state.search → length table ≡ length graph
+    → tree.graph ≡ graph → tree.session ≡ with_search state tree.root.search → tree.root ≡ ask graph state.search → Begins tree table leg run
+    → IsCore state leg table [] run × (run.tree.graph ≡ graph)
+starts graph state table leg tree run g over len on_graph on_session asked begins =
+    let first : with_search tree.session state.search ≡ state = ap (λ (s : Session). with_search s state.search) on_session in
+    let h : IsRunOn (record { graph = tree.graph; start = state.search; leg = leg }) (with_search tree.session state.search) table run
+    = begins state.search (subst IsGraph (sym on_graph) g) (subst (λ (x : List (List ℕ)). IsSearchOver x state.search) (sym on_graph) over) (asked ∙ ap (λ (x : List (List ℕ)). ask x state.search) (sym on_graph)) in
+    let e : run.tree.graph ≡ tree.graph = h.graph in
+    let all : run.tree.graph ≡ graph = e ∙ on_graph in (
+      record {
+        parents = subst IsGraph (sym all) g;
+        over = subst (λ (x : List (List ℕ)). IsSearchOver x state.search) (sym all) over;
+        len = len ∙ ap (λ (x : List (List ℕ)). length x) (sym all);
+        run = subst (λ (x : List (List ℕ)). IsRunOn (record { graph = x; start = state.search; leg = leg }) state table run) (sym e)
+            (subst (λ (s : Session). IsRunOn (record { graph = tree.graph; start = state.search; leg = leg }) s table run) first h);
+        standing = no_claims table;
+      },
+      all,
+    )
+
+-- ---- a giving back
+
+pub core_given : (first : Session) (leg : ℕ) (table : List (Option Outcome)) (claims left : List Claim) (run : Consumed) (worker : ℕ) → left ≡ without claims worker → IsCore first leg table claims run → IsCore first leg table left run
+core_given first leg table claims left run worker e h =
+    record { parents = h.parents; over = h.over; len = h.len; run = h.run; standing = subst (λ (cs : List Claim). AreClaims table cs) (sym e) (claims_without table claims worker h.standing) }
+
+pub gives : (old : Machine) (left : List Claim) (worker p : ℕ) → stands old.claims worker p ≡ true → left ≡ without old.claims worker → IsStep old (Given worker p) (record old { claims = left })
+gives old left worker p h e = record {
+  farm = step_give (setting_of old) (farm_of old) worker p h ∙ ap (λ (cs : List Claim). Some (record (farm_of old) { claims = cs })) (sym e);
+  setting = refl;
+  first = refl;
+}
+
+-- ---- a pick
+
+place_closed : (setting : Setting) (farm : Farm) (run : Run) (end : End) → is_open end ≡ false → place_at setting farm run end ≡ None
+place_closed setting farm run (Open p) h = cc
+place_closed setting farm run (Answered a) h = refl
+place_closed setting farm run Leg h = refl
+place_closed setting farm run (Aborted p outcome) h = refl
+
+-- the best place from the root is the best open place
+pub best_is : (o : Option Ending) (first : Session) (leg : ℕ) (table : List (Option Outcome)) (claims : List Claim) (run : Consumed) → run.ending ≡ o → IsCore first leg table claims run
+    → best_at o run.tree table claims ≡ best_place (setting_of (seen first leg table claims run)) (farm_of (seen first leg table claims run))
+best_is None first leg table claims run e h =
+    let setting : Setting = setting_of (seen first leg table claims run) in
+    let whole : Run = consumed setting table in
+    let place = told_open whole.end (subst (λ (o : Option Ending). Tells o whole.end) e h.run.ending) in
+    ap (λ (s : Search). place_of (best_open run.tree.graph (outcomes_of_table table) claims s)) (h.run.waits place.0 place.1).search
+    ∙ ap (λ (end : End). place_at setting (farm_of (seen first leg table claims run)) whole end) (sym place.1)
+best_is (Some ending) first leg table claims run e h =
+    let setting : Setting = setting_of (seen first leg table claims run) in
+    let whole : Run = consumed setting table in
+    let told : Tells (Some ending) whole.end = subst (λ (o : Option Ending). Tells o whole.end) e h.run.ending in
+    sym (place_closed setting (farm_of (seen first leg table claims run)) whole whole.end told.1)
+
+-- the place of a pick is free
+pub best_free : (first : Session) (leg : ℕ) (table : List (Option Outcome)) (claims : List Claim) (run : Consumed) (o : Option Ending) (p : ℕ) → IsCore first leg table claims run → best_at o run.tree table claims ≡ Some p
+    → IsFree run.tree.graph (outcomes_of_table table) claims p
+best_free first leg table claims run None p h e = best_is_free run.tree.graph (outcomes_of_table table) claims h.parents run.tree.root.search p e
+best_free first leg table claims run (Some ending) p h e = cc
+
+-- nodes play no part in what a core keeps
+pub core_same : (first : Session) (leg : ℕ) (table : List (Option Outcome)) (claims : List Claim) (old new : Consumed) → IsSameRun old new → IsCore first leg table claims old → IsCore first leg table claims new
+core_same first leg table claims old new same h = record {
+  parents = subst IsGraph (sym same.tree.graph) h.parents;
+  over = subst (λ (x : List (List ℕ)). IsSearchOver x first.search) (sym same.tree.graph) h.over;
+  len = h.len ∙ ap (λ (x : List (List ℕ)). length x) (sym same.tree.graph);
+  run = subst (λ (x : List (List ℕ)). IsRunOn (record { graph = x; start = first.search; leg = leg }) first table new) (sym same.tree.graph)
+      (same_is_run (record { graph = old.tree.graph; start = first.search; leg = leg }) first (consumed (record { graph = old.tree.graph; start = first.search; leg = leg }) table) old new same h.run);
+  standing = h.standing;
+}
+
+pub core_picked : (first : Session) (leg : ℕ) (table : List (Option Outcome)) (claims more : List Claim) (old new : Consumed) (worker p : ℕ) → has_claim claims worker ≡ false → IsCore first leg table claims old → IsSameRun old new
+    → best_at old.ending old.tree table claims ≡ Some p → more ≡ claims ++ record { worker = worker; place = p } ∷ [] → IsCore first leg table more new
+core_picked first leg table claims more old new worker p idle h same best e =
+    let free = best_free first leg table claims old old.ending p h best in
+    let k = core_same first leg table claims old new same h in
+    record {
+      parents = k.parents;
+      over = k.over;
+      len = k.len;
+      run = k.run;
+      standing = subst (λ (cs : List Claim). AreClaims table cs) (sym e) (claims_pushed table claims worker p h.standing idle free.unclaimed (let l = free.within in omega (arith, h.len)) free.unknown);
+    }
+
+pub same_seen : (first : Session) (leg : ℕ) (table t : List (Option Outcome)) (claims cs : List Claim) (old new : Consumed) → IsSameRun old new → t ≡ table
+    → seen first leg t cs new ≡ record (seen first leg table claims old) { claims = cs; paths = new.tree.paths }
+same_seen first leg table t claims cs old new same e = λ i. record {
+  graph = same.tree.graph i;
+  first = first;
+  leg = leg;
+  table = e i;
+  claims = cs;
+  entries = same.entries i;
+  state = same.state i;
+  ending = same.ending i;
+  paths = new.tree.paths;
+}
+
+pub picks : (first : Session) (leg : ℕ) (table : List (Option Outcome)) (claims more : List Claim) (old new : Consumed) (worker p : ℕ) → has_claim claims worker ≡ false → IsCore first leg table claims old → IsSameRun old new
+    → best_at old.ending old.tree table claims ≡ Some p → more ≡ claims ++ record { worker = worker; place = p } ∷ [] → IsStep (seen first leg table claims old) (Claimed worker p) (seen first leg table more new)
+picks first leg table claims more old new worker p idle h same best e = record {
+  farm = step_claim (setting_of (seen first leg table claims old)) (farm_of (seen first leg table claims old)) worker p idle (sym (best_is old.ending first leg table claims old refl h) ∙ best)
+      ∙ ap (λ (cs : List Claim). Some (record { table = table; claims = cs })) (sym e);
+  setting = ap (λ (x : List (List ℕ)). record { graph = x; start = first.search; leg = leg }) same.tree.graph;
+  first = refl;
+}
+
+pub all_taken : (first : Session) (leg : ℕ) (table : List (Option Outcome)) (claims : List Claim) (run : Consumed) → IsCore first leg table claims run → run.ending ≡ None → best_at run.ending run.tree table claims ≡ None
+    → IsAllTaken (seen first leg table claims run)
+all_taken first leg table claims run h e none = record { goes_on = e; none_open = sym (best_is run.ending first leg table claims run refl h) ∙ none }
+
+-- ---- a post
+
+module _ (first : Session) (leg : ℕ) (table : List (Option Outcome)) (claims : List Claim) (old new : Consumed) (worker p : ℕ) (outcome : Outcome) (h : IsCore first leg table claims old) (st : stands claims worker p ≡ true)
+    (goes_on : Consumes old (set table p (Some outcome)) new) where
+  abbrev setting : Setting
+  setting = record { graph = old.tree.graph; start = first.search; leg = leg }
+
+  after : IsRunOn setting first (set table p (Some outcome)) new
+  after = goes_on setting first table h.parents h.over (part_put table p outcome (standing_place table claims worker p h.standing st).1) h.run
+
+  pub core_posted : (left : List Claim) → left ≡ without claims worker → IsCore first leg (set table p (Some outcome)) left new
+  core_posted left e = record {
+    parents = subst IsGraph (sym after.graph) h.parents;
+    over = subst (λ (x : List (List ℕ)). IsSearchOver x first.search) (sym after.graph) h.over;
+    len = length-set table p (Some outcome) ∙ h.len ∙ ap (λ (x : List (List ℕ)). length x) (sym after.graph);
+    run = subst (λ (x : List (List ℕ)). IsRunOn (record { graph = x; start = first.search; leg = leg }) first (set table p (Some outcome)) new) (sym after.graph) after;
+    standing = subst (λ (cs : List Claim). AreClaims (set table p (Some outcome)) cs) (sym e) (claims_posted table claims worker p outcome h.standing st);
+  }
+
+  pub posts : (left : List Claim) → left ≡ without claims worker → IsStep (seen first leg table claims old) (Posted worker p outcome) (seen first leg (set table p (Some outcome)) left new)
+  posts left e = record {
+    farm = step_post (setting_of (seen first leg table claims old)) (farm_of (seen first leg table claims old)) worker p outcome st
+        ∙ ap (λ (cs : List Claim). Some (record { table = set table p (Some outcome); claims = cs })) (sym e);
+    setting = ap (λ (x : List (List ℕ)). record { graph = x; start = first.search; leg = leg }) after.graph;
+    first = refl;
+  }
+
+  pub unmoved : (left : List Claim) → (run_of (seen first leg table claims old)).end ≢ Open p → IsUnmoved (seen first leg table claims old) (seen first leg (set table p (Some outcome)) left new)
+  unmoved left other =
+      let same : consumed setting (set table p (Some outcome)) ≡ consumed setting table
+      = seq_stays setting.graph (outcomes_of_table table) (outcomes_of_table (set table p (Some outcome))) (part_put table p outcome (standing_place table claims worker p h.standing st).1) leg setting.start
+      (λ q e. put_elsewhere table p q outcome (λ here. other (e ∙ ap (λ (x : ℕ). Open x) here))) in
+      record {
+        entries = after.entries ∙ ap (λ (r : Run). r.entries) same ∙ sym h.run.entries;
+        state = after.state ∙ ap (λ (r : Run). with_search first r.search) same ∙ sym h.run.state;
+        ending = told_alike new.ending old.ending (consumed setting table).end (subst (λ (r : Run). Tells new.ending r.end) same after.ending) h.run.ending;
+      }
+
+pub withdraws : (first : Session) (leg : ℕ) (table : List (Option Outcome)) (claims : List Claim) (run : Consumed) (worker : ℕ) → IsUnwanted run table claims worker ↔ IsWithdrawn (seen first leg table claims run) worker
+withdraws first leg table claims run worker = (
+  λ h. record { claim = h.claim; among = h.among; by = h.by; dropped = λ wanted. h.unwanted wanted.goes_on wanted.asked },
+  λ h. record { claim = h.claim; among = h.among; by = h.by; unwanted = λ none asked. h.dropped (record { goes_on = none; asked = asked }) },
+)
+
+-- what a post leaves
+pub record IsPosted (first : Session) (leg : ℕ) (table : List (Option Outcome)) (claims : List Claim) (old : Consumed) (worker p : ℕ) (outcome : Outcome) (now : List (Option Outcome)) (left : List Claim) (new : Consumed) : Type 0 where
+  pub core : IsCore first leg now left new
+  pub event : IsStep (seen first leg table claims old) (Posted worker p outcome) (seen first leg now left new)
+  pub beside : (run_of (seen first leg table claims old)).end ≢ Open p → IsUnmoved (seen first leg table claims old) (seen first leg now left new)
+
+pub posted : (first : Session) (leg : ℕ) (table : List (Option Outcome)) (claims : List Claim) (old : Consumed) (worker p : ℕ) (outcome : Outcome) (now : List (Option Outcome)) (left : List Claim) (new : Consumed) → IsCore first leg table claims old
+    → stands claims worker p ≡ true → now ≡ set table p (Some outcome) → left ≡ without claims worker → Consumes old now new → IsPosted first leg table claims old worker p outcome now left new
+posted first leg table claims old worker p outcome now left new h st put e goes_on =
+    let on : Consumes old (set table p (Some outcome)) new = subst (λ (t : List (Option Outcome)). Consumes old t new) put goes_on in
+    subst (λ (t : List (Option Outcome)). IsPosted first leg table claims old worker p outcome t left new) (sym put)
+    (record {
+      core = core_posted first leg table claims old new worker p outcome h st on left e;
+      event = posts first leg table claims old new worker p outcome h st on left e;
+      beside = unmoved first leg table claims old new worker p outcome h st on left;
+    })
+
+pub claims_put : (table now : List (Option Outcome)) (claims left : List Claim) (worker p : ℕ) (outcome : Outcome) → AreClaims table claims → stands claims worker p ≡ true → now ≡ set table p (Some outcome) → left ≡ without claims worker → AreClaims now left
+claims_put table now claims left worker p outcome h st put e =
+    subst (λ (t : List (Option Outcome)). AreClaims t left) (sym put) (subst (λ (cs : List Claim). AreClaims (set table p (Some outcome)) cs) (sym e) (claims_posted table claims worker p outcome h st))
+
+pub place_put : (table now : List (Option Outcome)) (p : ℕ) (outcome : Outcome) → p < length table → now ≡ set table p (Some outcome) → p < length now
+place_put table now p outcome l put = subst (λ (t : List (Option Outcome)). p < length t) (sym put) (omega (arith, l, length-set table p (Some outcome)))
+
+-- an outcome that was taken out again
+pub taken_back : (table now back : List (Option Outcome)) (p : ℕ) (outcome : Outcome) → outcomes_of_table table p ≡ None → now ≡ set table p (Some outcome) → back ≡ set now p None → back ≡ table
+taken_back table now back p outcome unknown put e = e ∙ ap (λ (t : List (Option Outcome)). set t p None) put ∙ put_back table p outcome unknown

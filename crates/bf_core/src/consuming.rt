@@ -1,0 +1,158 @@
+//! What a core has consumed.
+ghost use Rattle.std.specs.Prelude.{◌≡◌, ◌↔◌, ◌++◌, ℕ, List, [], Option, Some, None, length, map, All, Contains, IfOk, OnOk, OnErr, IsSome};
+ghost use Rattle.std.specs.List.Sorted.{IsStrictlyIncreasing};
+ghost use Rattle.bf_graph.specs.Graph.{IsGraph};
+ghost use Rattle.bf_search.specs.State.{ask, IsSearchOver};
+ghost use Rattle.bf_search.specs.Run.{leg_of, left_after};
+ghost use Rattle.bf_search.specs.Outcomes.{outcomes_of_table};
+ghost use Rattle.bf_search.specs.OpenPaths.{OpenPath, best_open};
+ghost use Rattle.bf_state.specs.Session.{Session};
+ghost use Rattle.bf_spec.specs.Tree.{HasNode};
+ghost use Rattle.bf_core.specs.Claims.{AreClaims, KeepsNodes, IsSameTree};
+ghost use Rattle.bf_core.specs.Consuming.{IsJoined, IsSameRun, Begins, Consumes, GivesBest, IsUnwanted, marks_since};
+
+use crate::claims::withdrawn;
+use bf_search::{Claim, Ending, Entry};
+use bf_spec::{SpecTree, Table, Walked};
+use bf_state::State;
+use std::alloc::{AllocError, Global};
+
+/// The run so far, with the tree of guesses from where it stands.
+#[derive(Drop)]
+pub(crate) struct Consumed<'r> {
+    /// The guesses. While the run waits for an outcome, the root is the search that it reached.
+    pub(crate) tree: SpecTree<'r>,
+    /// The log entries of the run.
+    pub(crate) entries: Vec<Entry>,
+    /// The search that the run reached.
+    pub(crate) state: State,
+    /// How the run ended, where it has.
+    pub(crate) ending: Option<Ending>,
+    /// The marks that are left in the leg, where it has an end.
+    pub(crate) left: Option<u32>,
+}
+
+impl<'r> Consumed<'r> {
+    /// The run on a table, from the root of a tree that was just made.
+    pub(crate) fn begin(
+        alloc: Global,
+        mut tree: SpecTree<'r>,
+        table: &Table,
+        leg: u32,
+    ) -> Result<Consumed<'r>, AllocError>
+        ensures { IfOk result (Begins tree.entry table.now leg) }
+    {
+        let mut entries = warnings(alloc, tree.root_ask().warned.as_slice())?;
+        let left = leg_of(leg);
+        let walked = tree.run(table, left)?;
+        let Walked {
+            entries: mut more,
+            used,
+            ending,
+            state,
+            path,
+        } = walked;
+        entries.append(&mut more)?;
+        tree.jump(path.as_slice());
+        let left = left_after(left, used.len());
+        Ok(Consumed {
+            tree,
+            entries,
+            state,
+            ending,
+            left,
+        })
+    }
+
+    /// Goes on as far as the outcomes of a table lead, which has those of the run's table and perhaps
+    /// more. It gives the workers whose claimed place no path asks for then, ascending. After an error
+    /// all is as before, and no node is lost.
+    pub(crate) fn consume(
+        &mut self,
+        alloc: Global,
+        table: &Table,
+        claims: &[Claim],
+    ) -> Result<Vec<u32>, AllocError>
+        requires len { length table.now ≡ length self.old.tree.graph }
+        requires claims { AreClaims table.now claims.now }
+        ensures run { OnOk result (Consumes self.old table.now self.new) }
+        ensures ascending { IfOk result (λ workers. IsStrictlyIncreasing workers.items) }
+        ensures unwanted { IfOk result (λ workers. (worker : ℕ) → Contains workers.items worker ↔ IsUnwanted self.new table.now claims.now worker) }
+        ensures nodes { OnOk result (KeepsNodes self.old.tree.paths (marks_since self.old.entries.items self.new.entries.items) self.new.tree.paths) }
+        ensures err { OnErr result (IsSameRun self.old self.new) }
+    {
+        if self.ending.is_some() {
+            return withdrawn(alloc, &mut self.tree, table, claims, true);
+        }
+        let walked = self.tree.run(table, self.left)?;
+        let ended = walked.ending.is_some();
+        let workers = withdrawn(alloc, &mut self.tree, table, claims, ended)?;
+        self.commit(walked)?;
+        Ok(workers)
+    }
+
+    /// Adds a walk from the root, and moves the root to its end. After an error all is as before.
+    fn commit(&mut self, walked: Walked) -> Result<(), AllocError>
+        requires { HasNode self.old.tree walked.path.items }
+        ensures ok { OnOk result (IsJoined self.old.tree self.old.entries.items self.old.left walked self.new) }
+        ensures err { OnErr result (IsSameRun self.old self.new) }
+    {
+        let Walked {
+            mut entries,
+            used,
+            ending,
+            state,
+            path,
+        } = walked;
+        self.entries.append(&mut entries)?;
+        self.tree.jump(path.as_slice());
+        self.left = left_after(self.left, used.len());
+        self.state = state;
+        self.ending = ending;
+        Ok(())
+    }
+
+    /// The best open place; there is none where the run has ended. No node is lost, also where memory
+    /// runs out.
+    pub(crate) fn best(
+        &mut self,
+        table: &Table,
+        claims: &[Claim],
+    ) -> Result<Option<u32>, AllocError>
+        ensures best { IfOk result (GivesBest self.old table.now claims.now) }
+        ensures answer { OnOk result ((path : OpenPath) → self.old.ending ≡ None → best_open self.old.tree.graph (outcomes_of_table table.now) claims.now self.old.tree.root.search ≡ Some path → HasNode self.new.tree path.marks) }
+        ensures same { IsSameRun self.old self.new }
+    {
+        if self.ending.is_some() {
+            return Ok(None);
+        }
+        self.tree.best_open(table, claims)
+    }
+}
+
+/// The warnings of these skipped merge bases.
+fn warnings(alloc: Global, warned: &[u32]) -> Result<Vec<Entry>, AllocError>
+    ensures { IfOk result (λ entries. entries.items ≡ map (λ p. Entry.SkippedBase p) warned.now) }
+{
+    warned
+        .iter()
+        .map(|place| Entry::SkippedBase { place: *place })
+        .collect(alloc)
+}
+
+/// The marks of a leg; a leg of 0 marks has no end.
+fn leg_of(leg: u32) -> Option<u32>
+    ensures { result ≡ leg_of leg }
+{
+    if leg == 0 { None } else { Some(leg) }
+}
+
+/// The marks that are left after so many more.
+fn left_after(left: Option<u32>, marks: usize) -> Option<u32>
+    ensures { result ≡ left_after left marks }
+{
+    match left {
+        None => None,
+        Some(left) => Some((left as usize).saturating_sub(marks) as u32),
+    }
+}

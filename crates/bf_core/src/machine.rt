@@ -1,0 +1,304 @@
+//! The core of the farm.
+ghost use Rattle.std.specs.Prelude.{◌≡◌, ◌≢◌, ◌↔◌, ◌<◌, ℕ, [], length, true, false, Some, None, Err, Contains, IfOk, OnOk, OnErr, IsTrue, IsSome};
+ghost use Rattle.std.specs.List.Sorted.{IsStrictlyIncreasing};
+ghost use Rattle.bf_search.specs.declared.farm.Event.{Event as EventValue};
+ghost use Rattle.bf_search.specs.Farm.{has_claim, stands, without, step};
+ghost use Rattle.std.specs.Option.{option_copied};
+ghost use Rattle.bf_state.specs.Runs.{is_open};
+ghost use Rattle.bf_guesses.specs.Ends.{HasEnds};
+ghost use Rattle.bf_core.specs.Claims.{AreClaims, KeepsNodes};
+ghost use Rattle.bf_core.specs.Machine.{setting_of, farm_of, run_of, IsConsumed, IsStarted, IsStep, IsSameButNodes};
+ghost use Rattle.bf_core.specs.Machine.{IsAllTaken, ClaimsWork, LeavesPick, HasBestNode, KeepsGuesses};
+ghost use Rattle.bf_core.specs.Machine.{StaysBeside, AreWithdrawn, IsRefused, IsLegOver};
+
+use crate::answers::{ApplyFault, CoreParts, Pick, Withdrawn};
+use crate::claims::{end_claim, has_claim, stands, without};
+use crate::consuming::Consumed;
+use bf_reach::Reach;
+use bf_search::{Claim, Ending, Entry, Event, Mark, Outcome};
+use bf_spec::{SpecTree, Table};
+use bf_state::State;
+use std::alloc::{AllocError, Global};
+use std::marker::Model;
+
+/// A search whose commits several workers test.
+///
+/// It keeps the run that tests one commit at a time on the outcomes that are known, whatever order they
+/// came in: its log entries, the search that it reached, and how it ended, where it has. Contracts see
+/// these with the graph, the session and the length of the legs that it started with, the table, the
+/// claims that stand, and the paths of guesses that are kept.
+#[derive(Drop)]
+pub struct Core<'r> {
+    alloc: Global,
+    /// The search that it started with.
+    first: State,
+    /// The marks of a leg, or 0.
+    leg: u32,
+    /// The outcomes by place, where they are known.
+    table: Table,
+    /// The claims that stand, in the order in which they were made.
+    claims: Vec<Claim>,
+    /// The run on the table.
+    run: Consumed<'r>,
+}
+
+impl<'r> Model for Core<'r> {
+    ghost use Rattle.bf_core.specs.Machine.{Machine};
+
+    ghost Value = { Machine };
+
+    ghost use Rattle.bf_core.specs.Consuming.{IsCore};
+    ghost use Rattle.bf_core.specs.Machine.{seen};
+
+    ghost view = { λ c. seen c.first c.leg c.table c.claims.items c.run };
+
+    ghost invariant = { λ c. IsCore c.first c.leg c.table c.claims.items c.run };
+}
+
+impl<'r> Core<'r> {
+    /// A core on a table, which has consumed it: the run goes as far as the outcomes lead. Both ends of
+    /// the search are known. The run ends after `leg` marks, or not by their number where `leg` is 0.
+    pub fn start(
+        alloc: Global,
+        reach: &'r Reach,
+        state: State,
+        table: Table,
+        leg: u32,
+    ) -> Result<Core<'r>, AllocError>
+        requires len { length reach.now ≡ state.len }
+        requires table { length table ≡ state.len }
+        requires ends { HasEnds state.search }
+        ensures started { IfOk result (IsStarted reach.entry.now state table leg) }
+        ensures consumed { IfOk result IsConsumed }
+    {
+        prove!(reach.len() == state.len());
+        let first = state.try_clone()?;
+        let tree = SpecTree::new(alloc, reach, state)?;
+        let run = Consumed::begin(alloc, tree, &table, leg)?;
+        Ok(Core {
+            alloc,
+            first,
+            leg,
+            table,
+            claims: Vec::new(alloc),
+            run,
+        })
+    }
+
+    /// The log entries of the run, without the one that began the search.
+    pub fn entries(&self) -> &[Entry]
+        ensures entries { result.now ≡ self.now.entries }
+        ensures consumed { IsConsumed self.now }
+    {
+        self.run.entries.as_slice()
+    }
+
+    /// The search that the run reached.
+    pub fn state(&self) -> &State
+        ensures state { result.now ≡ self.now.state }
+        ensures consumed { IsConsumed self.now }
+    {
+        &self.run.state
+    }
+
+    /// How the run ended. It is none exactly while the run waits for an outcome, and `Leg` exactly where a
+    /// leg has an end and so many marks were made.
+    pub fn ending(&self) -> Option<&Ending>
+        ensures ending { option_copied result ≡ self.now.ending }
+        ensures none { (self.now.ending ≡ None) ↔ (is_open (run_of self.now).end ≡ true) }
+        ensures leg { (self.now.ending ≡ Some Ending.Leg) ↔ IsLegOver self.now }
+        ensures consumed { IsConsumed self.now }
+    {
+        self.run.ending.as_ref()
+    }
+
+    /// The claims that stand, in the order in which they were made.
+    pub fn claims(&self) -> &[Claim]
+        ensures claims { result.now ≡ self.now.claims }
+        ensures standing { AreClaims self.now.table self.now.claims }
+    {
+        self.claims.as_slice()
+    }
+
+    /// The outcomes by place, where they are known.
+    pub fn table(&self) -> &Table
+        ensures { result.now ≡ self.now.table }
+    {
+        &self.table
+    }
+
+    /// Hands over what the other calls see, without the claims.
+    pub fn into_parts(self) -> CoreParts
+        ensures entries { result.entries.items ≡ self.entry.entries }
+        ensures state { result.state ≡ self.entry.state }
+        ensures ending { result.ending ≡ self.entry.ending }
+        ensures table { result.table ≡ self.entry.table }
+        ensures consumed { IsConsumed self.entry }
+    {
+        let Core {
+            alloc: _,
+            first: _,
+            leg: _,
+            table,
+            claims: _,
+            run,
+        } = self;
+        let Consumed {
+            tree: _,
+            entries,
+            state,
+            ending,
+            left: _,
+        } = run;
+        CoreParts {
+            entries,
+            state,
+            ending,
+            table,
+        }
+    }
+
+    /// Whether a path of guesses from where the run stands has a node in the tree of guesses.
+    pub fn has_node(&self, path: &[Mark]) -> bool
+        ensures { IsTrue result ↔ Contains self.now.paths path.now }
+    {
+        self.run.tree.has_node(path)
+    }
+
+    /// Claims the best open place for a worker without a claim. No node is lost, and the path of the
+    /// claimed place has one. After an error all else is as before.
+    pub fn pick(&mut self, worker: u32) -> Result<Pick, AllocError>
+        requires { has_claim self.old.claims worker ≡ false }
+        ensures work { IfOk result (ClaimsWork self.old worker self.new) }
+        ensures not_yet { IfOk result (λ pick. (pick ≡ Pick.NotYet) ↔ IsAllTaken self.old) }
+        ensures ended { IfOk result (λ pick. (pick ≡ Pick.Ended) ↔ IsSome self.old.ending) }
+        ensures rest { IfOk result (LeavesPick self.old worker self.new) }
+        ensures nodes { KeepsNodes self.old.paths [] self.new.paths }
+        ensures answer { OnOk result (HasBestNode self.old self.new) }
+        ensures err { OnErr result (IsSameButNodes self.old self.new) }
+    {
+        if self.run.ending.is_some() {
+            return Ok(Pick::Ended);
+        }
+        match self.run.best(&self.table, self.claims.as_slice())? {
+            None => Ok(Pick::NotYet),
+            Some(place) => {
+                let claim = Claim { worker, place };
+                self.claims.push(claim)?;
+                Ok(Pick::Work(place))
+            }
+        }
+    }
+
+    /// Ends a claim that stands, and puts the outcome of its place into the table. The run goes on as far
+    /// as the outcomes lead. It gives the workers whose claimed place no path asks for any more. After an
+    /// error all is as before, and no node is lost.
+    pub fn post(
+        &mut self,
+        worker: u32,
+        place: u32,
+        outcome: Outcome,
+    ) -> Result<Withdrawn, AllocError>
+        requires { stands self.old.claims worker place ≡ true }
+        ensures event { OnOk result (IsStep self.old (Event.Post worker place outcome) self.new) }
+        ensures consumed { IsConsumed self.new }
+        ensures beside { OnOk result (StaysBeside self.old place self.new) }
+        ensures withdrawn { IfOk result (λ w. AreWithdrawn self.new w.workers.items) }
+        ensures ascending { IfOk result (λ w. IsStrictlyIncreasing w.workers.items) }
+        ensures nodes { OnOk result (KeepsGuesses self.old self.new) }
+        ensures err { OnErr result (IsSameButNodes self.old self.new) }
+    {
+        let others = without(self.alloc, self.claims.as_slice(), worker)?;
+        self.table.put(place, outcome);
+        match self.run.consume(self.alloc, &self.table, others.as_slice()) {
+            Ok(workers) => {
+                self.claims = others;
+                Ok(Withdrawn { workers })
+            }
+            Err(error) => {
+                self.table.remove(place);
+                Err(error)
+            }
+        }
+    }
+
+    /// Ends a claim that stands, without an outcome.
+    pub fn give(&mut self, worker: u32, place: u32)
+        requires { stands self.old.claims worker place ≡ true }
+        ensures event { IsStep self.old (Event.Give worker place) self.new }
+        ensures rest { self.new ≡ record self.old { claims = without self.old.claims worker } }
+        ensures consumed { IsConsumed self.new }
+    {
+        end_claim(&mut self.claims, worker);
+    }
+
+    /// Whether a worker has a claim.
+    pub fn has_claim(&self, worker: u32) -> bool
+        ensures { result ≡ has_claim self.now.claims worker }
+    {
+        has_claim(self.claims.as_slice(), worker)
+    }
+
+    /// Whether this claim stands.
+    pub fn stands(&self, worker: u32, place: u32) -> bool
+        ensures { result ≡ stands self.now.claims worker place }
+    {
+        stands(self.claims.as_slice(), worker, place)
+    }
+
+    /// Does an event where it is legal. It is refused exactly where it is not, and then, as after want of
+    /// memory, all is as before and no node is lost.
+    pub fn apply(&mut self, event: Event) -> Result<(), ApplyFault>
+        ensures ok { OnOk result (IsStep self.old event self.new) }
+        ensures illegal { (e : EventValue) → result ≡ Err (ApplyFault.Illegal e) → IsRefused self.old event e }
+        ensures consumed { OnOk result (IsConsumed self.new) }
+        ensures nodes { OnOk result (KeepsGuesses self.old self.new) }
+        ensures err { OnErr result (IsSameButNodes self.old self.new) }
+    {
+        match event {
+            Event::Claim { worker, place } => {
+                if !self.claim(worker, place)? {
+                    return Err(ApplyFault::Illegal { event });
+                }
+            }
+            Event::Post {
+                worker,
+                place,
+                outcome,
+            } => {
+                if !self.stands(worker, place) {
+                    return Err(ApplyFault::Illegal { event });
+                }
+                self.post(worker, place, outcome)?;
+            }
+            Event::Give { worker, place } => {
+                if !self.stands(worker, place) {
+                    return Err(ApplyFault::Illegal { event });
+                }
+                self.give(worker, place);
+            }
+        }
+        Ok(())
+    }
+
+    /// Claims a place for a worker where that is legal, and says whether it is. After an error all is as
+    /// before, and no node is lost.
+    fn claim(&mut self, worker: u32, place: u32) -> Result<bool, AllocError>
+        ensures claimed { IfOk result (λ done. IsTrue done → IsStep self.old (Event.Claim worker place) self.new) }
+        ensures rest { IfOk result (λ done. IsTrue done → self.new ≡ record self.old { claims = self.new.claims; paths = self.new.paths }) }
+        ensures illegal { IfOk result (λ done. done ≡ false → step (setting_of self.old) (farm_of self.old) (Event.Claim worker place) ≡ None) }
+        ensures same { IfOk result (λ done. done ≡ false → IsSameButNodes self.old self.new) }
+        ensures consumed { IsConsumed self.new }
+        ensures nodes { KeepsNodes self.old.paths [] self.new.paths }
+        ensures err { OnErr result (IsSameButNodes self.old self.new) }
+    {
+        if has_claim(self.claims.as_slice(), worker) {
+            return Ok(false);
+        }
+        if self.run.best(&self.table, self.claims.as_slice())? != Some(place) {
+            return Ok(false);
+        }
+        self.claims.push(Claim { worker, place })?;
+        Ok(true)
+    }
+}

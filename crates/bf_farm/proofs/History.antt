@@ -1,0 +1,122 @@
+-- The history of a board: one event more, and the claims that stand then.
+use Rattle.std.proofs.Common.{◌≡◌, ℕ, ◌<◌, ◌≤◌, ◌+◌, suc, Bool, true, false, not, ◌&&◌, ◌||◌, ◌==◌, cond, List, [], ◌∷◌, ◌++◌, length, Option, Some, None, refl, sym, subst, ◌∙◌, arith, length-append}
+use Rattle.std.specs.List.{find}
+use Rattle.std.specs.Option.{option_map}
+use Rattle.std.proofs.lemmas.List.Elements.{All-push}
+use Rattle.std.proofs.lemmas.List.Filters.{length-filter_both}
+use Rattle.bf_search.specs.declared.farm.Claim.{Claim}
+use Rattle.bf_search.specs.declared.farm.Event.{Event}
+use Rattle.bf_search.specs.declared.farm.Event.TheVariants as events
+use Rattle.bf_search.specs.declared.outcomes.Outcome.{Outcome}
+use Rattle.bf_search.specs.Farm.{Setting, Farm, step, after_events, has_claim, stands, without, is_best, best_place}
+use Rattle.bf_core.specs.Machine.{Machine, IsStep, ClaimsWork}
+use Rattle.bf_core.specs.declared.answers.Pick.{Pick}
+use Rattle.bf_core.specs.declared.answers.Pick.TheVariants.{Work}
+use Rattle.bf_farm.specs.Boards.{BoardView, LeadsTo, unclaimed, claimed_by, Does, DoesIf, GivesBack}
+use Rattle.bf_farm.specs.Reports.{IsPostIn, PostsIn}
+
+-- what follows one event more
+pub after_one_more : (setting : Setting) (start : Option Farm) (es : List Event) (e : Event) (farm next : Farm)
+    → after_events setting start es ≡ Some farm → step setting farm e ≡ Some next → after_events setting start (es ++ e ∷ []) ≡ Some next
+after_one_more setting start [] e farm next led done =
+    subst (λ (s : Option Farm). after_events setting s (e ∷ []) ≡ Some next) (sym led) done
+after_one_more setting None (x ∷ es) e farm next led done = cc
+after_one_more setting (Some f) (x ∷ es) e farm next led done = after_one_more setting (step setting f x) es e farm next led done
+
+-- ---- the claims that stand
+
+pub chosen : (b : Bool) (x next : Farm) → cond b (Some x) None ≡ Some next → x ≡ next
+chosen true x next e = cc
+chosen false x next e = cc
+
+at_most : (claims : List Claim) (worker : ℕ) → length (without claims worker) ≤ length claims
+at_most claims worker = omega (arith, length-filter_both (λ (c : Claim). not (c.worker == worker)) (λ (c : Claim). not (not (c.worker == worker)))
+    (λ c. refl) claims)
+
+fewer_after : (b q s : Bool) (c : Claim) (rest claims : List Claim) → ((b && q) || s) ≡ true → length rest ≤ length claims
+    → (s ≡ true → length rest < length claims) → length (cond (not b) (c ∷ rest) rest) < suc (length claims)
+fewer_after true q s c rest claims h most more = omega arith
+fewer_after false q s c rest claims h most more = let l : length rest < length claims = more h in omega arith
+
+-- a claim that stands is among the claims
+pub fewer : (claims : List Claim) (worker p : ℕ) → stands claims worker p ≡ true → length (without claims worker) < length claims
+fewer [] worker p h = cc
+fewer (c ∷ claims) worker p h =
+    fewer_after (c.worker == worker) (c.place == p) (stands claims worker p) c (without claims worker) claims h (at_most claims worker)
+        (fewer claims worker p)
+
+pub claims_after_claim : (setting : Setting) (farm next : Farm) (worker p : ℕ) → step setting farm (events.Claim worker p) ≡ Some next
+    → length next.claims ≡ length farm.claims + 1
+claims_after_claim setting farm next worker p e =
+    let same = chosen (not (has_claim farm.claims worker) && is_best (best_place setting farm) p)
+        (record farm { claims = farm.claims ++ (record { worker = worker; place = p }) ∷ [] }) next e in
+    subst (λ (f : Farm). length f.claims ≡ length farm.claims + 1) same
+    (omega (arith, length-append farm.claims ((record { worker = worker; place = p }) ∷ [])))
+
+pub claims_after_post : (setting : Setting) (farm next : Farm) (worker p : ℕ) (outcome : Outcome) → stands farm.claims worker p ≡ true
+    → step setting farm (events.Post worker p outcome) ≡ Some next → length next.claims < length farm.claims
+claims_after_post setting farm next worker p outcome h e =
+    subst (λ (f : Farm). length f.claims < length farm.claims) (chosen (stands farm.claims worker p) _ next e) (fewer farm.claims worker p h)
+
+pub claims_after_give : (setting : Setting) (farm next : Farm) (worker p : ℕ) → stands farm.claims worker p ≡ true
+    → step setting farm (events.Give worker p) ≡ Some next → length next.claims < length farm.claims
+claims_after_give setting farm next worker p h e =
+    subst (λ (f : Farm). length f.claims < length farm.claims) (chosen (stands farm.claims worker p) _ next e) (fewer farm.claims worker p h)
+
+-- a worker for whom no claim is found has none
+found : (b : Bool) (c : Claim) (rest : Option Claim) (s : Bool) → option_map (λ (k : Claim). k.place) (cond b (Some c) rest) ≡ None
+    → (option_map (λ (k : Claim). k.place) rest ≡ None → s ≡ false) → (b || s) ≡ false
+found true c rest s e h = cc
+found false c rest s e h = h e
+
+pub no_claim : (claims : List Claim) (worker : ℕ) → claimed_by claims worker ≡ None → has_claim claims worker ≡ false
+no_claim [] worker e = refl
+no_claim (c ∷ claims) worker e = found (c.worker == worker) c (find (λ (k : Claim). k.worker == worker) claims) (has_claim claims worker) e
+    (no_claim claims worker)
+
+-- ---- a core after an event
+
+pub leads_more : (old new : Setting) (first : List (Option Outcome)) (es more : List Event) (e : Event) (farm next : Farm)
+    → LeadsTo old first es farm → step old farm e ≡ Some next → new ≡ old → more ≡ es ++ e ∷ [] → LeadsTo new first more next
+leads_more old new first es more e farm next led done same noted =
+    subst (λ (s : Setting). LeadsTo s first more next) (sym same)
+    (subst (λ (l : List Event). LeadsTo old first l next) (sym noted) (after_one_more old (Some (unclaimed first)) es e farm next led done))
+
+pub claimed : (old new : Machine) (worker p : ℕ) (pick : Pick) → ClaimsWork old worker new pick → pick ≡ Work p → IsStep old (events.Claim worker p) new
+claimed old new worker p pick work is = subst (λ (k : Pick). ClaimsWork old worker new k) is work
+
+-- any event leaves at most one claim more
+pub claims_after : (setting : Setting) (farm next : Farm) (e : Event) → step setting farm e ≡ Some next → length next.claims ≤ length farm.claims + 1
+claims_after setting farm next (events.Claim worker p) h = let more = claims_after_claim setting farm next worker p h in omega arith
+claims_after setting farm next (events.Post worker p outcome) h =
+    subst (λ (f : Farm). length f.claims ≤ length farm.claims + 1) (chosen (stands farm.claims worker p) _ next h)
+        (let most = at_most farm.claims worker in omega arith)
+claims_after setting farm next (events.Give worker p) h =
+    subst (λ (f : Farm). length f.claims ≤ length farm.claims + 1) (chosen (stands farm.claims worker p) _ next h)
+        (let most = at_most farm.claims worker in omega arith)
+
+-- ---- claims given back
+
+pub done_where : (b : Bool) (old new : BoardView) (e : Event) → DoesIf b old new e → b ≡ true → Does old new e
+done_where b old new e does is = subst (λ (v : Bool). DoesIf v old new e) is does
+
+give_keeps_table : (setting : Setting) (farm next : Farm) (worker p : ℕ) → step setting farm (events.Give worker p) ≡ Some next → next.table ≡ farm.table
+give_keeps_table setting farm next worker p e =
+    subst (λ (f : Farm). f.table ≡ farm.table) (chosen (stands farm.claims worker p) (record farm { claims = without farm.claims worker }) next e) refl
+
+pub gives_none : (b : BoardView) → GivesBack b b
+gives_none b = record { start = record { setting = refl; first = refl }; first = refl; table = refl; posts = λ names answers h. h }
+
+pub gives_more : (a b c : BoardView) (worker p : ℕ) → GivesBack a b → Does b c (events.Give worker p) → GivesBack a c
+gives_more a b c worker p given does = record {
+  start = record { setting = does.start.setting ∙ given.start.setting; first = does.start.first ∙ given.start.first };
+  first = does.first ∙ given.first;
+  table = give_keeps_table b.core.setting b.core.farm c.core.farm worker p does.done ∙ given.table;
+  posts = λ names answers h.
+      subst (λ (l : List Event). PostsIn names answers l) (sym does.noted)
+      (All-push (λ (e : Event). IsPostIn names answers e) b.events (events.Give worker p) (given.posts names answers h) tt);
+}
+
+pub fewer_given : (a b : BoardView) (worker p : ℕ) → Does a b (events.Give worker p) → stands a.core.farm.claims worker p ≡ true
+    → length b.core.farm.claims < length a.core.farm.claims
+fewer_given a b worker p does h = claims_after_give a.core.setting a.core.farm b.core.farm worker p h does.done

@@ -1,0 +1,9 @@
+pub mod Asked
+pub mod History
+pub mod Listed
+pub mod Marking
+pub mod Reporting
+pub mod Rests
+pub mod Seen
+pub mod Soundness
+pub mod Telling

@@ -1,0 +1,30 @@
+use Rattle.std.proofs.Common.{List, Option, subst, sym, arith}
+use Rattle.bf_search.specs.declared.farm.Event.{Event}
+use Rattle.bf_farm.specs.Ends.{AreAlone}
+use Rattle.bf_search.specs.declared.outcomes.Outcome.{Outcome}
+use Rattle.bf_search.specs.Farm.{Setting}
+use Rattle.bf_state.specs.Session.{Session}
+use Rattle.bf_farm.specs.Answering.{IsReport, HasHistory}
+use Rattle.bf_farm.proofs.Reporting.{sound_start}
+use Rattle.bf_farm.proofs.alone.run_alone.Goals as goal
+
+pub finish-requires-clause-sound : goal.finish-requires-clause-sound
+finish-requires-clause-sound g c = λ κs lives.
+    sound_start (g.T.Tester.told c.args.tester.now) c.args.case.names.now (g.T.Tester.answers c.args.tester.now) c.in_ok-board.board c.args.case.table
+    c.in_ok-board.ensures.farm c.in_ok-board.ensures.events c.requires.known c.requires.plan
+
+pub returns-clause-report : goal.returns-clause-report
+returns-clause-report g c =
+    subst (λ (s : Setting). IsReport s c.args.case.state c.args.case.names.now c.in_ok-report.report) c.in_ok-board.ensures.setting
+    (subst (λ (f : Session). IsReport c.in_ok-board.board.core.setting f c.args.case.names.now c.in_ok-report.report) c.in_ok-board.ensures.state
+        c.in_ok-report.ensures.report)
+
+pub returns-clause-history : goal.returns-clause-history
+returns-clause-history g c =
+    subst (λ (s : Setting). HasHistory s c.args.case.table c.in_ok-report.report) c.in_ok-board.ensures.setting
+    (subst (λ (t : List (Option Outcome)). HasHistory c.in_ok-board.board.core.setting t c.in_ok-report.report) c.in_ok-board.ensures.first
+        c.in_ok-report.ensures.history)
+
+pub returns-clause-alone : goal.returns-clause-alone
+returns-clause-alone g c =
+    c.in_ok-report.ensures.alone (subst (λ (es : List Event). AreAlone es) (sym c.in_ok-board.ensures.events) (λ k d l. absurd (omega arith)))

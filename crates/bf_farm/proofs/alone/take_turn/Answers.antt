@@ -1,0 +1,15 @@
+use Rattle.bf_farm.proofs.Asked.{on_ok}
+use Rattle.bf_farm.proofs.alone.take_turn.Goals as goal
+
+pub returns-in-Some-clause-sound : goal.returns-in-Some-clause-sound
+returns-in-Some-clause-sound g c =
+    on_ok c.test_claimed.result
+    (λ keeps sound. keeps (c.in_ok-place.ensures.sound (g.T.Tester.told c.args.tester.now) c.args.names.now (g.T.Tester.answers c.args.tester.now) sound))
+    c.test_claimed.ensures.sound
+
+pub returns-in-Some-clause-alone : goal.returns-in-Some-clause-alone
+returns-in-Some-clause-alone g c =
+    on_ok c.test_claimed.result (λ keeps alone. keeps (c.in_ok-place.ensures.alone alone)) c.test_claimed.ensures.alone
+
+pub returns-in-None-clause-sound : goal.returns-in-None-clause-sound
+returns-in-None-clause-sound g c = c.in_ok-place.ensures.sound (g.T.Tester.told c.args.tester.now) c.args.names.now (g.T.Tester.answers c.args.tester.now)

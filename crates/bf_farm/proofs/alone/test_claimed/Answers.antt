@@ -1,0 +1,24 @@
+use Rattle.std.proofs.lemmas.Option.{slice_get-get_or}
+use Rattle.bf_farm.proofs.Soundness.{sound_tested, sound_untested}
+use Rattle.bf_search.specs.declared.farm.Event.TheVariants as events
+use Rattle.bf_farm.proofs.Asked.{fewer_after, one_stands}
+use Rattle.bf_farm.proofs.History.{done_where}
+use Rattle.bf_farm.proofs.alone.test_claimed.Goals as goal
+
+pub returns-in_ok-post-in-Done-clause-sound : goal.returns-in_ok-post-in-Done-clause-sound
+returns-in_ok-post-in-Done-clause-sound g c = λ sound.
+    sound_tested (g.T.Tester.told c.args.tester.now) c.args.names.now (g.T.Tester.answers c.args.tester.now) (g.T.Tester.answers c.test.new.self)
+    _ c.args.board.now c.post.new.self 0 c.args.place c.in-Done.outcome _ c.in-Done.ensures.answers
+        (slice_get-get_or c.args.names.now c.args.place _ c.requires.named) c.in-Done.ensures.planned
+    c.in_ok-post-in-Done.ensures.done sound
+
+pub returns-in-Failed-clause-sound : goal.returns-in-Failed-clause-sound
+returns-in-Failed-clause-sound g c = λ sound.
+    sound_untested (g.T.Tester.told c.args.tester.now) c.args.names.now (g.T.Tester.answers c.args.tester.now) (g.T.Tester.answers c.test.new.self)
+    _ c.args.board.now c.give.new.self 0 c.args.place c.in-Failed.ensures.answers c.give.ensures sound
+
+pub returns-in_ok-post-in-Done-clause-fewer : goal.returns-in_ok-post-in-Done-clause-fewer
+returns-in_ok-post-in-Done-clause-fewer g c = λ goes.
+    fewer_after c.args.board.now c.post.new.self c.args.place c.in-Done.outcome c.requires.within c.requires.asking
+    (done_where _ c.args.board.now c.post.new.self (events.Post 0 c.args.place c.in-Done.outcome) c.in_ok-post-in-Done.ensures.done
+    (one_stands c.args.board.now.core c.args.place c.requires.asking))

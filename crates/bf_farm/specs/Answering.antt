@@ -1,0 +1,61 @@
+-- What a run of tests promises of its report.
+use Rattle.std.specs.Prelude.{◌≡◌, ℕ, List, map, filter, All, Option, Some}
+use Rattle.std.specs.List.{slice_get}
+use Rattle.std.specs.Option.{is_none}
+use Rattle.bf_grammar.specs.declared.object.Oid.{Oid}
+use Rattle.bf_io.specs.Causes.{Rose}
+use Rattle.bf_search.specs.declared.farm.Ending.TheVariants.{TestFault}
+use Rattle.bf_search.specs.declared.outcomes.Outcome.{Outcome}
+use Rattle.bf_search.specs.Farm.{Setting, consumed, end_of}
+use Rattle.bf_search.specs.Outcomes.{outcomes_of_pairs, outcomes_of_table}
+use Rattle.bf_search.specs.Run.{Run, seq}
+use Rattle.bf_state.specs.Session.{Session, with_search}
+use Rattle.bf_tester.specs.declared.answer.Answer.{Answer}
+use Rattle.bf_farm.specs.declared.report.Report.{Report}
+use Rattle.bf_farm.specs.Boards.{LeadsTo, unclaimed}
+use Rattle.bf_farm.specs.Ends.{AreAlone}
+use Rattle.bf_farm.specs.Reports.{TableIn, TableFollows, PostsIn, AreAmong}
+
+-- the place and the outcome of an answer
+abbrev pub pair_of : Answer → ℕ × Outcome
+pair_of a = (a.place, a.outcome)
+
+-- a run from the search of a session
+abbrev pub setting_at : List (List ℕ) → Session → ℕ → Setting
+setting_at graph first leg = record { graph = graph; start = first.search; leg = leg }
+
+-- the run on the answers that were used
+abbrev pub run_on : Setting → List Answer → Run
+run_on setting used = seq setting.graph setting.start (outcomes_of_pairs (map pair_of used)) setting.leg
+
+-- The report is that of testing one commit at a time on the answers that were used.
+pub record IsReport (setting : Setting) (first : Session) (names : List Oid) (report : Report) : Type 0 where
+  pub entries : report.entries.items ≡ (run_on setting report.used.items).entries
+  pub state : report.state ≡ with_search first (run_on setting report.used.items).search
+  pub ending : end_of report.ending ≡ (run_on setting report.used.items).end
+  pub used : map pair_of report.used.items ≡ (run_on setting report.used.items).used
+  pub table : run_on setting report.used.items ≡ consumed setting report.table
+  pub named : All (λ a. slice_get names a.place ≡ Some a.name) report.used.items
+
+-- Its events are legal from the given table, leave no claim, and lead to the reported table.
+abbrev pub HasHistory : Setting → List (Option Outcome) → Report → Type 0
+HasHistory setting first report = LeadsTo setting first report.events.items (unclaimed report.table)
+
+-- a run that ends with a failed test: the count of faults rose, and it is the latest one that failed
+abbrev pub HasFault : ℕ → ℕ → Option ℕ → Report → Type 0
+HasFault before now failed report = (p : ℕ) → report.ending ≡ TestFault p → Rose before now × (failed ≡ Some p)
+
+-- the calling thread alone
+abbrev pub IsAlone : Report → Type 0
+IsAlone report = AreAlone report.events.items
+
+-- the used answers that a table lacks, in order
+abbrev pub lacking : List (Option Outcome) → List Answer → List Answer
+lacking table used = filter (λ a. is_none (outcomes_of_table table a.place)) used
+
+-- It tells of answers alone: its table, which follows the plan, its posts, and what it used.
+pub record IsSoundReport (told : Option (List Outcome)) (names : List Oid) (answers : List Answer) (report : Report) : Type 0 where
+  pub answered : TableIn names answers report.table
+  pub planned : TableFollows told report.table
+  pub posts : PostsIn names answers report.events.items
+  pub used : AreAmong answers report.used.items

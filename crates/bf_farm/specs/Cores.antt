@@ -1,0 +1,53 @@
+-- What a board tells of its core.
+use Rattle.std.specs.Prelude.{◌≡◌, ◌↔◌, ℕ, true, false, List, Contains, Some, None}
+use Rattle.bf_search.specs.declared.farm.Claim.{Claim}
+use Rattle.bf_search.specs.declared.farm.Event.TheVariants as events
+use Rattle.bf_search.specs.Farm.{Setting, Farm, consumed, step, best_place}
+use Rattle.bf_search.specs.Outcomes.{outcomes_of_table}
+use Rattle.bf_search.specs.Run.{Run}
+use Rattle.bf_spec.specs.Ways.{IsAsked}
+use Rattle.bf_state.specs.Runs.{is_open}
+use Rattle.bf_state.specs.Session.{Session}
+use Rattle.bf_core.specs.declared.answers.Pick.{Pick}
+use Rattle.bf_core.specs.declared.answers.Pick.TheVariants.{Work, NotYet, Ended}
+use Rattle.bf_core.specs.Machine.{Machine, setting_of, farm_of}
+
+-- what it started with, the session that it started from, and its table and claims
+pub record CoreView : Type 0 where
+  pub setting : Setting
+  pub first : Session
+  pub farm : Farm
+
+abbrev pub view_of : Machine → CoreView
+view_of core = record { setting = setting_of core; first = core.first; farm = farm_of core }
+
+-- the run on the outcomes of the table
+abbrev pub run_of : CoreView → Run
+run_of core = consumed core.setting core.farm.table
+
+-- it started with the same
+pub record IsSameStart (old new : CoreView) : Type 0 where
+  pub setting : new.setting ≡ old.setting
+  pub first : new.first ≡ old.first
+
+-- what a pick does: work claims the best open place; otherwise nothing changes
+abbrev pub Picks : CoreView → CoreView → ℕ → Pick → Type 0
+Picks old new worker (Work p) = step old.setting old.farm (events.Claim worker p) ≡ Some new.farm
+Picks old new worker NotYet = (new.farm ≡ old.farm) × (best_place old.setting old.farm ≡ None) × (is_open (run_of old).end ≡ true)
+Picks old new worker Ended = (new.farm ≡ old.farm) × (is_open (run_of old).end ≡ false)
+
+-- where the run waits for an outcome, some path asks for the place
+pub record IsWanted (core : CoreView) (p : ℕ) : Type 0 where
+  pub waits : is_open (run_of core).end ≡ true
+  pub asked : IsAsked core.setting.graph (outcomes_of_table core.farm.table) (run_of core).search p
+
+-- a worker whose claimed place no path asks for
+pub record IsWithdrawn (core : CoreView) (worker : ℕ) : Type 0 where
+  pub claim : Claim
+  pub among : Contains core.farm.claims claim
+  pub by : claim.worker ≡ worker
+  pub dropped : ¬ IsWanted core claim.place
+
+-- these are the workers whose claimed place no path asks for
+abbrev pub AreWithdrawn : CoreView → List ℕ → Type 0
+AreWithdrawn core workers = (worker : ℕ) → Contains workers worker ↔ IsWithdrawn core worker

@@ -1,0 +1,7 @@
+pub mod Answering
+pub mod Boards
+pub mod Cores
+pub mod Ends
+pub mod Reports
+pub mod Used
+pub mod Sound

@@ -1,0 +1,31 @@
+-- A board that tells of answers alone.
+use Rattle.std.specs.Prelude.{◌≡◌, ℕ, List, All, Option, Some}
+use Rattle.bf_grammar.specs.declared.object.Oid.{Oid}
+use Rattle.bf_search.specs.declared.farm.Event.{Event}
+use Rattle.bf_search.specs.declared.farm.Event.TheVariants as events
+use Rattle.bf_search.specs.declared.outcomes.Outcome.{Outcome}
+use Rattle.bf_search.specs.Outcomes.{outcomes_of_table}
+use Rattle.bf_tester.specs.declared.answer.Answer.{Answer}
+use Rattle.bf_tester.specs.Replies.{FollowsPlan}
+use Rattle.bf_farm.specs.Boards.{BoardView}
+use Rattle.bf_farm.specs.Reports.{IsAnswered, AnswersFollow, AreAmong}
+
+-- the outcome of a place is among the answers and, where a plan is told, is the plan's
+pub record IsSoundPost (told : Option (List Outcome)) (names : List Oid) (answers : List Answer) (p : ℕ) (outcome : Outcome) : Type 0 where
+  pub answered : IsAnswered names answers p outcome
+  pub planned : FollowsPlan told p outcome
+
+abbrev pub IsSoundEvent : Option (List Outcome) → List Oid → List Answer → Event → Type 0
+IsSoundEvent told names answers (events.Post worker p outcome) = IsSoundPost told names answers p outcome
+IsSoundEvent told names answers (events.Claim worker p) = Unit {0}
+IsSoundEvent told names answers (events.Give worker p) = Unit {0}
+
+-- the outcomes of the table, and those of the posts
+pub record IsSound (told : Option (List Outcome)) (names : List Oid) (answers : List Answer) (board : BoardView) : Type 0 where
+  pub table : (p : ℕ) (outcome : Outcome) → outcomes_of_table board.core.farm.table p ≡ Some outcome → IsSoundPost told names answers p outcome
+  pub posts : All (λ e. IsSoundEvent told names answers e) board.events
+
+-- some answers, which follow the plan, are among these
+pub record ArePartOf (told : Option (List Outcome)) (answers part : List Answer) : Type 0 where
+  pub planned : AnswersFollow told part
+  pub among : AreAmong answers part

@@ -1,0 +1,207 @@
+//! Testing one commit at a time, on a board of one's own.
+ghost use Rattle.std.specs.Prelude.{◌≡◌, false, ◌≤◌, ◌<◌, [], length, List, Option, None, Some, OnOk, IfOk};
+ghost use Rattle.bf_io.specs.Causes.{Rose};
+ghost use Rattle.bf_search.specs.Farm.{best_place};
+ghost use Rattle.bf_search.specs.Run.{Open};
+ghost use Rattle.bf_farm.specs.Cores.{IsSameStart, run_of};
+ghost use Rattle.bf_farm.specs.Answering.{IsReport, IsSoundReport, HasHistory, HasFault, IsAlone, setting_at};
+ghost use Rattle.bf_guesses.specs.Ends.{HasEnds};
+ghost use Rattle.bf_farm.specs.Ends.{EndsWith, IsAsking, IsNext, TurnEnds, AreAlone, missing};
+ghost use Rattle.bf_farm.specs.Reports.{manner_by, TableIn, TableFollows};
+ghost use Rattle.bf_farm.specs.Sound.{IsSound};
+ghost use Rattle.bf_grammar.specs.declared.object.Oid.{Oid as OidValue};
+ghost use Rattle.bf_search.specs.declared.outcomes.Outcome.{Outcome};
+ghost use Rattle.bf_tester.specs.declared.answer.Answer.{Answer};
+
+use crate::board::Board;
+use crate::case::Case;
+use crate::report::{Report, report_of};
+use bf_core::Pick;
+use bf_oid::Oid;
+use bf_tester::{Host, StopView, TestReply, Tester};
+use std::alloc::{AllocError, Global};
+
+// The number of the calling thread among the workers.
+const ALONE: u32 = 0;
+
+/// What one turn of testing leaves.
+#[derive(Clone, Copy)]
+enum Turn {
+    /// A place was tested.
+    GoesOn,
+    /// The run has ended.
+    Ended,
+    /// The test of this place failed.
+    Failed(u32),
+}
+
+/// Claims the place that the run waits for. There is none where the run has ended.
+fn next_place(board: &mut Board<'_>) -> Result<Option<u32>, AllocError>
+    requires { board.old.core.farm.claims ≡ [] }
+    ensures next { IfOk result (IsNext board.new.core) }
+    ensures sound { OnOk result ((told : Option (List Outcome)) (names : List OidValue) (answers : List Answer) → IsSound told names answers board.old → IsSound told names answers board.new) }
+    ensures start { OnOk result (IsSameStart board.old.core board.new.core) }
+    ensures first { OnOk result (board.new.first ≡ board.old.first) }
+    ensures table { OnOk result (board.new.core.farm.table ≡ board.old.core.farm.table) }
+    ensures alone { OnOk result (AreAlone board.old.events → AreAlone board.new.events) }
+{
+    board.pick(ALONE)?;
+    match board.first_claim() {
+        Some(claim) => Ok(Some(claim.place)),
+        None => Ok(None),
+    }
+}
+
+/// Tests a place that the calling thread has claimed.
+fn test_claimed<R: Host, T: Tester>(
+    rt: &R,
+    board: &mut Board<'_>,
+    names: &[Oid],
+    tester: &mut T,
+    place: u32,
+) -> Result<Turn, AllocError>
+    requires named { place < length names.now }
+    requires within { place < length board.old.core.farm.table }
+    requires asking { IsAsking board.old.core place }
+    ensures sound { OnOk result (IsSound (T.told tester.old) names.now (T.answers tester.old) board.old → IsSound (T.told tester.old) names.now (T.answers tester.new) board.new) }
+    ensures start { OnOk result (IsSameStart board.old.core board.new.core) }
+    ensures first { OnOk result (board.new.first ≡ board.old.first) }
+    ensures manner { manner_by T.told T.command T.is_lenient T.grounds T.recalled tester.new ≡ manner_by T.told T.command T.is_lenient T.grounds T.recalled tester.old }
+    ensures is_split { T.is_split tester.new ≡ T.is_split tester.old }
+    ensures faults { T.faults tester.old ≤ T.faults tester.new }
+    ensures ends { IfOk result (TurnEnds board.new.core (T.faults tester.old) (T.faults tester.new) (T.failed tester.new)) }
+    ensures fewer { IfOk result (λ turn. turn ≡ Turn.GoesOn → missing board.new.core.farm.table < missing board.old.core.farm.table) }
+    ensures len { OnOk result (length board.new.core.farm.table ≡ length board.old.core.farm.table) }
+    ensures alone { OnOk result (AreAlone board.old.events → AreAlone board.new.events) }
+{
+    let name = names[place as usize];
+    match tester.test(rt, place, name, &mut StopView::none()) {
+        TestReply::Done(outcome) => {
+            board.post(ALONE, place, outcome)?;
+            Ok(Turn::GoesOn)
+        }
+        TestReply::Failed => {
+            board.give(ALONE, place);
+            Ok(Turn::Failed(place))
+        }
+        TestReply::NoMemory => Err(AllocError),
+        TestReply::Dropped => unreachable!(),
+    }
+}
+
+/// Tests what the run waits for, where it has not ended.
+fn take_turn<R: Host, T: Tester>(
+    rt: &R,
+    board: &mut Board<'_>,
+    names: &[Oid],
+    tester: &mut T,
+) -> Result<Turn, AllocError>
+    requires named { length names.now ≡ length board.old.core.farm.table }
+    requires claims { board.old.core.farm.claims ≡ [] }
+    ensures sound { OnOk result (IsSound (T.told tester.old) names.now (T.answers tester.old) board.old → IsSound (T.told tester.old) names.now (T.answers tester.new) board.new) }
+    ensures start { OnOk result (IsSameStart board.old.core board.new.core) }
+    ensures first { OnOk result (board.new.first ≡ board.old.first) }
+    ensures manner { manner_by T.told T.command T.is_lenient T.grounds T.recalled tester.new ≡ manner_by T.told T.command T.is_lenient T.grounds T.recalled tester.old }
+    ensures is_split { T.is_split tester.new ≡ T.is_split tester.old }
+    ensures faults { T.faults tester.old ≤ T.faults tester.new }
+    ensures ends { IfOk result (TurnEnds board.new.core (T.faults tester.old) (T.faults tester.new) (T.failed tester.new)) }
+    ensures fewer { IfOk result (λ turn. turn ≡ Turn.GoesOn → missing board.new.core.farm.table < missing board.old.core.farm.table) }
+    ensures len { OnOk result (length board.new.core.farm.table ≡ length board.old.core.farm.table) }
+    ensures alone { OnOk result (AreAlone board.old.events → AreAlone board.new.events) }
+{
+    match next_place(board)? {
+        Some(place) => test_claimed(rt, board, names, tester, place),
+        None => Ok(Turn::Ended),
+    }
+}
+
+/// Tests one commit after another until the run has ended or a test fails; then it gives the place of
+/// that test.
+pub(crate) fn go_on<R: Host, T: Tester>(
+    rt: &R,
+    board: &mut Board<'_>,
+    names: &[Oid],
+    tester: &mut T,
+) -> Result<Option<u32>, AllocError>
+    requires named { length names.now ≡ length board.old.core.farm.table }
+    requires claims { board.old.core.farm.claims ≡ [] }
+    ensures sound { OnOk result (IsSound (T.told tester.old) names.now (T.answers tester.old) board.old → IsSound (T.told tester.old) names.now (T.answers tester.new) board.new) }
+    ensures start { OnOk result (IsSameStart board.old.core board.new.core) }
+    ensures first { OnOk result (board.new.first ≡ board.old.first) }
+    ensures manner { manner_by T.told T.command T.is_lenient T.grounds T.recalled tester.new ≡ manner_by T.told T.command T.is_lenient T.grounds T.recalled tester.old }
+    ensures is_split { T.is_split tester.new ≡ T.is_split tester.old }
+    ensures ends { IfOk result (EndsWith board.new.core (T.faults tester.old) (T.faults tester.new) (T.failed tester.new)) }
+    ensures claims { OnOk result (board.new.core.farm.claims ≡ []) }
+    ensures len { OnOk result (length board.new.core.farm.table ≡ length board.old.core.farm.table) }
+    ensures alone { OnOk result (AreAlone board.old.events → AreAlone board.new.events) }
+{
+    loop {
+        match take_turn(rt, board, names, tester)? {
+            Turn::GoesOn => {}
+            Turn::Ended => return Ok(None),
+            Turn::Failed(place) => return Ok(Some(place)),
+        }
+    }
+}
+
+/// Goes on alone over a board without claims, and reports.
+pub(crate) fn finish<R: Host, T: Tester>(
+    rt: &R,
+    alloc: Global,
+    board: Board<'_>,
+    names: &[Oid],
+    tester: &mut T,
+) -> Result<Report, AllocError>
+    requires named { length names.now ≡ length board.core.farm.table }
+    requires claims { board.core.farm.claims ≡ [] }
+    requires sound { IsSound (T.told tester.old) names.now (T.answers tester.old) board }
+    ensures report { IfOk result (IsReport board.entry.core.setting board.entry.core.first names.now) }
+    ensures history { IfOk result (HasHistory board.entry.core.setting board.entry.first) }
+    ensures sound { IfOk result (IsSoundReport (T.told tester.old) names.now (T.answers tester.new)) }
+    ensures fault { IfOk result (HasFault (T.faults tester.old) (T.faults tester.new) (T.failed tester.new)) }
+    ensures alone { IfOk result (λ report. AreAlone board.entry.events → IsAlone report) }
+    ensures manner { manner_by T.told T.command T.is_lenient T.grounds T.recalled tester.new ≡ manner_by T.told T.command T.is_lenient T.grounds T.recalled tester.old }
+    ensures is_split { T.is_split tester.new ≡ T.is_split tester.old }
+{
+    let mut board = board;
+    let failed = go_on(rt, &mut board, names, tester)?;
+    let report = report_of(alloc, board, names, failed)?;
+    Ok(report)
+}
+
+/// Tests one commit after another until the run has ended or a test fails, and reports. What is reported
+/// is the run on the answers that were used. It is the calling thread alone that tests.
+///
+/// After want of memory the tester may have more answers and faults than before.
+pub fn run_alone<R: Host, T: Tester>(
+    rt: &R,
+    alloc: Global,
+    case: Case<'_>,
+    tester: &mut T,
+) -> Result<Report, AllocError>
+    requires len { length case.reach.now ≡ case.state.len }
+    requires table { length case.table ≡ case.state.len }
+    requires named { length case.names.now ≡ case.state.len }
+    requires ends { HasEnds case.state.search }
+    requires known { TableIn case.names.now (T.answers tester.old) case.table }
+    requires plan { TableFollows (T.told tester.old) case.table }
+    requires is_split { T.is_split tester.old ≡ false }
+    ensures report { IfOk result (IsReport (setting_at case.entry.reach.now case.entry.state case.entry.leg) case.entry.state case.entry.names.now) }
+    ensures history { IfOk result (HasHistory (setting_at case.entry.reach.now case.entry.state case.entry.leg) case.entry.table) }
+    ensures sound { IfOk result (IsSoundReport (T.told tester.old) case.entry.names.now (T.answers tester.new)) }
+    ensures fault { IfOk result (HasFault (T.faults tester.old) (T.faults tester.new) (T.failed tester.new)) }
+    ensures alone { IfOk result IsAlone }
+    ensures manner { manner_by T.told T.command T.is_lenient T.grounds T.recalled tester.new ≡ manner_by T.told T.command T.is_lenient T.grounds T.recalled tester.old }
+    ensures is_split { T.is_split tester.new ≡ false }
+{
+    let Case {
+        reach,
+        names,
+        state,
+        table,
+        leg,
+    } = case;
+    let board = Board::start(alloc, reach, state, table, leg)?;
+    let report = finish(rt, alloc, board, names, tester)?;
+    Ok(report)
+}

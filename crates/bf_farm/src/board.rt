@@ -1,0 +1,235 @@
+//! What workers share behind a lock.
+ghost use Rattle.std.specs.Prelude.{◌≡◌, ◌<◌, ◌≤◌, ◌+◌, true, false, [], ◌∷◌, ◌++◌, length, Some, None, IfOk, OnOk, OnErr, IfSome, IfNone, vec_len, vec_capacity};
+ghost use Rattle.bf_guesses.specs.Ends.{HasEnds};
+ghost use Rattle.bf_search.specs.Farm.{stands, has_claim};
+ghost use Rattle.bf_search.specs.declared.farm.Event.TheVariants as event;
+ghost use Rattle.std.specs.List.Sorted.{IsStrictlyIncreasing};
+ghost use Rattle.bf_farm.specs.Cores.{AreWithdrawn, run_of};
+ghost use Rattle.bf_state.specs.Session.{with_search};
+ghost use Rattle.bf_spec.specs.Walks.{Tells};
+ghost use Rattle.bf_farm.specs.Boards.{LeadsTo, unclaimed, BoardView, IsSameBoard, Does, DoesIf, PicksFor, PicksNew, claimed_by, GivesBack};
+
+use bf_core::{ApplyFault, Core, CoreParts, Pick, Withdrawn};
+use bf_reach::Reach;
+use bf_search::{Claim, Event, Outcome};
+use bf_spec::Table;
+use bf_state::State;
+use std::alloc::{AllocError, Global};
+use std::marker::Model;
+
+/// What workers share: a core, and each event that led to it. Contracts see the core, the table that it
+/// began with, the events and the room for more of them.
+///
+/// The events are legal, each at its point, from the first table, and lead to the core. There is room
+/// for one event more for each claim that stands, so a claim can always be ended.
+#[derive(Drop)]
+pub struct Board<'r> {
+    alloc: Global,
+    core: Core<'r>,
+    first: Table,
+    events: Vec<Event>,
+}
+
+impl<'r> Model for Board<'r> {
+    ghost use Rattle.std.specs.Prelude.{◌≤◌, ◌+◌, ◌-◌, length, vec_len, vec_capacity};
+    ghost use Rattle.bf_core.specs.Machine.{setting_of, farm_of};
+    ghost use Rattle.bf_farm.specs.Boards.{BoardView, LeadsTo};
+    ghost use Rattle.bf_farm.specs.Cores.{view_of};
+
+    ghost Value = { BoardView };
+
+    ghost view = { λ b. record { core = view_of b.core; first = b.first; events = b.events.items; spare = vec_capacity b.events - vec_len b.events } };
+
+    ghost invariant = { λ b. LeadsTo (setting_of b.core) b.first b.events.items (farm_of b.core) × (vec_len b.events + length b.core.claims ≤ vec_capacity b.events) };
+}
+
+impl<'r> Board<'r> {
+    /// A board over the graph of `reach`, with the outcomes of a table, in legs of `leg` marks; 0 stands
+    /// for no legs. Both ends of the state are known.
+    pub fn start(
+        alloc: Global,
+        reach: &'r Reach,
+        state: State,
+        table: Table,
+        leg: u32,
+    ) -> Result<Board<'r>, AllocError>
+        requires reach { length reach.now ≡ state.len }
+        requires table { length table ≡ state.len }
+        requires ends { HasEnds state.search }
+        ensures setting { IfOk result (λ board. board.core.setting ≡ record { graph = reach.entry.now; start = state.search; leg = leg }) }
+        ensures state { IfOk result (λ board. board.core.first ≡ state) }
+        ensures farm { IfOk result (λ board. board.core.farm ≡ unclaimed table) }
+        ensures first { IfOk result (λ board. board.first ≡ table) }
+        ensures events { IfOk result (λ board. board.events ≡ []) }
+    {
+        let first = table.try_clone()?;
+        let core = Core::start(alloc, reach, state, table, leg)?;
+        Ok(Board {
+            alloc,
+            core,
+            first,
+            events: Vec::new(alloc),
+        })
+    }
+
+    /// What a worker is to do. One with a claim is to go on with it; any other claims the best open place,
+    /// where there is one. After want of memory nothing but the room has changed.
+    #[tactic(auto, using(crate::proofs::History::no_claim))]
+    pub fn pick(&mut self, worker: u32) -> Result<Pick, AllocError>
+        ensures pick { IfOk result (PicksFor (claimed_by self.old.core.farm.claims worker) self.old self.new worker) }
+        ensures err { OnErr result (IsSameBoard self.old self.new) }
+    {
+        match claim_of(self.core.claims(), worker) {
+            Some(place) => Ok(Pick::Work(place)),
+            None => self.claim(worker),
+        }
+    }
+
+    /// Claims the best open place for a worker without a claim.
+    fn claim(&mut self, worker: u32) -> Result<Pick, AllocError>
+        requires { has_claim self.old.core.farm.claims worker ≡ false }
+        ensures pick { IfOk result (PicksNew self.old self.new worker) }
+        ensures err { OnErr result (IsSameBoard self.old self.new) }
+    {
+        if self.core.ending().is_some() {
+            return Ok(Pick::Ended);
+        }
+        self.events
+            .reserve(self.core.claims().len().saturating_add(2))?;
+        let pick = self.core.pick(worker)?;
+        if let Pick::Work(place) = pick {
+            note(&mut self.events, Event::Claim { worker, place });
+        }
+        Ok(pick)
+    }
+
+    /// Does an event again where it is legal, and answers whether it is. An event that is not legal
+    /// changes nothing but the room, and so does want of memory.
+    pub(crate) fn redo(&mut self, event: Event) -> Result<bool, AllocError>
+        ensures done { IfOk result (λ legal. DoesIf legal self.old self.new event) }
+        ensures err { OnErr result (IsSameBoard self.old self.new) }
+    {
+        self.events
+            .reserve(self.core.claims().len().saturating_add(2))?;
+        match self.core.apply(event) {
+            Ok(()) => {
+                note(&mut self.events, event);
+                Ok(true)
+            }
+            Err(ApplyFault::Illegal { .. }) => Ok(false),
+            Err(ApplyFault::NoMemory) => Err(AllocError),
+        }
+    }
+
+    /// Gives all claims that stand back.
+    pub(crate) fn give_all(&mut self)
+        ensures claims { self.new.core.farm ≡ unclaimed self.old.core.farm.table }
+        ensures given { GivesBack self.old self.new }
+    {
+        while let Some(claim) = self.first_claim() {
+            self.give(claim.worker, claim.place);
+        }
+    }
+
+    /// The oldest claim that stands.
+    pub(crate) fn first_claim(&self) -> Option<Claim>
+        ensures within { IfSome result (λ claim. claim.place < length self.now.core.farm.table) }
+        ensures some { IfSome result (λ claim. stands self.now.core.farm.claims claim.worker claim.place ≡ true) }
+        ensures none { IfNone result (self.now.core.farm.claims ≡ []) }
+    {
+        self.core.claims().first().copied()
+    }
+
+    /// The parts of the core, and the events.
+    pub(crate) fn into_parts(self) -> (CoreParts, Vec<Event>)
+        ensures entries { result.0.entries.items ≡ (run_of self.entry.core).entries }
+        ensures state { result.0.state ≡ with_search self.entry.core.first (run_of self.entry.core).search }
+        ensures ending { Tells result.0.ending (run_of self.entry.core).end }
+        ensures table { result.0.table ≡ self.entry.core.farm.table }
+        ensures events { result.1.items ≡ self.entry.events }
+        ensures history { LeadsTo self.entry.core.setting self.entry.first self.entry.events self.entry.core.farm }
+    {
+        (self.core.into_parts(), self.events)
+    }
+
+    /// The events so far.
+    pub(crate) fn into_events(self) -> Vec<Event>
+        ensures { result.items ≡ self.entry.events }
+    {
+        self.events
+    }
+
+    /// Ends the test of a claimed place with its outcome, and gives the workers whose tests nobody waits
+    /// for any more, ascending. Where the claim does not stand nothing changes, and the list is empty.
+    #[tactic(auto, using(crate::proofs::Seen::withdrawn_seen))]
+    pub fn post(
+        &mut self,
+        worker: u32,
+        place: u32,
+        outcome: Outcome,
+    ) -> Result<Withdrawn, AllocError>
+        ensures done { OnOk result (DoesIf (stands self.old.core.farm.claims worker place) self.old self.new (event.Post worker place outcome)) }
+        ensures withdrawn { stands self.old.core.farm.claims worker place ≡ true → IfOk result (λ withdrawn. AreWithdrawn self.new.core withdrawn.workers.items) }
+        ensures ascending { IfOk result (λ withdrawn. IsStrictlyIncreasing withdrawn.workers.items) }
+        ensures none { stands self.old.core.farm.claims worker place ≡ false → IfOk result (λ withdrawn. withdrawn.workers.items ≡ []) }
+        ensures err { OnErr result (IsSameBoard self.old self.new) }
+    {
+        if !stands(self.core.claims(), worker, place) {
+            return Ok(Withdrawn {
+                workers: Vec::new(self.alloc),
+            });
+        }
+        let withdrawn = self.core.post(worker, place, outcome)?;
+        note(
+            &mut self.events,
+            Event::Post {
+                worker,
+                place,
+                outcome,
+            },
+        );
+        Ok(withdrawn)
+    }
+
+    /// Gives a claimed place back untested. Where the claim does not stand nothing changes. It takes no
+    /// memory.
+    pub fn give(&mut self, worker: u32, place: u32)
+        ensures { DoesIf (stands self.old.core.farm.claims worker place) self.old self.new (event.Give worker place) }
+    {
+        if stands(self.core.claims(), worker, place) {
+            self.core.give(worker, place);
+            note(&mut self.events, Event::Give { worker, place });
+        }
+    }
+}
+
+/// Notes an event, for which there is room.
+fn note(events: &mut Vec<Event>, event: Event)
+    requires { vec_len events.old < vec_capacity events.old }
+    ensures noted { events.new.items ≡ events.old.items ++ event ∷ [] }
+    ensures len { vec_len events.new ≡ vec_len events.old + 1 }
+    ensures room { vec_capacity events.old ≤ vec_capacity events.new }
+{
+    events.push(event).unwrap();
+}
+
+/// The place that a worker has claimed.
+fn claim_of(claims: &[Claim], worker: u32) -> Option<u32>
+    ensures { result ≡ claimed_by claims.now worker }
+{
+    for claim in claims {
+        if claim.worker == worker {
+            return Some(claim.place);
+        }
+    }
+    None
+}
+
+/// Whether this claim stands.
+fn stands(claims: &[Claim], worker: u32, place: u32) -> bool
+    ensures { result ≡ stands claims.now worker place }
+{
+    claims
+        .iter()
+        .any(|claim| claim.worker == worker && claim.place == place)
+}

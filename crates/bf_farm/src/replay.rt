@@ -1,0 +1,102 @@
+//! The replay of what the workers did, on a board of one's own.
+ghost use Rattle.std.specs.Prelude.{◌≡◌, true, List, Option, All, OnOk};
+ghost use Rattle.bf_farm.specs.Cores.{IsSameStart};
+ghost use Rattle.bf_search.specs.declared.outcomes.Outcome.{Outcome};
+ghost use Rattle.bf_tester.specs.declared.answer.Answer.{Answer};
+ghost use Rattle.bf_farm.specs.Reports.{IsAnswered};
+ghost use Rattle.bf_farm.specs.Sound.{IsSound, IsSoundPost, IsSoundEvent, ArePartOf};
+
+use crate::board::Board;
+use crate::worker::Worker;
+use bf_oid::Oid;
+use bf_search::{Event, Outcome};
+use bf_tester::{Answer, Tester};
+use std::alloc::AllocError;
+
+/// Whether the answer of a worker's tester at `seen` is this outcome of this place.
+fn has_answer<T: Tester>(
+    worker: &Worker<T>,
+    seen: usize,
+    names: &[Oid],
+    place: u32,
+    outcome: Outcome,
+) -> bool
+    ensures { result ≡ true → IsAnswered names.now (T.answers worker.now.tester) place outcome }
+{
+    let (Some(answer), Some(name)) = (worker.tester.answer(seen), names.get(place as usize)) else {
+        return false;
+    };
+    answer.is_same(&Answer {
+        place,
+        name: *name,
+        outcome,
+    })
+}
+
+/// Whether the next answer of this worker is this outcome of this place. Of each worker, `seen` counts
+/// the answers that were looked at.
+fn is_answered<T: Tester>(
+    workers: &[Worker<T>],
+    seen: &mut [usize],
+    names: &[Oid],
+    worker: u32,
+    answer: (u32, Outcome),
+) -> bool
+    ensures { result ≡ true → (told : Option (List Outcome)) (answers : List Answer) → All (λ w. ArePartOf told answers (T.answers w.tester)) workers.now → IsSoundPost told names.now answers answer.0 answer.1 }
+{
+    let index = (worker as usize).saturating_sub(1);
+    let (Some(worker), Some(count)) = (workers.get(index), seen.get_mut(index)) else {
+        return false;
+    };
+    let (place, outcome) = answer;
+    let found = has_answer(worker, *count, names, place, outcome);
+    *count = count.saturating_add(1);
+    found
+}
+
+/// The event itself, but a giving back in place of a post that its worker's tester did not answer.
+fn checked<T: Tester>(
+    workers: &[Worker<T>],
+    seen: &mut [usize],
+    names: &[Oid],
+    event: Event,
+) -> Event
+    ensures { (told : Option (List Outcome)) (answers : List Answer) → All (λ w. ArePartOf told answers (T.answers w.tester)) workers.now → IsSoundEvent told names.now answers result }
+{
+    match event {
+        Event::Post {
+            worker,
+            place,
+            outcome,
+        } => {
+            if is_answered(workers, seen, names, worker, (place, outcome)) {
+                event
+            } else {
+                Event::Give { worker, place }
+            }
+        }
+        Event::Claim { .. } | Event::Give { .. } => event,
+    }
+}
+
+/// Does the events of the workers again, each post only where the worker's tester has that answer. It
+/// stops at the first event that is not legal.
+pub(crate) fn replay<T: Tester>(
+    board: &mut Board<'_>,
+    events: &[Event],
+    workers: &[Worker<T>],
+    seen: &mut [usize],
+    names: &[Oid],
+) -> Result<(), AllocError>
+    ensures start { OnOk result (IsSameStart board.old.core board.new.core) }
+    ensures first { OnOk result (board.new.first ≡ board.old.first) }
+    ensures sound { OnOk result ((told : Option (List Outcome)) (answers : List Answer) → All (λ w. ArePartOf told answers (T.answers w.tester)) workers.now → IsSound told names.now answers board.old → IsSound told names.now answers board.new) }
+{
+    for event in events {
+        let event = checked(workers, seen, names, *event);
+        if !board.redo(event)? {
+            return Ok(());
+        }
+    }
+    Ok(())
+}

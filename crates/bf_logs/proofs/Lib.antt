@@ -1,0 +1,12 @@
+pub mod Entries
+pub mod Replaying
+pub mod Onward
+pub mod Plain
+pub mod Back
+pub mod Goods
+pub mod Whole
+pub mod WorkedReplays
+pub mod Terms
+pub mod Joined
+pub mod Cut
+pub mod Witness

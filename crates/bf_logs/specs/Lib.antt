@@ -1,0 +1,7 @@
+pub mod Told
+pub mod Replay
+pub mod Written
+pub mod Resolved
+pub mod Back
+pub mod Cut
+pub mod Laws

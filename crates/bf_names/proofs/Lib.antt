@@ -1,0 +1,6 @@
+mod Abbreviating
+mod Forming
+mod Naming
+mod Ranging
+mod Walking
+mod Worked

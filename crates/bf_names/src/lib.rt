@@ -1,0 +1,18 @@
+//! Names of commits and ranges of them, as gitrevisions(7) has them.
+#![tactic(auto)]
+
+mod base;
+mod digits;
+mod fault;
+mod form;
+mod name;
+mod range;
+mod step;
+mod walk;
+
+pub use fault::NameFault;
+pub use name::resolve;
+pub use range::resolve_range;
+
+#[cfg(test)]
+mod tests;

@@ -1,0 +1,112 @@
+-- How a search begins: with the ends that words name, and the commits that --skip names.
+use Rattle.std.specs.Prelude.{ℕ, Bool, ◌&&◌, nat_lt, if◌then◌else◌, List, [], ◌∷◌, ◌++◌, length, map, Option, Some, None, is_some, Result, Ok, Err}
+use Rattle.bf_grammar.specs.declared.object.Oid.{Oid}
+use Rattle.bf_history.specs.Meanings.{History}
+use Rattle.bf_names.specs.declared.fault.NameFault.{NameFault}
+use Rattle.bf_names.specs.Names.{name, range}
+use Rattle.bf_search.specs.declared.entries.Entry.{Entry}
+use Rattle.bf_search.specs.declared.entries.Entry.TheVariants.{Start, Marked, SkippedBase}
+use Rattle.bf_search.specs.declared.outcomes.Mark.TheVariants.{Skip}
+use Rattle.bf_search.specs.Candidates.{places_of}
+use Rattle.bf_search.specs.State.{Search, ask, mark}
+use Rattle.bf_state.specs.Session.{begun}
+use Rattle.bf_texts.specs.Texts.{Commits, Sides, standard_sides, with_goods}
+use Rattle.bf_words.specs.declared.request.Request.{Request}
+use Rattle.bf_words.specs.Words.{word_at}
+use Rattle.bf_output.specs.Refusals.{name_refused, waiting}
+use Rattle.bf_output.specs.Told.{Told, ◌>>=◌}
+
+-- what the texts say of the commits of a history
+abbrev pub commits_of : History → Commits
+commits_of history = record { names = map (λ (name : Oid). name.0) history.names; subjects = history.subjects }
+
+-- a search that has begun: the words for its sides, what is known, and its entries so far
+pub record Begun : Type 0 where
+  pub sides : Sides
+  pub search : Search
+  pub entries : List Entry
+
+-- ---- names
+
+abbrev pub name_or_refusal : {X : Type 0} → ℕ → Result X NameFault → Result X Told
+name_or_refusal word (Ok x) = Ok x
+name_or_refusal word (Err fault) = Err (name_refused word fault)
+
+-- the place that the word of an index names
+abbrev pub named : History → List (List ℕ) → ℕ → Result ℕ Told
+named history words i = name_or_refusal i (name history (word_at words i))
+
+abbrev pub named_if_given : History → List (List ℕ) → Option ℕ → Result (Option ℕ) Told
+named_if_given history words None = Ok None
+named_if_given history words (Some i) = named history words i >>= λ p. Ok (Some p)
+
+-- what each word gives, one after the other, up to the first that is refused
+unfoldable pub gathered : (ℕ → Result (List ℕ) Told) → List ℕ → Result (List ℕ) Told
+gathered give [] = Ok []
+gathered give (i ∷ is) = give i >>= λ xs. gathered give is >>= λ ps. Ok (xs ++ ps)
+
+abbrev pub one_named : History → List (List ℕ) → ℕ → Result (List ℕ) Told
+one_named history words i = named history words i >>= λ p. Ok (p ∷ [])
+
+-- the places that words name, in their order
+abbrev pub all_named : History → List (List ℕ) → List ℕ → Result (List ℕ) Told
+all_named history words is = gathered (one_named history words) is
+
+-- by place, whether a word of --skip means it
+abbrev pub meant : History → List (List ℕ) → ℕ → Result (List Bool) Told
+meant history words i = name_or_refusal i (range history (word_at words i))
+
+abbrev pub places_meant : History → List (List ℕ) → ℕ → Result (List ℕ) Told
+places_meant history words i = meant history words i >>= λ row. Ok (places_of row)
+
+-- the places that words of --skip mean: those of each word by place, in the order of the words
+abbrev pub all_meant : History → List (List ℕ) → List ℕ → Result (List ℕ) Told
+all_meant history words is = gathered (places_meant history words) is
+
+-- ---- the beginning
+
+abbrev pub sides_or_standard : Option Sides → Sides
+sides_or_standard None = standard_sides
+sides_or_standard (Some sides) = sides
+
+-- a search between ends; of equal good places the first is kept
+abbrev pub between_ends : Request → ℕ → Option ℕ → List ℕ → Begun
+between_ends request len bad goods = record {
+  sides = sides_or_standard request.terms;
+  search = begun len request.first_parent bad goods;
+  entries = Start request.first_parent (is_some request.terms) bad (with_goods [] goods) ∷ [];
+}
+
+-- the bad word is tried first, then the good ones
+unfoldable pub begun_by_words : Request → List (List ℕ) → History → Result Begun Told
+begun_by_words request words history =
+    named_if_given history words request.bad
+    >>= λ bad. all_named history words request.goods
+    >>= λ goods. Ok (between_ends request (length history.parents) bad goods)
+
+-- A place is skipped, whatever is asked: the skipped merge bases that the question passes over come before its entry.
+abbrev pub with_skip : List (List ℕ) → Begun → ℕ → Begun
+with_skip graph first p = record first {
+  search = mark (ask graph first.search).search Skip p;
+  entries = first.entries ++ (map SkippedBase (ask graph first.search).step.warned ++ Marked Skip p ∷ []);
+}
+
+unfoldable pub with_skips : List (List ℕ) → Begun → List ℕ → Begun
+with_skips graph first [] = first
+with_skips graph first (p ∷ ps) = with_skips graph (with_skip graph first p) ps
+
+-- a search with both ends; the others wait for one
+abbrev pub has_ends : Search → Bool
+has_ends s = is_some s.bad && nat_lt 0 (length s.goods)
+
+abbrev pub with_ends : Begun → Result Begun Told
+with_ends first =
+    if has_ends first.search then Ok first else Err (waiting first.sides (is_some first.search.bad) (length first.search.goods))
+
+-- the ends are tried first, then the words of --skip, and then whether an end is missing
+unfoldable pub begun_with_skips : Request → List (List ℕ) → History → Result Begun Told
+begun_with_skips request words history =
+    begun_by_words request words history
+    >>= λ first. all_meant history words request.skips
+    >>= λ ps. with_ends first
+    >>= λ whole. Ok (with_skips history.parents whole ps)

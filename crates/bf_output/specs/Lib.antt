@@ -1,0 +1,6 @@
+pub mod Told
+pub mod Statuses
+pub mod Refusals
+pub mod Beginning
+pub mod Simulate
+pub mod Output

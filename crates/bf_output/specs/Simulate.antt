@@ -1,0 +1,62 @@
+-- The command `simulate`: a search over a plan that is written as letters.
+use Rattle.std.specs.Prelude.{ℕ, Bool, if◌then◌else◌, List, [], ◌++◌, map, Option, Some, None, unwrap_or, Result, Ok}
+use Rattle.bf_history.specs.Meanings.{History}
+use Rattle.bf_search.specs.declared.asks.Ask.{Ask}
+use Rattle.bf_search.specs.declared.asks.Ask.TheVariants as ask
+use Rattle.bf_search.specs.declared.outcomes.Outcome.{Outcome}
+use Rattle.bf_search.specs.declared.outcomes.Outcome.TheVariants.{Exit}
+use Rattle.bf_search.specs.Outcomes.{lenient, outcome_of_letter, outcomes_of_plan}
+use Rattle.bf_search.specs.Run.{End, Answered, Leg, Open, Aborted, Run, seq}
+use Rattle.bf_texts.specs.Texts.{log, answer_lines}
+use Rattle.bf_words.specs.declared.request.Request.{Request}
+use Rattle.bf_words.specs.Words.{word_or}
+use Rattle.bf_output.specs.declared.status.Status.{Status}
+use Rattle.bf_output.specs.declared.status.Status.TheVariants as status
+use Rattle.bf_output.specs.Beginning.{Begun, commits_of, begun_with_skips}
+use Rattle.bf_output.specs.Told.{Told, ◌>>=◌}
+
+-- ---- the plan
+
+-- the outcome of a letter, as --lenient-exit has it read
+abbrev pub read_outcome : Bool → Outcome → Outcome
+read_outcome is_lenient outcome = if is_lenient then lenient outcome else outcome
+
+abbrev pub outcome_by_letter : Bool → ℕ → Outcome
+outcome_by_letter is_lenient letter = read_outcome is_lenient (unwrap_or (outcome_of_letter letter) (Exit 125))
+
+-- the letter at an index gives the outcome of that place
+abbrev pub plan_of : Request → List (List ℕ) → List Outcome
+plan_of request words = map (outcome_by_letter request.lenient) (word_or [] words request.plan)
+
+-- ---- the answer
+
+abbrev pub status_of_ask : Ask → Status
+status_of_ask ask.WaitBoth = status.Waiting
+status_of_ask ask.WaitBad = status.Waiting
+status_of_ask ask.WaitGood = status.Waiting
+status_of_ask (ask.Test p) = status.Done
+status_of_ask (ask.MergeBaseBad p) = status.MergeBaseBad
+status_of_ask (ask.GoodNotAncestor p) = status.GoodNotAncestor
+status_of_ask (ask.BothSides p) = status.BothSides
+status_of_ask (ask.FirstBad p) = status.Done
+status_of_ask (ask.OnlySkipped ps) = status.OnlySkipped
+
+abbrev pub status_of_end : End → Status
+status_of_end (Answered a) = status_of_ask a
+status_of_end Leg = status.Done
+status_of_end (Open p) = status.Done
+status_of_end (Aborted p outcome) = status.Aborted
+
+-- a run behind a beginning: the log of all entries, and the answer
+abbrev pub ran : History → Begun → Run → Told
+ran history first run = record {
+  status = status_of_end run.end;
+  text = log (commits_of history) first.sides (first.entries ++ run.entries) ++ answer_lines (commits_of history) first.sides run.end;
+}
+
+abbrev pub run_over : History → Begun → List Outcome → Run
+run_over history first plan = seq history.parents first.search (outcomes_of_plan plan) 0
+
+unfoldable pub simulated : Request → List (List ℕ) → History → Result Told Told
+simulated request words history =
+    begun_with_skips request words history >>= λ first. Ok (ran history first (run_over history first (plan_of request words)))

@@ -1,0 +1,55 @@
+-- The numbers with which the program ends, and the words of its refusals.
+use Rattle.std.specs.Prelude.{ℕ, List, ◌++◌, codes}
+use Rattle.std.specs.Fmt.{decimal}
+use Rattle.bf_grammar.specs.declared.fault.Limit.{Limit}
+use Rattle.bf_grammar.specs.declared.fault.Limit.TheVariants as limit
+use Rattle.bf_names.specs.declared.fault.NameFault.{NameFault}
+use Rattle.bf_names.specs.declared.fault.NameFault.TheVariants as name
+use Rattle.bf_output.specs.declared.status.Status.{Status}
+use Rattle.bf_output.specs.declared.status.Status.TheVariants.{Done, Usage, OnlySkipped, MergeBaseBad, GoodNotAncestor, BothSides, Aborted, StreamRefused, NameRefused, TooLarge, LogRefused, ReadFault, WriteFault, ShelfFault, NoMemory, NoFile, Waiting, Unbuilt}
+use Rattle.bf_output.specs.declared.status.StreamKind.{StreamKind}
+use Rattle.bf_output.specs.declared.status.StreamKind.TheVariants as kind
+
+abbrev pub number_of : Status → ℕ
+number_of Done = 0
+number_of (Usage word) = 1
+number_of OnlySkipped = 2
+number_of MergeBaseBad = 3
+number_of GoodNotAncestor = 4
+number_of BothSides = 5
+number_of Aborted = 6
+number_of (StreamRefused line refusal) = 7
+number_of (NameRefused word fault) = 8
+number_of (TooLarge what) = 9
+number_of (LogRefused line) = 10
+number_of ReadFault = 12
+number_of WriteFault = 13
+number_of ShelfFault = 14
+number_of NoMemory = 15
+number_of NoFile = 16
+number_of Waiting = 17
+number_of Unbuilt = 18
+
+abbrev pub words_of_kind : StreamKind → List ℕ
+words_of_kind kind.Syntax = codes "syntax"
+words_of_kind kind.Unsupported = codes "unsupported"
+words_of_kind kind.Truncated = codes "truncated"
+words_of_kind kind.NoDone = codes "no done"
+words_of_kind kind.BadFrom = codes "bad from"
+words_of_kind kind.BadMark = codes "bad mark"
+words_of_kind kind.BadPath = codes "bad path"
+
+abbrev pub word_of_limit : Limit → List ℕ
+word_of_limit limit.Line = codes "line"
+word_of_limit limit.Data = codes "data"
+word_of_limit limit.Stream = codes "stream"
+word_of_limit limit.Commits = codes "commits"
+word_of_limit limit.Entries = codes "entries"
+word_of_limit limit.Log = codes "log"
+
+abbrev pub words_of_name_fault : NameFault → List ℕ
+words_of_name_fault name.Unknown = codes "unknown"
+words_of_name_fault (name.Ambiguous count) = codes "ambiguous " ++ decimal count
+words_of_name_fault name.NoParent = codes "no parent"
+words_of_name_fault name.BadForm = codes "bad form"
+words_of_name_fault name.NoMemory = codes "out of memory"

@@ -1,0 +1,105 @@
+//! How a search begins.
+ghost use Rattle.std.specs.Prelude.{◌≡◌, ◌<◌, length, All, IfOk};
+ghost use Rattle.std.specs.Option.{ForSome};
+ghost use Rattle.bf_output.specs.Beginning as beginning;
+ghost use Rattle.bf_program.specs.Steps.{IsStep};
+ghost use Rattle.bf_program.specs.Tellings.{begun_of, AreWithin};
+
+use crate::answer::Stop;
+use crate::named::{all_named, named_if_given};
+use crate::refusals::waiting;
+use crate::skips::all_meant;
+use bf_import::History;
+use bf_io::Word;
+use bf_reach::Reach;
+use bf_search::Entry;
+use bf_state::State;
+use bf_terms::Terms;
+use bf_words::Request;
+use std::alloc::{AllocError, Global};
+
+/// A search that has begun: its state, with the terms, and the entries so far.
+#[derive(Drop)]
+pub(crate) struct Beginning {
+    pub state: State,
+    pub entries: Vec<Entry>,
+}
+
+/// A search between ends. Of equal good places the first is kept.
+fn between_ends(
+    alloc: Global,
+    request: &Request,
+    len: u32,
+    bad: Option<u32>,
+    goods: &[u32],
+) -> Result<Beginning, AllocError>
+    requires bad { ForSome bad (λ p. p < len) }
+    requires goods { All (λ p. p < len) goods.now }
+    ensures begun { IfOk result (λ first. begun_of first ≡ beginning.between_ends request.now len bad goods.now) }
+    ensures len { IfOk result (λ first. first.state.len ≡ len) }
+    ensures places { IfOk result AreWithin }
+{
+    let terms = match &request.terms {
+        Some(terms) => terms.try_clone()?,
+        None => Terms::standard(alloc)?,
+    };
+    let state = State::new(alloc, len, terms, false, request.first_parent, bad, goods)?;
+    let mut entries = Vec::new(alloc);
+    entries.push(Entry::Start {
+        first_parent: request.first_parent,
+        terms_given: request.terms.is_some(),
+        bad,
+        goods: state.goods.try_clone()?,
+    })?;
+    Ok(Beginning { state, entries })
+}
+
+/// The search that the words for its ends begin. The bad word is tried first, then the good ones.
+#[tactic(auto, unfolding(bf_output::specs::Beginning::begun_by_words))]
+fn begin_by_words(
+    alloc: Global,
+    request: &Request,
+    words: &[Word],
+    history: &History,
+) -> Result<Beginning, Stop>
+    ensures step { IsStep begun_of result (beginning.begun_by_words request.now words.now history.now) }
+    ensures len { IfOk result (λ first. first.state.len ≡ length history.now.parents) }
+    ensures places { IfOk result AreWithin }
+{
+    let bad = named_if_given(alloc, history, words, request.bad)?;
+    let goods = all_named(alloc, history, words, request.goods.as_slice())?;
+    Ok(between_ends(alloc, request, history.len(), bad, goods.as_slice())?)
+}
+
+/// A search that has both ends, or the answer of one that waits for an end.
+fn with_ends(alloc: Global, first: Beginning) -> Result<Beginning, Stop>
+    ensures step { IsStep begun_of result (beginning.with_ends (begun_of first)) }
+    ensures same { IfOk result (λ whole. whole ≡ first) }
+{
+    if first.state.bad.is_some() && !first.state.goods.is_empty() {
+        return Ok(first);
+    }
+    Err(Stop::Refused(waiting(alloc, &first.state)?))
+}
+
+/// The search that words begin: its ends first, then the words of `--skip`, and then whether an end is
+/// missing; then the skips are made.
+#[tactic(auto, unfolding(bf_output::specs::Beginning::begun_with_skips))]
+pub(crate) fn begin(
+    alloc: Global,
+    request: &Request,
+    words: &[Word],
+    history: &History,
+    reach: &Reach,
+) -> Result<Beginning, Stop>
+    requires { reach.now ≡ history.now.parents }
+    ensures step { IsStep begun_of result (beginning.begun_with_skips request.now words.now history.now) }
+    ensures len { IfOk result (λ first. first.state.len ≡ length history.now.parents) }
+    ensures places { IfOk result AreWithin }
+{
+    let first = begin_by_words(alloc, request, words, history)?;
+    let places = all_meant(alloc, history, reach, words, request.skips.as_slice())?;
+    let mut whole = with_ends(alloc, first)?;
+    whole.skip_all(reach, places.as_slice())?;
+    Ok(whole)
+}

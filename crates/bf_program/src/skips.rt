@@ -1,0 +1,92 @@
+//! The commits that are skipped before a search.
+ghost use Rattle.std.specs.Prelude.{◌≡◌, ◌<◌, ◌++◌, ◌∷◌, [], length, map, All, IfOk, OnOk};
+ghost use Rattle.bf_search.specs.declared.entries.Entry.TheVariants.{Marked, SkippedBase};
+ghost use Rattle.bf_search.specs.declared.outcomes.Mark.TheVariants.{Skip};
+ghost use Rattle.bf_search.specs.Candidates.{places_of};
+ghost use Rattle.bf_output.specs.Beginning as beginning;
+ghost use Rattle.bf_program.specs.Steps.{IsStep};
+ghost use Rattle.bf_program.specs.Tellings.{begun_of, KeepsWithin};
+
+use crate::answer::Stop;
+use crate::begin::Beginning;
+use crate::named::meant;
+use bf_import::History;
+use bf_io::Word;
+use bf_reach::Reach;
+use bf_rows::Row;
+use bf_search::{Entry, Mark};
+use bf_state::true_places;
+use std::alloc::{AllocError, Global};
+
+/// Adds the places of a row.
+fn add_places(alloc: Global, row: &Row, places: &mut Vec<u32>) -> Result<(), AllocError>
+    ensures { OnOk result (places.new.items ≡ places.old.items ++ places_of row.now) }
+{
+    let more = true_places(alloc, row)?;
+    places.extend_from_slice(more.as_slice())?;
+    Ok(())
+}
+
+/// The places that words of `--skip` mean: those of each word by place, in the order of the words.
+
+pub(crate) fn all_meant(
+    alloc: Global,
+    history: &History,
+    reach: &Reach,
+    words: &[Word],
+    indexes: &[u32],
+) -> Result<Vec<u32>, Stop>
+    requires { reach.now ≡ history.now.parents }
+    ensures step { IsStep (λ ps. ps.items) result (beginning.all_meant history.now words.now indexes.now) }
+    ensures within { IfOk result (λ ps. All (λ p. p < length history.now.parents) ps.items) }
+{
+    let mut places = Vec::new(alloc);
+    for index in indexes {
+        let row = meant(alloc, history, reach, words, *index)?;
+        add_places(alloc, &row, &mut places)?;
+    }
+    Ok(places)
+}
+
+/// Adds the entry of a skip, with the skipped merge bases to warn of before it.
+fn push_skip(entries: &mut Vec<Entry>, warned: &[u32], place: u32) -> Result<(), AllocError>
+    ensures { OnOk result (entries.new.items ≡ entries.old.items ++ (map SkippedBase warned.now ++ Marked Skip place ∷ [])) }
+{
+    for base in warned {
+        entries.push(Entry::SkippedBase { place: *base })?;
+    }
+    entries.push(Entry::Marked {
+        mark: Mark::Skip,
+        place,
+    })?;
+    Ok(())
+}
+
+impl Beginning {
+    /// Skips a place, whatever is asked. After an error some of it may be done.
+    fn skip(&mut self, reach: &Reach, place: u32) -> Result<(), AllocError>
+        requires len { length reach.now ≡ self.old.state.len }
+        requires place { place < self.old.state.len }
+        ensures begun { OnOk result (begun_of self.new ≡ beginning.with_skip reach.now (begun_of self.old) place) }
+        ensures len { OnOk result (self.new.state.len ≡ self.old.state.len) }
+        ensures places { OnOk result (KeepsWithin self.old self.new) }
+    {
+        let _len = self.state.len();
+        let warned = self.state.take(reach, Mark::Skip, place)?;
+        push_skip(&mut self.entries, warned.as_slice(), place)
+    }
+
+    /// Skips places, one after the other. After an error some of it may be done.
+    pub(crate) fn skip_all(&mut self, reach: &Reach, places: &[u32]) -> Result<(), AllocError>
+        requires len { length reach.now ≡ self.old.state.len }
+        requires places { All (λ p. p < self.old.state.len) places.now }
+        ensures begun { OnOk result (begun_of self.new ≡ beginning.with_skips reach.now (begun_of self.old) places.now) }
+        ensures len { OnOk result (self.new.state.len ≡ self.old.state.len) }
+        ensures places { OnOk result (KeepsWithin self.old self.new) }
+    {
+        for place in places {
+            self.skip(reach, *place)?;
+        }
+        Ok(())
+    }
+}

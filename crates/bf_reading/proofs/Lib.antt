@@ -1,0 +1,5 @@
+pub mod Worked
+pub mod Splitting
+pub mod Cutting
+pub mod Starting
+pub mod Numbered

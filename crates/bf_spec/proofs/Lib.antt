@@ -1,0 +1,6 @@
+pub mod Growing
+pub mod Walking
+pub mod Rerooting
+pub mod Asking
+pub mod Following
+pub mod Halting

@@ -1,0 +1,122 @@
+-- Runs through the nodes of a tree.
+use Rattle.std.specs.Prelude.{◌≡◌, ◌≢◌, ℕ, zero, ◌<◌, Bool, true, false, List, [], ◌∷◌, ◌++◌, length, Option, Some, None}
+use Rattle.std.specs.List.{slice_index_or}
+use Rattle.bf_search.specs.declared.asks.Ask.{Ask}
+use Rattle.bf_search.specs.declared.asks.Ask.TheVariants.{Test, FirstBad, OnlySkipped, WaitBoth, WaitBad, WaitGood}
+use Rattle.bf_search.specs.declared.entries.Entry.{Entry}
+use Rattle.bf_search.specs.declared.entries.Entry.TheVariants.{FirstBadFound, OnlySkippedLeft}
+use Rattle.bf_search.specs.declared.farm.Ending.{Ending}
+use Rattle.bf_search.specs.declared.farm.Ending.TheVariants as endings
+use Rattle.bf_search.specs.declared.outcomes.Mark.{Mark}
+use Rattle.bf_search.specs.declared.outcomes.Outcome.{Outcome}
+use Rattle.bf_search.specs.declared.outcomes.Verdict.{Verdict}
+use Rattle.bf_search.specs.declared.outcomes.Verdict.TheVariants.{Mark as MarkOf, Abort}
+use Rattle.bf_search.specs.Farm.{end_of}
+use Rattle.bf_search.specs.Outcomes.{Outcomes, verdict_of}
+use Rattle.bf_search.specs.Run.{End, Answered, Leg, Open, Aborted, Run, ended, after_step, run}
+use Rattle.bf_search.specs.State.{Asked, mark}
+use Rattle.bf_state.specs.Runs.{is_open}
+use Rattle.bf_state.specs.Session.{Session, with_search}
+use Rattle.bf_spec.specs.declared.follow.Halt.{Halt}
+use Rattle.bf_spec.specs.declared.follow.Halt.TheVariants as halts
+use Rattle.bf_spec.specs.declared.follow.Next.{Next}
+use Rattle.bf_spec.specs.declared.follow.Next.TheVariants as nexts
+use Rattle.bf_spec.specs.declared.follow.Trail.{Trail}
+use Rattle.bf_spec.specs.declared.follow.Walked.{Walked}
+use Rattle.bf_spec.specs.declared.node.Node.{Node}
+use Rattle.bf_guesses.specs.Ends.{marks_of}
+use Rattle.bf_spec.specs.Guessed.{asked_at}
+use Rattle.bf_spec.specs.Nodes.{path_of, HasPath}
+
+-- ---- what contracts say of a run
+
+-- The ending of a run that ended like this: there is none exactly where the run waits for an outcome.
+abbrev pub Tells : Option Ending → End → Type 0
+Tells None end = is_open end ≡ true
+Tells (Some ending) end = (end_of ending ≡ end) × (is_open end ≡ false)
+
+-- ---- one step of a run
+
+abbrev pub next_by_verdict : ℕ → Outcome → Verdict → Next
+next_by_verdict p outcome Abort = nexts.Aborted p outcome
+next_by_verdict p outcome (MarkOf m) = nexts.Marked p outcome m
+
+abbrev pub next_by_outcome : ℕ → Option Outcome → Next
+next_by_outcome p None = nexts.Waits
+next_by_outcome p (Some outcome) = next_by_verdict p outcome (verdict_of outcome)
+
+-- what follows an ask, where these outcomes are known
+abbrev pub next_of : Outcomes → Ask → Next
+next_of known (Test p) = next_by_outcome p (known p)
+next_of known other = nexts.Answered
+
+-- an ask that ends a search with both ends
+abbrev pub IsAnswer : Ask → Type 0
+IsAnswer (Test p) = ⊥
+IsAnswer WaitBoth = ⊥
+IsAnswer WaitBad = ⊥
+IsAnswer WaitGood = ⊥
+IsAnswer other = Unit {0}
+
+abbrev pub answer_entries : Ask → List Entry
+answer_entries (FirstBad p) = FirstBadFound p ∷ []
+answer_entries (OnlySkipped ps) = OnlySkippedLeft ps ∷ []
+answer_entries other = []
+
+-- whether no mark is left in a leg
+abbrev pub is_over : Option ℕ → Bool
+is_over (Some zero) = true
+is_over left = false
+
+-- ---- runs in parts
+
+-- what is left of a run where a node has asked
+abbrev pub run_below : List (List ℕ) → Outcomes → Option ℕ → Node → Run
+run_below graph known left node = after_step known (run graph known) left node.state.search node.step.ask
+
+-- a run with what came before it
+abbrev pub behind : List Entry → List (ℕ × Outcome) → Run → Run
+behind entries used run = record run { entries = entries ++ run.entries; used = used ++ run.used }
+
+-- nothing was made yet
+pub record IsEmptyTrail (trail : Trail) : Type 0 where
+  pub entries : trail.entries.items ≡ []
+  pub used : trail.used.items ≡ []
+
+-- Where a run halts: its node, and what is left of the run there.
+abbrev pub HaltsAt : List Node → List Entry → List (ℕ × Outcome) → Halt → Run → Type 0
+HaltsAt nodes entries used (halts.Answered i) run = (i < length nodes) × ((d : Node) → let node = slice_index_or nodes i d in
+    IsAnswer node.step.ask × (run ≡ behind entries used (ended (answer_entries node.step.ask) node.state.search (Answered node.step.ask))) × (path_of node ≡ marks_of entries))
+HaltsAt nodes entries used (halts.Waits i) run = (i < length nodes) × ((d : Node) → let node = slice_index_or nodes i d in
+    (p : ℕ) × (node.step.ask ≡ Test p) × (run ≡ behind entries used (ended [] node.state.search (Open p))) × (path_of node ≡ marks_of entries))
+HaltsAt nodes entries used (halts.Aborted i p outcome) run = (i < length nodes) × ((d : Node) → let node = slice_index_or nodes i d in
+    (run ≡ behind entries used (ended [] node.state.search (Aborted p outcome))) × (path_of node ≡ marks_of entries))
+HaltsAt nodes entries used (halts.Over i j m p) run = (i < length nodes) × (j < length nodes) × ((d : Node) →
+    (run ≡ behind entries used (ended [] (mark (slice_index_or nodes i d).state.search m p) Leg)) × (path_of (slice_index_or nodes j d) ≡ marks_of entries) × ((slice_index_or nodes i d).step.ask ≡ Test p))
+
+-- what was walked to a node, with this ending
+pub record IsEndedAt (node : Node) (trail : Trail) (told : Option Ending) (walked : Walked) : Type 0 where
+  pub entries : walked.entries ≡ trail.entries
+  pub used : walked.used ≡ trail.used
+  pub ending : walked.ending ≡ told
+  pub state : walked.state ≡ node.state
+  pub path : walked.path.items ≡ path_of node
+
+-- what was walked in a leg that is over after a mark that leads from one node to another
+pub record IsOverAt (from to : Node) (m : Mark) (p : ℕ) (trail : Trail) (walked : Walked) : Type 0 where
+  pub entries : walked.entries ≡ trail.entries
+  pub used : walked.used ≡ trail.used
+  pub ending : walked.ending ≡ Some endings.Leg
+  pub state : walked.state ≡ with_search from.state (mark from.state.search m p)
+  pub path : walked.path.items ≡ path_of to
+
+-- What was walked is this run, in all parts, and its path has a node.
+pub record IsWalked (graph : List (List ℕ)) (session : Session) (root : Asked) (nodes : List Node) (run : Run) (walked : Walked) : Type 0 where
+  pub entries : walked.entries.items ≡ run.entries
+  pub used : walked.used.items ≡ run.used
+  pub ending : Tells walked.ending run.end
+  pub state : walked.state ≡ with_search session run.search
+  pub path : walked.path.items ≡ marks_of run.entries
+  pub node : HasPath nodes walked.path.items
+  pub there : run.end ≢ Leg → (asked_at graph root walked.path.items).search ≡ run.search
+  pub waits : (p : ℕ) → run.end ≡ Open p → (asked_at graph root walked.path.items).step.ask ≡ Test p

@@ -1,0 +1,16 @@
+//! A kept tree of guesses.
+#![tactic(auto)]
+
+mod asked;
+mod follow;
+mod node;
+mod reroot;
+mod table;
+#[cfg(test)]
+mod tests;
+mod tree;
+mod walk;
+
+pub use follow::Walked;
+pub use table::Table;
+pub use tree::SpecTree;

@@ -1,0 +1,264 @@
+//! The walk through the nodes.
+ghost use Rattle.std.specs.Prelude.{◌≡◌, ◌↔◌, ℕ, ◌<◌, vec_len, ◌∷◌, ◌++◌, [], List, length, Some, None, IfSome, IfNone, IfOk, OnOk, OnErr, IsTrue};
+ghost use Rattle.std.specs.List.{slice_index_or};
+ghost use Rattle.bf_search.specs.declared.asks.Ask.TheVariants.{Test};
+ghost use Rattle.bf_search.specs.Outcomes.{outcomes_of_table};
+ghost use Rattle.bf_search.specs.State.{Asked, ask};
+ghost use Rattle.bf_state.specs.Session.{Session};
+ghost use Rattle.bf_search.specs.OpenPaths.{is_claimed};
+ghost use Rattle.bf_guesses.specs.Ends.{HasEnds};
+ghost use Rattle.bf_spec.specs.Guessed.{mask_of, look_of};
+ghost use Rattle.bf_spec.specs.Nodes as nodes_;
+ghost use Rattle.bf_spec.specs.declared.node.Node.{Node as NodeValue};
+
+use crate::node::Node;
+use crate::table::Table;
+use bf_cands::candidates;
+use bf_reach::Reach;
+use bf_rows::Row;
+use bf_search::{Ask, Claim, Mark, Verdict};
+use bf_state::State;
+use bf_terms::verdict_of;
+use std::alloc::{AllocError, Global};
+
+/// What is to be done at the place that a node asks.
+#[derive(Clone, Copy)]
+pub enum Look {
+    /// The path ends.
+    Ended,
+    /// Nobody tests the place.
+    Free(u32),
+    /// Its outcome is known.
+    Known(u32, Mark),
+    /// Its outcome is to be guessed.
+    Guess(u32),
+}
+
+/// Where a walk along known outcomes stops.
+pub enum Stop {
+    /// The path ends.
+    Ended,
+    /// At this node, whose place nobody tests.
+    Free(usize, u32),
+    /// At this node, whose outcome is to be guessed.
+    Guess(usize, u32),
+}
+
+/// The best open path so far: the place that it asks, how many candidates are left there, and its length.
+#[derive(Clone, Copy)]
+pub struct Found {
+    pub place: u32,
+    pub left: u32,
+    pub depth: usize,
+}
+
+/// Whether two paths are the same.
+fn is_same(path: &[Mark], other: &[Mark]) -> bool
+    ensures { IsTrue result ↔ (path.now ≡ other.now) }
+{
+    path == other
+}
+
+/// The node of a path.
+pub(crate) fn find(nodes: &[Node], path: &[Mark]) -> Option<usize>
+    ensures found { IfSome result (λ i. (i < length nodes.now) × ((d : NodeValue) → nodes_.path_of (slice_index_or nodes.now i d) ≡ path.now)) }
+    ensures none { IfNone result (nodes_.HasPath nodes.now path.now → ⊥) }
+{
+    for (i, node) in nodes.iter().enumerate() {
+        if is_same(node.path.as_slice(), path) {
+            return Some(i);
+        }
+    }
+    None
+}
+
+/// The candidates of a search.
+fn mask_of(alloc: Global, reach: &Reach, state: &State) -> Result<Row, AllocError>
+    requires { length reach.now ≡ state.now.len }
+    ensures { IfOk result (λ mask. mask ≡ mask_of reach.now state.now.search) }
+{
+    prove!(state.len() == reach.len());
+    match state.bad {
+        None => Row::new(alloc, reach.len()),
+        Some(bad) => candidates(
+            alloc,
+            reach,
+            bad,
+            state.goods.as_slice(),
+            state.first_parent,
+        ),
+    }
+}
+
+/// The root of a tree: a search that asks.
+pub(crate) fn first(alloc: Global, reach: &Reach, mut state: State) -> Result<Node, AllocError>
+    requires len { length reach.now ≡ state.len }
+    requires ends { HasEnds state.search }
+    ensures tree { IfOk result (λ node. nodes_.IsTree reach.now state (ask reach.now state.search) (node ∷ [])) }
+    ensures path { IfOk result (λ node. nodes_.path_of node ≡ []) }
+{
+    let step = state.advance(reach)?;
+    prove!(state.len() == reach.len());
+    let mask = mask_of(alloc, reach, &state)?;
+    Ok(Node {
+        path: Vec::new(alloc),
+        state,
+        step,
+        mask,
+    })
+}
+
+/// The node that follows another by one mark of the place that it asks.
+pub(crate) fn grown(
+    alloc: Global,
+    reach: &Reach,
+    parent: &Node,
+    mark: Mark,
+    place: u32,
+) -> Result<Node, AllocError>
+    requires len { length reach.now ≡ parent.now.state.len }
+    requires asks { parent.now.step.ask ≡ Test place }
+    requires below { place < length reach.now }
+    ensures { IfOk result (λ child. nodes_.IsChild reach.now parent.now mark child) }
+{
+    let mut state = parent.state.try_clone()?;
+    state.mark(mark, place)?;
+    let step = state.advance(reach)?;
+    prove!(state.len() == reach.len());
+    let candidates_there = mask_of(alloc, reach, &state)?;
+    let mut path = Vec::from_slice(alloc, parent.path.as_slice())?;
+    path.push(mark)?;
+    Ok(Node {
+        path,
+        state,
+        step,
+        mask: candidates_there,
+    })
+}
+
+fn is_claimed(claims: &[Claim], place: u32) -> bool
+    ensures { result ≡ is_claimed claims.now place }
+{
+    claims.iter().any(|claim| claim.place == place)
+}
+
+fn look_at(ask: &Ask, table: &Table, claims: &[Claim]) -> Look
+    ensures { result ≡ look_of (outcomes_of_table table.now) claims.now ask.now }
+{
+    let Ask::Test(place) = ask else {
+        return Look::Ended;
+    };
+    match table.find(*place) {
+        Some(outcome) => match verdict_of(outcome) {
+            Verdict::Mark(mark) => Look::Known(*place, mark),
+            Verdict::Abort => Look::Ended,
+        },
+        None => {
+            if is_claimed(claims, *place) {
+                Look::Guess(*place)
+            } else {
+                Look::Free(*place)
+            }
+        }
+    }
+}
+
+/// The node that follows a node by one mark, which is made where it is not there.
+pub(crate) fn child(
+    alloc: Global,
+    reach: &Reach,
+    nodes: &mut Vec<Node>,
+    index: usize,
+    mark: Mark,
+    place: u32,
+) -> Result<usize, AllocError>
+    requires index { index < length nodes.old.items }
+    requires nodes { nodes_.AreNodes reach.now nodes.old.items }
+    requires asks { (d : NodeValue) → (slice_index_or nodes.old.items index d).step.ask ≡ Test place }
+    ensures extends { nodes_.Extends reach.now nodes.old.items nodes.new.items }
+    ensures child { IfOk result (λ i. (i < length nodes.new.items) × ((d : NodeValue) → nodes_.path_of (slice_index_or nodes.new.items i d) ≡ nodes_.path_of (slice_index_or nodes.old.items index d) ++ mark ∷ [])) }
+{
+    let mut path = Vec::from_slice(alloc, nodes[index].path.as_slice())?;
+    path.push(mark)?;
+    if let Some(found) = find(nodes.as_slice(), path.as_slice()) {
+        return Ok(found);
+    }
+    let child = grown(alloc, reach, &nodes[index], mark, place)?;
+    nodes.push(child)?;
+    Ok(nodes.len() - 1)
+}
+
+/// The better one of what was found below a good guess and below a bad one.
+fn better(good: Option<Found>, bad: Option<Found>) -> Option<Found>
+    ensures { result ≡ nodes_.better_found good bad }
+{
+    match (good, bad) {
+        (None, bad) => bad,
+        (good, None) => good,
+        (Some(good), Some(bad)) => {
+            if good.left < bad.left || (bad.left == good.left && bad.depth < good.depth) {
+                Some(bad)
+            } else {
+                Some(good)
+            }
+        }
+    }
+}
+
+/// Walks along the known outcomes.
+fn settle(
+    alloc: Global,
+    reach: &Reach,
+    nodes: &mut Vec<Node>,
+    start: usize,
+    table: &Table,
+    claims: &[Claim],
+) -> Result<Stop, AllocError>
+    requires start { start < length nodes.old.items }
+    requires nodes { nodes_.AreNodes reach.now nodes.old.items }
+    ensures extends { nodes_.Extends reach.now nodes.old.items nodes.new.items }
+    ensures stops { IfOk result (λ stop. (d : NodeValue) → nodes_.Stops reach.now (outcomes_of_table table.now) claims.now nodes.new.items stop
+        (nodes_.left_at reach.now nodes.old.items start) (nodes_.best_at reach.now (outcomes_of_table table.now) claims.now (slice_index_or nodes.old.items start d))) }
+{
+    let mut index = start;
+    loop {
+        match look_at(&nodes[index].step.ask, table, claims) {
+            Look::Ended => return Ok(Stop::Ended),
+            Look::Free(place) => return Ok(Stop::Free(index, place)),
+            Look::Guess(place) => return Ok(Stop::Guess(index, place)),
+            Look::Known(place, mark) => index = child(alloc, reach, nodes, index, mark, place)?,
+        }
+    }
+}
+
+/// The best open path below a node.
+pub(crate) fn best_from(
+    alloc: Global,
+    reach: &Reach,
+    nodes: &mut Vec<Node>,
+    start: usize,
+    table: &Table,
+    claims: &[Claim],
+) -> Result<Option<Found>, AllocError>
+    requires start { start < length nodes.old.items }
+    requires nodes { nodes_.AreNodes reach.now nodes.old.items }
+    ensures extends { nodes_.Extends reach.now nodes.old.items nodes.new.items }
+    ensures found { IfOk result (λ found. (d : NodeValue) → nodes_.IsFound nodes.new.items found
+        (nodes_.best_at reach.now (outcomes_of_table table.now) claims.now (slice_index_or nodes.old.items start d))) }
+{
+    match settle(alloc, reach, nodes, start, table, claims)? {
+        Stop::Ended => Ok(None),
+        Stop::Free(index, place) => Ok(Some(Found {
+            place,
+            left: nodes[index].mask.count(),
+            depth: nodes[index].path.as_slice().len(),
+        })),
+        Stop::Guess(index, place) => {
+            let good = child(alloc, reach, nodes, index, Mark::Good, place)?;
+            let best_good = best_from(alloc, reach, nodes, good, table, claims)?;
+            let bad = child(alloc, reach, nodes, index, Mark::Bad, place)?;
+            let best_bad = best_from(alloc, reach, nodes, bad, table, claims)?;
+            Ok(better(best_good, best_bad))
+        }
+    }
+}

@@ -1,0 +1,6 @@
+pub mod Grounds
+pub mod Looks
+pub mod Noted
+pub mod Plans
+pub mod Replies
+pub mod Scripts

@@ -1,0 +1,63 @@
+//! A look at the flag that withdraws a request.
+ghost use Rattle.std.specs.Prelude.{◌≡◌, true, false, ◌||◌};
+
+use std::marker::Model;
+use std::sync::atomic::{AtomicBool, Ordering};
+
+/// A view of a flag that withdraws a request for a test, or of no flag. Contracts see whether a look
+/// found the flag raised, and whether there is no flag.
+#[derive(Drop)]
+pub struct StopView<'f> {
+    flag: Option<&'f AtomicBool>,
+    seen: bool,
+}
+
+impl<'f> Model for StopView<'f> {
+    ghost use Rattle.std.specs.Prelude.{◌≡◌, true, false};
+    ghost use Rattle.std.specs.Option.{is_none};
+    ghost use Rattle.bf_tester.specs.Looks.{Look};
+
+    ghost Value = { Look };
+
+    ghost view = { λ v. record { seen = v.seen; bare = is_none v.flag } };
+
+    ghost invariant = { λ v. is_none v.flag ≡ true → v.seen ≡ false };
+}
+
+impl<'f> StopView<'f> {
+    /// A view of no flag: its request is never withdrawn.
+    pub fn none() -> StopView<'f>
+        ensures { result ≡ record { seen = false; bare = true } }
+    {
+        StopView {
+            flag: None,
+            seen: false,
+        }
+    }
+
+    /// A view of this flag.
+    pub fn over(flag: &'f AtomicBool) -> StopView<'f>
+        ensures { result ≡ record { seen = false; bare = false } }
+    {
+        StopView {
+            flag: Some(flag),
+            seen: false,
+        }
+    }
+
+    /// Looks at the flag once, and answers whether it is raised. No flag is never raised.
+    pub fn raised(&mut self) -> bool
+        ensures seen { self.new.seen ≡ (self.old.seen || result) }
+        ensures bare { self.new.bare ≡ self.old.bare }
+        ensures quiet { self.new.bare ≡ true → (result ≡ false) × (self.new.seen ≡ false) }
+    {
+        let raised = match self.flag {
+            Some(flag) => flag.load(Ordering::SeqCst),
+            None => false,
+        };
+        if raised {
+            self.seen = true;
+        }
+        raised
+    }
+}
