@@ -8,6 +8,7 @@ Usage: benches/bench.py SUBJECT [NUMBER ..]    (the numbers behind a subject are
   forest 40 50 25 20000        single edits of a tree of many files     beside git fast-import
   import 100000 10000 500      short commits, a folder, MB of contents  beside git fast-import
   run 20000 100000             whole searches; 1,000 skips in a row     beside git rev-list --bisect
+  hostile                      streams made to cost much, at a size and at twice the size; a small stack
   real [--seed N] [--pairs N] [REPOSITORY]    a repository: the answers of farmdawn and of git bisect run must agree
 
 Ratios say how many times as fast as git a program is; they are of processor time, where nothing else is said. The
@@ -19,6 +20,7 @@ import subprocess
 import sys
 import tempfile
 
+import hostile
 import real
 import streams
 from measure import measure
@@ -174,7 +176,19 @@ def run(bench, *sizes):
     print(f"line 20000 with skips: {tests} tests; farmdawn {ours:.3f} s for all their asks")
 
 
-SUBJECTS = {"weights": weights, "stream": stream, "forest": forest, "import": import_, "run": run}
+def hostile_(bench):
+    command = ["sh", "-c", 'ulimit -s 1024; exec "$@"', "sh", program("farmdawn"), "simulate", "refs/heads/main", "refs/heads/main", ""]
+    for make, size in hostile.KINDS.items():
+        costs = []
+        for times in (1, 2):
+            count = bench.write(make, size * times)
+            cost = measure(command, bench.stream, limit=120)
+            costs.append(cost)
+            print(f"{make.__name__} {size * times}: {count} bytes; farmdawn {cost.processor:.2f} s, {cost.peak} KiB, status {cost.status}")
+        print(f"{make.__name__}: {costs[1].processor / max(costs[0].processor, 0.01):.1f} times as long at twice the size")
+
+
+SUBJECTS = {"weights": weights, "stream": stream, "forest": forest, "import": import_, "run": run, "hostile": hostile_}
 
 
 def main():
