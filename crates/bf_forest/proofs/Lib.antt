@@ -1,7 +1,9 @@
 pub mod Applied
 pub mod Changed
 pub mod Copied
+pub mod Cutting
 pub mod Entered
+pub mod Heft
 pub mod Indexed
 pub mod Joining
 pub mod Keys
@@ -15,3 +17,4 @@ pub mod Pooled
 pub mod Sameness
 pub mod Settling
 pub mod Slotted
+pub mod Walking

@@ -14,7 +14,8 @@ use Rattle.bf_forest.specs.declared.slots.Slot.TheVariants.{File, Directory}
 use Rattle.bf_forest.specs.Files.{Files, edited}
 use Rattle.bf_forest.specs.Listing.{name_in, Listing, stands_before, is_listing, shown, beneath}
 use Rattle.bf_forest.specs.Nodes.{kind_files, listed, files_in, has_some, is_filled, is_node, is_earlier, IsSound, IsSettled}
-use Rattle.bf_forest.specs.Slots.{base_files, slot_files, contents, slot_directories, slot_longest, deepest, longest, is_base, is_based, is_slot, has_path}
+use Rattle.bf_forest.specs.Opened.{IsSettling, IsMade}
+use Rattle.bf_forest.specs.Slots.{base_files, slot_files, contents, slot_directories, is_base, is_based, is_slot, has_path}
 use Rattle.bf_forest.specs.Trees.{names, below, where_some, or_none, directories, with_tree, with_directories, files_at}
 use Rattle.bf_forest.proofs.Joining.{with_directories-is}
 use Rattle.bf_forest.proofs.Listed.{listing-entry, listing-first, listing-rest, listing-cons}
@@ -99,10 +100,6 @@ all_inside trees slots bound sound listing h =
 
 -- ---- the entries that are made
 
--- the entries of a directory, whose directories have joined
-abbrev pub IsMade : List Files → List Files → Files → List Entry → Type 0
-IsMade trees next files entries = (files_in next entries ≡ files) × (is_node next entries ≡ true) × (with_tree next (files_in next entries) ≡ with_directories trees files)
-
 pub made : (trees next : List Files) (slots : List (List ℕ × Slot)) (bound : ℕ) (files : Files) (entries : List Entry) → IsSound trees → is_listing (contents trees slots) ≡ true
     → list_all (λ slot. is_slot (length trees) bound slot.1) slots ≡ true → shown (contents trees slots) ≡ files
     → next ≡ fold with_tree trees (flat_map (λ slot. slot_directories trees slot.1) slots) → listed next entries ≡ filter is_filled (contents trees slots)
@@ -147,18 +144,6 @@ slots_based count bound [] h = refl
 slots_based count bound (slot ∷ slots) h =
     and_from _ _ (slot_based count bound slot.1 (and_parts _ _ h).0) (slots_based count bound slots (and_parts (is_slot count bound slot.1) _ h).1)
 
-slot_within : (count bound : ℕ) (slot : Slot) → 0 < bound → is_slot count bound slot ≡ true → slot_longest slot < bound
-slot_within count bound (File mode oid) l h = l
-slot_within count bound (Directory base pending) l h =
-    ltb-true (longest pending) bound (and_parts (list_all has_path pending) _ (and_parts (is_base count base) _ h).1).1
-
-pub slots_within : (count bound : ℕ) (slots : List (List ℕ × Slot)) → 0 < bound → list_all (λ slot. is_slot count bound slot.1) slots ≡ true → deepest slots < bound
-slots_within count bound [] l h = l
-slots_within count bound (slot ∷ slots) l h =
-    let first = slot_within count bound slot.1 l (and_parts _ _ h).0 in
-    let rest = slots_within count bound slots l (and_parts (is_slot count bound slot.1) _ h).1 in
-    omega (arith, first, rest)
-
 -- ---- pools that grow
 
 pub kept_length : {X : Type 0} (a b : List X) → take (length a) b ≡ a → length a ≤ length b
@@ -190,7 +175,7 @@ slot_directories_kept a b (Directory base pending) e h = ap (λ v. or_none (wher
 
 -- ---- one slot
 
-listed_more : (trees : List Files) (entries : List Entry) (entry : Entry) → listed trees (entries ++ entry ∷ []) ≡ listed trees entries ++ (entry.key, kind_files trees entry.key entry.kind) ∷ []
+pub listed_more : (trees : List Files) (entries : List Entry) (entry : Entry) → listed trees (entries ++ entry ∷ []) ≡ listed trees entries ++ (entry.key, kind_files trees entry.key entry.kind) ∷ []
 listed_more trees entries entry = map-append {A = Entry} {B = List ℕ × Files} (λ entry. (entry.key, kind_files trees entry.key entry.kind)) entries (entry ∷ [])
 
 -- what a slot adds to the entries
@@ -235,16 +220,6 @@ no_edits edits empty e t = nil_from_length edits (eqb-true (length edits) 0 (sym
 
 -- ---- slots one after another
 
--- what the loop over slots keeps: the slots that are left make of the trees and entries so far what all make
-abbrev pub IsSettling : List Files → List (List ℕ × Slot) → List Files → List Entry → List (List ℕ × Slot) → Type 0
-IsSettling trees slots now entries rest =
-    (take (length trees) now ≡ trees)
-    × (fold with_tree now (flat_map (λ slot. slot_directories trees slot.1) rest) ≡ fold with_tree trees (flat_map (λ slot. slot_directories trees slot.1) slots))
-    × (listed now entries ++ filter is_filled (contents trees rest) ≡ filter is_filled (contents trees slots))
-    × (list_all (is_earlier (length now)) entries ≡ true)
-    × (list_all (λ slot. is_based (length trees) slot.1) rest ≡ true)
-    × (deepest rest ≤ deepest slots)
-
 filter_cons : (e : List ℕ × Files) (es : Listing) → filter is_filled (e ∷ es) ≡ filter is_filled (e ∷ []) ++ filter is_filled es
 filter_cons e es =
     elim (has_some e.1) as (λ b. cond b (e ∷ filter is_filled es) (filter is_filled es) ≡ cond b (e ∷ []) [] ++ filter is_filled es) [
@@ -256,7 +231,7 @@ pub settling_next : (trees : List Files) (slots : List (List ℕ × Slot)) (now 
     → IsSettling trees slots now old ((key, slot) ∷ rest) → take (length trees) next ≡ trees
     → next ≡ fold with_tree now (slot_directories now slot) → listed next entries ≡ listed now old ++ filter is_filled ((key, slot_files now key slot) ∷ []) → list_all (is_earlier (length next)) entries ≡ true
     → IsSettling trees slots next entries rest
-settling_next trees slots now next old entries key slot rest (kept, pool, list, earlier, bases, deep) still joined added last =
+settling_next trees slots now next old entries key slot rest (kept, pool, list, earlier, bases) still joined added last =
     let parts = and_parts (is_based (length trees) slot) (list_all (λ slot. is_based (length trees) slot.1) rest) bases in
     let es = contents trees rest in
     let first : List ℕ × Files = (key, slot_files trees key slot) in (
@@ -269,5 +244,4 @@ settling_next trees slots now next old entries key slot rest (kept, pool, list, 
           ∙ ap (λ v. listed now old ++ v) (sym (filter_cons first es)) ∙ list,
       last,
       parts.1,
-      omega (arith, deep),
     )

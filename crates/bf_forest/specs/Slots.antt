@@ -121,14 +121,6 @@ abbrev pub longest : List Edit → ℕ
 longest [] = 0
 longest (edit ∷ edits) = max (edit_length edit) (longest edits)
 
-abbrev pub slot_longest : Slot → ℕ
-slot_longest (File mode oid) = 0
-slot_longest (Directory base pending) = longest pending
-
-abbrev pub deepest : List (List ℕ × Slot) → ℕ
-deepest [] = 0
-deepest (slot ∷ slots) = max (slot_longest slot.1) (deepest slots)
-
 -- a number of a tree, or none
 abbrev pub is_base : ℕ → Option ℕ → Bool
 is_base count None = true

@@ -2,9 +2,11 @@
 //! that list, and the name of a tree is that which git gives it.
 #![tactic(auto)]
 
+mod cuts;
 mod edits;
 mod entries;
 mod nodes;
+mod opened;
 mod pool;
 mod slots;
 mod trees;

@@ -1,17 +1,21 @@
 //! The trees of a pool, each once, with their names. A tree is kept as its entries, which name the trees
 //! of its directories by their numbers.
-ghost use Rattle.std.specs.Prelude.{◌≡◌, ◌+◌, ◌<◌, [], ◌∷◌, ◌++◌, length, take, fold, IsTrue, IfOk, OnOk, OnErr};
+ghost use Rattle.std.specs.Prelude.{◌≡◌, ℕ, List, ◌+◌, ◌*◌, ◌<◌, ◌≤◌, [], ◌∷◌, ◌++◌, length, take, fold, IsTrue, IfOk, OnOk, OnErr};
 ghost use Rattle.std.specs.List.{list_all, filter, flat_map};
-ghost use Rattle.bf_forest.specs.Files.{is_tree, edited};
+ghost use Rattle.bf_forest.specs.Files.{Files, is_tree, edited};
 ghost use Rattle.bf_forest.specs.Index.{key_of};
 ghost use Rattle.bf_forest.specs.Listing.{is_listing, shown};
 ghost use Rattle.bf_forest.specs.Nodes.{kind_files, listed, files_in, is_filled, is_node, is_earlier, is_good, kind_bytes, IsSound, IsPosition, IsSettled};
-ghost use Rattle.bf_forest.specs.Slots.{base_files, slot_files, contents, slot_directories, is_base, is_based, is_slot, longest};
+ghost use Rattle.bf_forest.specs.Opened.{IsOpened, IsSettling, IsMade, IsAdvanced, IsClosed, HasSome, inner_weight, heft, weight};
+ghost use Rattle.bf_forest.specs.declared.slots.Slot.{Slot};
+ghost use Rattle.bf_forest.specs.Slots.{base_files, slot_files, contents, slot_directories, is_base, is_based, is_slot};
 ghost use Rattle.bf_forest.specs.Trees.{tree_name, directories, where_some, or_none, are_same, with_tree, with_directories, entries_of, files_at};
 
+use crate::cuts::{Cut, Pending};
 use crate::edits::Edit;
 use crate::entries::{FileEntry, add_beneath, add_file, are_same};
 use crate::nodes::{Entries, Entry, EntryKind, add_entry, are_same_entries, mode_text, name_in};
+use crate::opened::{Opened, add_directory, wait_over};
 use crate::slots::{Slot, Slots, edit_all, slots_of};
 use bf_grammar::{Kind, Oid};
 use bf_io::Bytes;
@@ -243,11 +247,12 @@ impl Trees {
     }
 
     /// The entries of a tree, or of an empty directory, which are to be edited.
-    fn slots(&self, base: Option<usize>) -> Result<Slots, AllocError>
+    fn slots<'a>(&self, base: Option<usize>) -> Result<Slots<'a>, AllocError>
         requires { IsTrue (is_base (length self.now) base) }
         ensures listing { IfOk result (λ slots. IsTrue (is_listing (contents self.now slots.entries))) }
         ensures files { IfOk result (λ slots. shown (contents self.now slots.entries) ≡ base_files self.now base) }
         ensures bases { IfOk result (λ slots. IsTrue (list_all (λ slot. is_slot (length self.now) 1 slot.1) slots.entries)) }
+        ensures heft { IfOk result (λ slots. heft slots.entries ≡ 0) }
         ensures sound { IsSound self.now }
     {
         match base {
@@ -257,17 +262,34 @@ impl Trees {
     }
 
     /// The entries of a tree, or of an empty directory, after edits.
-    fn slots_after(&self, base: Option<usize>, edits: &[Edit]) -> Result<Slots, AllocError>
+    fn slots_after<'a>(
+        &self,
+        base: Option<usize>,
+        edits: &[Cut<'a>],
+    ) -> Result<Slots<'a>, AllocError>
         requires base { IsTrue (is_base (length self.now) base) }
         requires some { 0 < length edits.now }
-        ensures listing { IfOk result (λ slots. IsTrue (is_listing (contents self.now slots.entries))) }
-        ensures files { IfOk result (λ slots. shown (contents self.now slots.entries) ≡ edited (base_files self.now base) edits.now) }
-        ensures bases { IfOk result (λ slots. IsTrue (list_all (λ slot. is_slot (length self.now) (longest edits.now) slot.1) slots.entries)) }
-        ensures sound { IfOk result (λ _. IsSound self.now) }
+        ensures opened { IfOk result (λ slots. IsOpened self.now (edited (base_files self.now base) edits.now) slots.entries) }
+        ensures heft { IfOk result (λ slots. heft slots.entries + 2 * length edits.now ≤ weight edits.now) }
     {
         let mut slots = self.slots(base)?;
         edit_all(&mut slots, edits)?;
         Ok(slots)
+    }
+
+    /// Opens a directory, to make it as it is after edits.
+    fn open<'a>(&self, base: Option<usize>, edits: &[Cut<'a>]) -> Result<Opened<'a>, AllocError>
+        requires base { IsTrue (is_base (length self.now) base) }
+        requires some { 0 < length edits.now }
+        ensures opened { IfOk result (λ top. IsOpened self.now (edited (base_files self.now base) edits.now) top.rest.entries) }
+        ensures empty { IfOk result (λ top. top.entries ≡ []) }
+        ensures heft { IfOk result (λ top. heft top.rest.entries + 2 * length edits.now ≤ weight edits.now) }
+    {
+        Ok(Opened {
+            entries: Entries::new(self.alloc),
+            inside: Bytes::new(self.alloc),
+            rest: self.slots_after(base, edits)?,
+        })
     }
 
     /// A number, where its tree has files.
@@ -285,64 +307,74 @@ impl Trees {
         Some(number)
     }
 
-    /// The number of the tree of a directory after edits, if it then has files. It joins, with the trees
-    /// of its directories.
-    #[cycle(settle)]
-    fn settled(&mut self, base: Option<usize>, edits: &[Edit]) -> Result<Option<usize>, AllocError>
-        requires { IsTrue (is_base (length self.old) base) }
-        ensures ok { OnOk result (self.new ≡ fold with_tree self.old (or_none (where_some directories (edited (base_files self.old base) edits.now)))) }
-        ensures number { IfOk result (IsSettled self.new (edited (base_files self.old base) edits.now)) }
+    /// Takes entries up to the next directory that is to be made first, and answers what it is made of.
+    fn advance<'a>(
+        &self,
+        top: &mut Opened<'a>,
+    ) -> Result<Option<(Option<usize>, Pending<'a>)>, AllocError>
+        requires { IsTrue (list_all (λ slot. is_based (length self.now) slot.1) top.old.rest.entries) }
+        ensures advanced { IfOk result (λ inner. (trees : List Files) (slots : List (List ℕ × Slot))
+            → IsSettling trees slots self.now top.old.entries top.old.rest.entries → IsAdvanced trees slots self.now top.new inner) }
+        ensures heft { IfOk result (λ inner. inner_weight inner + heft top.new.rest.entries ≤ heft top.old.rest.entries) }
+        ensures some { IfOk result HasSome }
+    {
+        while let Some((key, slot)) = top.rest.pop_first() {
+            match slot {
+                Slot::File(mode, oid) => top.entries.push(Entry {
+                    key,
+                    kind: EntryKind::File(mode, oid),
+                })?,
+                Slot::Directory(base, pending) => {
+                    if pending.as_slice().is_empty() {
+                        add_directory(&mut top.entries, key, self.filled(base))?;
+                    } else {
+                        top.inside = key;
+                        return Ok(Some((base, pending)));
+                    }
+                }
+            }
+        }
+        Ok(None)
+    }
+
+    /// Adds the tree of a directory with these entries, if there are any, and answers its number.
+    fn close(&mut self, entries: Entries) -> Result<Option<usize>, AllocError>
+        requires { IsTrue (is_node self.old entries) }
+        ensures closed { IfOk result (IsClosed self.old self.new entries) }
         ensures kept { take (length self.old) self.new ≡ self.old }
     {
-        if edits.is_empty() {
-            return Ok(self.filled(base));
-        }
-        let slots = self.slots_after(base, edits)?;
-        let entries = self.settle_all(slots)?;
         if entries.is_empty() {
             return Ok(None);
         }
         Ok(Some(self.add(entries)?))
     }
 
-    /// Adds the entry at a key, if it stands for files. The trees of its directories join.
-    #[cycle(settle)]
-    fn settle(&mut self, entries: &mut Entries, key: Bytes, slot: Slot) -> Result<(), AllocError>
-        requires base { IsTrue (is_based (length self.old) slot) }
-        requires earlier { IsTrue (list_all (is_earlier (length self.old)) entries.old) }
-        ensures ok { OnOk result (self.new ≡ fold with_tree self.old (slot_directories self.old slot)) }
-        ensures entries { OnOk result (listed self.new entries.new ≡ listed self.old entries.old ++ filter is_filled ((key, slot_files self.old key slot) ∷ [])) }
-        ensures earlier { OnOk result (IsTrue (list_all (is_earlier (length self.new)) entries.new)) }
+    /// The entries of a tree after edits. The trees of its directories join.
+    fn settle(&mut self, tree: usize, edits: &[Cut<'_>]) -> Result<Entries, AllocError>
+        requires tree { tree < length self.old }
+        requires some { 0 < length edits.now }
+        ensures made { IfOk result (IsMade self.old self.new (edited (files_at self.old tree) edits.now)) }
         ensures kept { take (length self.old) self.new ≡ self.old }
     {
-        match slot {
-            Slot::File(mode, oid) => entries.push(Entry {
-                key,
-                kind: EntryKind::File(mode, oid),
-            }),
-            Slot::Directory(base, pending) => match self.settled(base, pending.as_slice())? {
-                Some(number) => entries.push(Entry {
-                    key,
-                    kind: EntryKind::Directory(number),
-                }),
-                None => Ok(()),
-            },
+        let mut below = Vec::new(self.alloc);
+        let mut top = self.open(Some(tree), edits)?;
+        loop {
+            match self.advance(&mut top)? {
+                Some((base, pending)) => {
+                    let inner = self.open(base, pending.as_slice())?;
+                    below.push(top)?;
+                    top = inner;
+                }
+                None => {
+                    let Some(mut outer) = below.pop() else {
+                        return Ok(top.entries);
+                    };
+                    let number = self.close(top.entries)?;
+                    wait_over(&mut outer, number)?;
+                    top = outer;
+                }
+            }
         }
-    }
-
-    /// The entries of a directory that was edited. The trees of its directories join.
-    #[cycle(settle)]
-    fn settle_all(&mut self, slots: Slots) -> Result<Entries, AllocError>
-        requires { IsTrue (list_all (λ slot. is_based (length self.old) slot.1) slots.entries) }
-        ensures ok { OnOk result (self.new ≡ fold with_tree self.old (flat_map (λ slot. slot_directories self.old slot.1) slots.entries)) }
-        ensures entries { IfOk result (λ entries. listed self.new entries ≡ filter is_filled (contents self.old slots.entries)) }
-        ensures kept { take (length self.old) self.new ≡ self.old }
-    {
-        let mut entries = Entries::new(self.alloc);
-        for (key, slot) in slots {
-            self.settle(&mut entries, key, slot)?;
-        }
-        Ok(entries)
     }
 
     /// The number of the tree after edits. It joins, with the trees of its directories. After an error
@@ -357,8 +389,8 @@ impl Trees {
         if edits.is_empty() {
             return Ok(self.unchanged(tree));
         }
-        let slots = self.slots_after(Some(tree), edits)?;
-        let entries = self.settle_all(slots)?;
+        let pending = Pending::of(self.alloc, edits)?;
+        let entries = self.settle(tree, pending.as_slice())?;
         self.add(entries)
     }
 

@@ -3,68 +3,29 @@
 ghost use Rattle.std.specs.Prelude.{◌≡◌, ◌<◌, [], ◌∷◌, ◌++◌, length, drop, fold, IsTrue, IfOk, OnOk};
 ghost use Rattle.std.specs.List.{list_all};
 ghost use Rattle.bf_paths.specs.Components.{is_path};
+ghost use Rattle.bf_forest.specs.Cuts.{path_in};
+ghost use Rattle.bf_forest.specs.declared.edits.Edit.TheVariants as edit;
 ghost use Rattle.bf_forest.specs.declared.slots.Slot.TheVariants as slot;
 ghost use Rattle.bf_forest.specs.Slots.{directory_key, put, without, directory_at, with_edit, set_slots, remove_slots, slots_after, less_inside, has_path, slot_of, slots_of, are_in_order};
 
+use crate::cuts::{Cut, Pending};
 use crate::edits::Edit;
 use crate::nodes::{Entry, EntryKind};
 use bf_grammar::{Mode, Oid};
 use bf_io::Bytes;
-use bf_paths::Path;
 use std::alloc::{AllocError, Global};
 use std::collections::BTreeMap;
-use std::marker::Model;
-
-/// Edits that wait to be made, in order.
-#[derive(Debug, Drop)]
-pub(crate) struct Pending {
-    edits: Vec<Edit>,
-}
-
-impl Model for Pending {
-    ghost use Rattle.std.specs.Prelude.{List};
-    ghost use Rattle.bf_forest.specs.declared.edits.Edit.{Edit};
-
-    ghost Value = { List Edit };
-
-    ghost view = { λ p. p.edits.items };
-}
-
-impl Pending {
-    /// No edit. It takes no memory.
-    pub(crate) fn new(alloc: Global) -> Pending
-        ensures { result ≡ [] }
-    {
-        Pending {
-            edits: Vec::new(alloc),
-        }
-    }
-
-    pub(crate) fn as_slice(&self) -> &[Edit]
-        ensures { result.now ≡ self.now }
-    {
-        self.edits.as_slice()
-    }
-
-    /// Adds an edit behind the others.
-    fn push(&mut self, edit: Edit) -> Result<(), AllocError>
-        ensures { OnOk result (self.new ≡ self.old ++ edit ∷ []) }
-    {
-        self.edits.push(edit)?;
-        Ok(())
-    }
-}
 
 /// What stands at a key: a file, or the directory of a tree (none: an empty one) with the edits that
 /// wait to be made in it.
 #[derive(Debug, Drop)]
-pub(crate) enum Slot {
+pub(crate) enum Slot<'a> {
     File(Mode, Oid),
-    Directory(Option<usize>, Pending),
+    Directory(Option<usize>, Pending<'a>),
 }
 
 /// The entries of a directory that is being edited, by their keys.
-pub(crate) type Slots = BTreeMap<Bytes, Slot>;
+pub(crate) type Slots<'a> = BTreeMap<Bytes, Slot<'a>>;
 
 /// The key of the directory with a name.
 fn directory_key(name: &Bytes) -> Result<Bytes, AllocError>
@@ -75,20 +36,8 @@ fn directory_key(name: &Bytes) -> Result<Bytes, AllocError>
     Ok(key)
 }
 
-/// The path behind its first component.
-fn behind_first(path: &Path) -> Result<Path, AllocError>
-    requires { 1 < length path.now }
-    ensures { IfOk result (λ rest. rest ≡ drop 1 path.now) }
-{
-    let mut rest = Vec::new(path.allocator());
-    for name in &path.components()[1..] {
-        rest.push(name.try_clone()?)?;
-    }
-    Ok(Path::from_components(path.allocator(), rest))
-}
-
 /// Sets the file with a name.
-fn set_file(slots: &mut Slots, name: &Bytes, mode: Mode, oid: Oid) -> Result<(), AllocError>
+fn set_file(slots: &mut Slots<'_>, name: &Bytes, mode: Mode, oid: Oid) -> Result<(), AllocError>
     ensures { OnOk result (slots.new.entries ≡ put (without (directory_key name.now) slots.old.entries) name.now (slot.File mode oid)) }
 {
     let key = directory_key(name)?;
@@ -98,7 +47,7 @@ fn set_file(slots: &mut Slots, name: &Bytes, mode: Mode, oid: Oid) -> Result<(),
 }
 
 /// Takes what stands at a key, and answers it where it is a directory.
-fn taken(slots: &mut Slots, key: &Bytes) -> Option<(Option<usize>, Pending)>
+fn taken<'a>(slots: &mut Slots<'a>, key: &Bytes) -> Option<(Option<usize>, Pending<'a>)>
     ensures directory { result ≡ directory_at key.now slots.old.entries }
     ensures slots { slots.new.entries ≡ without key.now slots.old.entries }
 {
@@ -109,9 +58,9 @@ fn taken(slots: &mut Slots, key: &Bytes) -> Option<(Option<usize>, Pending)>
 }
 
 /// Adds an edit to those that wait in the directory with a name, which takes the place of a file.
-fn set_inside(slots: &mut Slots, name: &Bytes, edit: Edit) -> Result<(), AllocError>
+fn set_inside<'a>(slots: &mut Slots<'a>, name: &Bytes, edit: Cut<'a>) -> Result<(), AllocError>
     ensures { OnOk result (slots.new.entries ≡ put (without (directory_key name.now) (without name.now slots.old.entries)) (directory_key name.now)
-        (with_edit (directory_at (directory_key name.now) (without name.now slots.old.entries)) edit)) }
+        (with_edit (directory_at (directory_key name.now) (without name.now slots.old.entries)) edit.entry)) }
 {
     slots.remove(name);
     let key = directory_key(name)?;
@@ -125,8 +74,8 @@ fn set_inside(slots: &mut Slots, name: &Bytes, edit: Edit) -> Result<(), AllocEr
 }
 
 /// Adds an edit to those that wait in the directory with a name, where there is one.
-fn remove_inside(slots: &mut Slots, name: &Bytes, edit: Edit) -> Result<(), AllocError>
-    ensures { OnOk result (slots.new.entries ≡ less_inside (directory_at (directory_key name.now) slots.old.entries) (directory_key name.now) edit (without (directory_key name.now) slots.old.entries)) }
+fn remove_inside<'a>(slots: &mut Slots<'a>, name: &Bytes, edit: Cut<'a>) -> Result<(), AllocError>
+    ensures { OnOk result (slots.new.entries ≡ less_inside (directory_at (directory_key name.now) slots.old.entries) (directory_key name.now) edit.entry (without (directory_key name.now) slots.old.entries)) }
 {
     let key = directory_key(name)?;
     if let Some((base, mut pending)) = taken(slots, &key) {
@@ -136,25 +85,22 @@ fn remove_inside(slots: &mut Slots, name: &Bytes, edit: Edit) -> Result<(), Allo
     Ok(())
 }
 
-fn set(slots: &mut Slots, path: &Path, mode: Mode, oid: Oid) -> Result<(), AllocError>
-    ensures slots { OnOk result (slots.new.entries ≡ set_slots path.now mode oid slots.old.entries) }
-    ensures path { OnOk result (IsTrue (is_path path.now)) }
+fn set<'a>(slots: &mut Slots<'a>, cut: &Cut<'a>, mode: Mode, oid: Oid) -> Result<(), AllocError>
+    requires { cut.now ≡ edit.Set (path_in cut.now) mode oid }
+    ensures { OnOk result (slots.new.entries ≡ set_slots (path_in cut.now) mode oid slots.old.entries) }
 {
-    match path.components() {
+    match cut.path() {
         [] => Ok(()),
         [name] => set_file(slots, name, mode, oid),
-        [name, ..] => {
-            let path = behind_first(path)?;
-            set_inside(slots, name, Edit::Set { path, mode, oid })
-        }
+        [name, ..] => set_inside(slots, name, cut.inside()),
     }
 }
 
-fn remove(slots: &mut Slots, path: &Path) -> Result<(), AllocError>
-    ensures slots { OnOk result (slots.new.entries ≡ remove_slots path.now slots.old.entries) }
-    ensures path { OnOk result (IsTrue (is_path path.now)) }
+fn remove<'a>(slots: &mut Slots<'a>, cut: &Cut<'a>) -> Result<(), AllocError>
+    requires { cut.now ≡ edit.Remove (path_in cut.now) }
+    ensures { OnOk result (slots.new.entries ≡ remove_slots (path_in cut.now) slots.old.entries) }
 {
-    match path.components() {
+    match cut.path() {
         [] => Ok(()),
         [only] => {
             slots.remove(only);
@@ -162,22 +108,19 @@ fn remove(slots: &mut Slots, path: &Path) -> Result<(), AllocError>
             slots.remove(&directory);
             Ok(())
         }
-        [name, ..] => {
-            let path = behind_first(path)?;
-            remove_inside(slots, name, Edit::Remove { path })
-        }
+        [name, ..] => remove_inside(slots, name, cut.inside()),
     }
 }
 
 /// Makes an edit, in so far as it changes the entries, and leaves the rest of it to the directory where
 /// it belongs. After an error some entries may be gone.
-pub(crate) fn edit_slots(slots: &mut Slots, edit: &Edit) -> Result<(), AllocError>
-    ensures slots { OnOk result (slots.new.entries ≡ slots_after edit.now slots.old.entries) }
-    ensures path { OnOk result (IsTrue (has_path edit.now)) }
+pub(crate) fn edit_slots<'a>(slots: &mut Slots<'a>, cut: &Cut<'a>) -> Result<(), AllocError>
+    ensures slots { OnOk result (slots.new.entries ≡ slots_after cut.now slots.old.entries) }
+    ensures path { OnOk result (IsTrue (has_path cut.now)) }
 {
-    match edit {
-        Edit::Set { path, mode, oid } => set(slots, path, *mode, *oid),
-        Edit::Remove { path } => remove(slots, path),
+    match cut.edit() {
+        Edit::Set { mode, oid, .. } => set(slots, cut, *mode, *oid),
+        Edit::Remove { .. } => remove(slots, cut),
         Edit::Clear => {
             slots.clear();
             Ok(())
@@ -186,7 +129,7 @@ pub(crate) fn edit_slots(slots: &mut Slots, edit: &Edit) -> Result<(), AllocErro
 }
 
 /// Makes edits, one after another.
-pub(crate) fn edit_all(slots: &mut Slots, edits: &[Edit]) -> Result<(), AllocError>
+pub(crate) fn edit_all<'a>(slots: &mut Slots<'a>, edits: &[Cut<'a>]) -> Result<(), AllocError>
     ensures slots { OnOk result (slots.new.entries ≡ fold (λ slots edit. slots_after edit slots) slots.old.entries edits.now) }
     ensures paths { OnOk result (IsTrue (list_all has_path edits.now)) }
 {
@@ -196,7 +139,7 @@ pub(crate) fn edit_all(slots: &mut Slots, edits: &[Edit]) -> Result<(), AllocErr
     Ok(())
 }
 
-fn slot_of(alloc: Global, kind: EntryKind) -> Slot
+fn slot_of<'a>(alloc: Global, kind: EntryKind) -> Slot<'a>
     ensures { result ≡ slot_of kind }
 {
     match kind {
@@ -206,7 +149,7 @@ fn slot_of(alloc: Global, kind: EntryKind) -> Slot
 }
 
 /// The entries of a directory, which are to be edited.
-pub(crate) fn slots_of(alloc: Global, entries: &[Entry]) -> Result<Slots, AllocError>
+pub(crate) fn slots_of<'a>(alloc: Global, entries: &[Entry]) -> Result<Slots<'a>, AllocError>
     requires { IsTrue (are_in_order entries.now) }
     ensures { IfOk result (λ slots. slots.entries ≡ slots_of entries.now) }
 {

@@ -1,0 +1,77 @@
+-- A directory that is being made: what stands in it so far, and what is still to be taken.
+use Rattle.std.specs.Prelude.{◌≡◌, ℕ, ◌+◌, ◌*◌, ◌<◌, true, List, [], ◌∷◌, ◌++◌, length, take, fold, Option, Some, None}
+use Rattle.std.specs.List.{list_all, filter, flat_map}
+use Rattle.bf_forest.specs.declared.edits.Edit.{Edit}
+use Rattle.bf_forest.specs.declared.nodes.Entry.{Entry}
+use Rattle.bf_forest.specs.declared.nodes.EntryKind.TheVariants as kind
+use Rattle.bf_forest.specs.declared.opened.Opened.{Opened}
+use Rattle.bf_forest.specs.declared.slots.Slot.{Slot}
+use Rattle.bf_forest.specs.declared.slots.Slot.TheVariants.{File, Directory}
+use Rattle.bf_forest.specs.Files.{Files, edited}
+use Rattle.bf_forest.specs.Listing.{is_listing, shown}
+use Rattle.bf_forest.specs.Nodes.{listed, files_in, is_filled, is_node, is_earlier, IsSound}
+use Rattle.bf_forest.specs.Slots.{contents, slot_directories, edit_length, is_based, is_slot}
+use Rattle.bf_forest.specs.Trees.{with_tree, with_directories, files_at}
+
+-- slots that stand for files, by the trees that are there
+abbrev pub IsOpened : List Files → Files → List (List ℕ × Slot) → Type 0
+IsOpened trees files slots =
+    IsSound trees
+    × (is_listing (contents trees slots) ≡ true)
+    × (shown (contents trees slots) ≡ files)
+    × ((bound : ℕ) × (list_all (λ slot. is_slot (length trees) bound slot.1) slots ≡ true))
+
+-- the slots that are left make of the trees and entries so far what all of them make
+abbrev pub IsSettling : List Files → List (List ℕ × Slot) → List Files → List Entry → List (List ℕ × Slot) → Type 0
+IsSettling trees slots now entries rest =
+    (take (length trees) now ≡ trees)
+    × (fold with_tree now (flat_map (λ slot. slot_directories trees slot.1) rest) ≡ fold with_tree trees (flat_map (λ slot. slot_directories trees slot.1) slots))
+    × (listed now entries ++ filter is_filled (contents trees rest) ≡ filter is_filled (contents trees slots))
+    × (list_all (is_earlier (length now)) entries ≡ true)
+    × (list_all (λ slot. is_based (length trees) slot.1) rest ≡ true)
+
+-- the entries of a directory with files, whose directories have joined the trees
+abbrev pub IsMade : List Files → List Files → Files → List Entry → Type 0
+IsMade trees next files entries = (files_in next entries ≡ files) × (is_node next entries ≡ true) × (with_tree next (files_in next entries) ≡ with_directories trees files)
+
+-- ---- what is still to be done
+
+-- twice the components that edits lead through
+abbrev pub weight : List Edit → ℕ
+weight [] = 0
+weight (edit ∷ edits) = 2 * edit_length edit + weight edits
+
+abbrev pub slot_heft : Slot → ℕ
+slot_heft (File mode oid) = 0
+slot_heft (Directory base pending) = weight pending
+
+abbrev pub heft : List (List ℕ × Slot) → ℕ
+heft [] = 0
+heft (slot ∷ slots) = slot_heft slot.1 + heft slots
+
+-- ---- what calls answer
+
+-- entries with one more, for a directory with files
+abbrev pub with_directory : List Entry → List ℕ → Option ℕ → List Entry
+with_directory entries key None = entries
+with_directory entries key (Some number) = entries ++ record { key = key; kind = kind.Directory number } ∷ []
+
+-- all is taken up to a directory that is to be made first, if there is one
+abbrev pub IsAdvanced : List Files → List (List ℕ × Slot) → List Files → Opened → Option (Option ℕ × List Edit) → Type 0
+IsAdvanced trees slots now opened None = IsSettling trees slots now opened.entries []
+IsAdvanced trees slots now opened (Some (base, pending)) = IsSettling trees slots now opened.entries ((opened.inside, Directory base pending) ∷ opened.rest.entries)
+
+-- what it is made of has such a weight, and there is some of it
+abbrev pub inner_weight : Option (Option ℕ × List Edit) → ℕ
+inner_weight None = 0
+inner_weight (Some (base, pending)) = weight pending
+
+abbrev pub HasSome : Option (Option ℕ × List Edit) → Type 0
+HasSome None = Unit {0}
+HasSome (Some (base, pending)) = 0 < length pending
+
+-- a directory without entries is not there, and another one stands among the trees
+abbrev pub IsClosed : List Files → List Files → List Entry → Option ℕ → Type 0
+IsClosed trees next entries None = (entries ≡ []) × (next ≡ trees)
+IsClosed trees next entries (Some number) =
+    (entries ≡ [] → ⊥) × (next ≡ with_tree trees (files_in trees entries)) × (number < length next) × (files_at next number ≡ files_in trees entries)
