@@ -7,6 +7,7 @@ pub mod Heft
 pub mod Indexed
 pub mod Joining
 pub mod Keys
+pub mod Leveled
 pub mod Listed
 pub mod Loops
 pub mod Making

@@ -13,7 +13,7 @@ use Rattle.bf_forest.specs.declared.slots.Slot.{Slot}
 use Rattle.bf_forest.specs.declared.slots.Slot.TheVariants.{File, Directory}
 use Rattle.bf_forest.specs.Files.{Files, edited}
 use Rattle.bf_forest.specs.Listing.{name_in, Listing, stands_before, is_listing, shown, beneath}
-use Rattle.bf_forest.specs.Nodes.{kind_files, listed, files_in, has_some, is_filled, is_node, is_earlier, IsSound, IsSettled}
+use Rattle.bf_forest.specs.Nodes.{kind_files, listed, files_in, has_some, is_filled, is_earlier, IsSound, IsSettled}
 use Rattle.bf_forest.specs.Opened.{IsSettling, IsMade}
 use Rattle.bf_forest.specs.Slots.{base_files, slot_files, contents, slot_directories, is_base, is_based, is_slot, has_path}
 use Rattle.bf_forest.specs.Trees.{names, below, where_some, or_none, directories, with_tree, with_directories, files_at}

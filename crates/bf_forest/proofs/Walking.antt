@@ -1,7 +1,7 @@
 -- Directories that are being made, one in another.
-use Rattle.std.proofs.Common.{◌≡◌, ℕ, suc, ◌+◌, ◌<◌, ◌≤◌, Bool, true, false, List, [], ◌∷◌, ◌++◌, length, take, Option, Some, None, refl, sym, ap, ◌∙◌, subst, arith}
-use Rattle.std.specs.List.{list_all, filter, flat_map, fold}
-use Rattle.std.proofs.lemmas.Bool.{false≢true, and_parts, and_from, ltb-true, lt-ltb}
+use Rattle.std.proofs.Common.{◌≡◌, ℕ, suc, ◌+◌, ◌≤◌, true, List, [], ◌∷◌, ◌++◌, length, take, Option, Some, None, refl, sym, ap, ◌∙◌, subst, arith}
+use Rattle.std.specs.List.{list_all, filter, fold}
+use Rattle.std.proofs.lemmas.Bool.{and_parts, and_from, ltb-true, lt-ltb}
 use Rattle.std.proofs.lemmas.List.{append-nil}
 use Rattle.std.proofs.lemmas.List.Folds.{list_all-append}
 use Rattle.bf_grammar.specs.declared.object.Mode.{Mode}
@@ -16,8 +16,8 @@ use Rattle.bf_forest.specs.Files.{Files, edited}
 use Rattle.bf_forest.specs.Listing.{name_in, Listing, beneath}
 use Rattle.bf_forest.specs.Nodes.{files_in, listed, has_some, is_filled, is_node, is_earlier, IsSettled}
 use Rattle.bf_forest.specs.Opened.{IsOpened, IsSettling, IsMade, IsAdvanced, IsClosed, with_directory, heft}
-use Rattle.bf_forest.specs.Slots.{base_files, contents, slot_directories, is_base, is_based, is_slot}
-use Rattle.bf_forest.specs.Trees.{where_some, or_none, directories, with_tree, files_at}
+use Rattle.bf_forest.specs.Slots.{base_files, is_base, is_based}
+use Rattle.bf_forest.specs.Trees.{where_some, or_none, directories, with_tree}
 use Rattle.bf_forest.proofs.Joining.{kept_refl, kept_trans}
 use Rattle.bf_forest.proofs.Pooled.{listed_kept, some_files}
 use Rattle.bf_forest.proofs.Settling.{made, made_none, joined_some, edited-nil, slots_based, kept_length, earlier_more, listed_more, directory_added, settling_next}

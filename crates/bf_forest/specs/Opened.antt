@@ -7,7 +7,7 @@ use Rattle.bf_forest.specs.declared.nodes.EntryKind.TheVariants as kind
 use Rattle.bf_forest.specs.declared.opened.Opened.{Opened}
 use Rattle.bf_forest.specs.declared.slots.Slot.{Slot}
 use Rattle.bf_forest.specs.declared.slots.Slot.TheVariants.{File, Directory}
-use Rattle.bf_forest.specs.Files.{Files, edited}
+use Rattle.bf_forest.specs.Files.{Files}
 use Rattle.bf_forest.specs.Listing.{is_listing, shown}
 use Rattle.bf_forest.specs.Nodes.{listed, files_in, is_filled, is_node, is_earlier, IsSound}
 use Rattle.bf_forest.specs.Slots.{contents, slot_directories, edit_length, is_based, is_slot}

@@ -1,7 +1,7 @@
 //! A file of a tree, and lists of files.
 ghost use Rattle.std.specs.Prelude.{◌≡◌, [], ◌∷◌, ◌++◌, IsTrue, IfOk, OnOk};
 ghost use Rattle.bf_paths.specs.Components.{is_component};
-ghost use Rattle.bf_forest.specs.Listing.{beneath};
+ghost use Rattle.std.specs.List.{list_all};
 ghost use Rattle.bf_forest.specs.Trees.{is_same_file, are_same};
 
 use crate::nodes::mode_text;
@@ -31,54 +31,35 @@ impl FileEntry {
     }
 }
 
-/// The path of what stands at a path in the directory with a name.
-fn path_beneath(alloc: Global, name: &[u8], path: &Path) -> Result<Path, AllocError>
-    requires { IsTrue (is_component name.now) }
-    ensures { IfOk result (λ whole. whole ≡ name.now ∷ path.now) }
+/// The path of what has a name in the directory that these names lead to.
+fn path_in(alloc: Global, names: &[Bytes], name: &[u8]) -> Result<Path, AllocError>
+    requires names { IsTrue (list_all is_component names.now) }
+    requires name { IsTrue (is_component name.now) }
+    ensures { IfOk result (λ path. path ≡ names.now ++ name.now ∷ []) }
 {
     let mut components = Vec::new(alloc);
-    components.push(Bytes::from_slice(alloc, name)?)?;
-    for component in path.components() {
-        components.push(component.try_clone()?)?;
+    for directory in names {
+        components.push(directory.try_clone()?)?;
     }
+    components.push(Bytes::from_slice(alloc, name)?)?;
     Ok(Path::from_components(alloc, components))
 }
 
-/// Adds the file with a name.
+/// Adds the file with a name in the directory that these names lead to.
 pub(crate) fn add_file(
     alloc: Global,
     files: &mut Vec<FileEntry>,
+    names: &[Bytes],
     name: &[u8],
     mode: Mode,
     oid: Oid,
 ) -> Result<(), AllocError>
-    requires { IsTrue (is_component name.now) }
-    ensures { OnOk result (files.new.items ≡ files.old.items ++ record { path = name.now ∷ []; mode = mode; oid = oid } ∷ []) }
+    requires names { IsTrue (list_all is_component names.now) }
+    requires name { IsTrue (is_component name.now) }
+    ensures { OnOk result (files.new.items ≡ files.old.items ++ record { path = names.now ++ name.now ∷ []; mode = mode; oid = oid } ∷ []) }
 {
-    let mut components = Vec::new(alloc);
-    components.push(Bytes::from_slice(alloc, name)?)?;
-    let path = Path::from_components(alloc, components);
+    let path = path_in(alloc, names, name)?;
     files.push(FileEntry { path, mode, oid })?;
-    Ok(())
-}
-
-/// Adds the files of the directory with a name.
-pub(crate) fn add_beneath(
-    alloc: Global,
-    files: &mut Vec<FileEntry>,
-    name: &[u8],
-    inside: &[FileEntry],
-) -> Result<(), AllocError>
-    requires { IsTrue (is_component name.now) }
-    ensures { OnOk result (files.new.items ≡ files.old.items ++ beneath name.now inside.now) }
-{
-    for file in inside {
-        files.push(FileEntry {
-            path: path_beneath(alloc, name, &file.path)?,
-            mode: file.mode,
-            oid: file.oid,
-        })?;
-    }
     Ok(())
 }
 

@@ -5,6 +5,7 @@
 mod cuts;
 mod edits;
 mod entries;
+mod levels;
 mod nodes;
 mod opened;
 mod pool;

@@ -13,7 +13,8 @@ ghost use Rattle.bf_forest.specs.Trees.{tree_name, directories, where_some, or_n
 
 use crate::cuts::{Cut, Pending};
 use crate::edits::Edit;
-use crate::entries::{FileEntry, add_beneath, add_file, are_same};
+use crate::entries::{FileEntry, add_file, are_same};
+use crate::levels::Level;
 use crate::nodes::{Entries, Entry, EntryKind, add_entry, are_same_entries, mode_text, name_in};
 use crate::opened::{Opened, add_directory, wait_over};
 use crate::slots::{Slot, Slots, edit_all, slots_of};
@@ -111,33 +112,37 @@ impl Trees {
         &self.nodes[number].entries
     }
 
-    /// Adds the files of an entry.
-    #[cycle(files)]
-    fn add_files(&self, files: &mut Vec<FileEntry>, entry: &Entry) -> Result<(), AllocError>
-        requires { IsTrue (is_good (length self.now) entry.now) }
-        ensures { OnOk result (files.new.items ≡ files.old.items ++ kind_files self.now entry.now.key entry.now.kind) }
-    {
-        let name = name_in(entry.key.as_slice());
-        match entry.kind {
-            EntryKind::File(mode, oid) => add_file(self.alloc, files, name, mode, oid),
-            EntryKind::Directory(number) => {
-                let inside = self.files(self.node(number))?;
-                add_beneath(self.alloc, files, name, inside.as_slice())
-            }
-        }
-    }
-
     /// The files of a directory with these entries.
-    #[cycle(files)]
     pub(crate) fn files(&self, entries: &Entries) -> Result<Vec<FileEntry>, AllocError>
-        requires { IsTrue (list_all (is_good (length self.now)) entries.now) }
+        requires { IsTrue (is_node self.now entries.now) }
         ensures { IfOk result (λ files. files.items ≡ files_in self.now entries.now) }
     {
         let mut files = Vec::new(self.alloc);
-        for entry in entries.as_slice() {
-            self.add_files(&mut files, entry)?;
+        let mut names = Vec::new(self.alloc);
+        let mut below = Vec::new(self.alloc);
+        let mut rest = entries.as_slice();
+        loop {
+            let Some((entry, others)) = rest.split_first() else {
+                let Some(level) = below.pop() else {
+                    return Ok(files);
+                };
+                let _ = names.pop();
+                rest = Level::entries(&level);
+                continue;
+            };
+            let name = name_in(entry.key.as_slice());
+            rest = others;
+            match entry.kind {
+                EntryKind::File(mode, oid) => {
+                    add_file(self.alloc, &mut files, names.as_slice(), name, mode, oid)?
+                }
+                EntryKind::Directory(number) => {
+                    names.push(Bytes::from_slice(self.alloc, name)?)?;
+                    below.push(Level::new(others))?;
+                    rest = self.node(number).as_slice();
+                }
+            }
         }
-        Ok(files)
     }
 
     /// The files of a tree.

@@ -188,3 +188,20 @@ fn a_tree_above_the_limit_does_not_join(rt: HostRuntime) -> Result<(), Fail> {
     );
     Ok(())
 }
+
+#[test]
+fn a_deep_path_is_given_back(rt: HostRuntime) -> Result<(), Fail> {
+    let alloc = rt.alloc();
+    let mut text = Bytes::new(alloc);
+    for _ in 0..3_000 {
+        text.append(b"d/")?;
+    }
+    text.push(b'f')?;
+    let mut forest = Forest::new(alloc, 4_000)?;
+    let edits = vec![in alloc; edit(alloc, text.as_slice(), Some(b"x"))?]?;
+    let tree = forest.apply(0, edits.as_slice())?;
+    let files = forest.files(tree)?;
+    assert_eq!(rt; files.len(), 1);
+    assert_eq!(rt; files[0].path.to_bytes()?.as_slice(), text.as_slice());
+    Ok(())
+}

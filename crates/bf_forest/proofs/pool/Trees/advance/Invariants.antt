@@ -1,6 +1,5 @@
 use Rattle.std.proofs.Common.{◌≡◌, ◌≤◌, true, List, length}
 use Rattle.std.specs.List.{list_all}
-use Rattle.bf_forest.specs.declared.slots.Slot.{Slot}
 use Rattle.bf_forest.specs.Files.{Files}
 use Rattle.bf_forest.specs.Opened.{IsSettling, heft}
 use Rattle.bf_forest.specs.Slots.{is_based}

@@ -2,11 +2,8 @@ use Rattle.std.proofs.Common.{sym, ap, ◌∙◌}
 use Rattle.bf_forest.specs.Files.{is_tree}
 use Rattle.bf_forest.specs.Nodes.{listed}
 use Rattle.bf_forest.proofs.Listed.{is_tree-shown}
-use Rattle.bf_forest.proofs.Pooled.{node-good, node-listing}
+use Rattle.bf_forest.proofs.Pooled.{node-listing}
 use Rattle.bf_forest.proofs.pool.Trees.files_of.Goals as goal
-
-pub files-requires : goal.files-requires
-files-requires c = node-good c.args.self.now c.node.result.now c.node.ensures.node
 
 pub returns-clause-tree : goal.returns-clause-tree
 returns-clause-tree c =

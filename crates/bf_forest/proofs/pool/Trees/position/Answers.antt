@@ -6,7 +6,6 @@ use Rattle.bf_forest.specs.Index.{key_of, IsIndexed}
 use Rattle.bf_forest.specs.Nodes.{files_in}
 use Rattle.bf_forest.specs.Trees.{tree_name}
 use Rattle.bf_forest.proofs.Indexed.{not_indexed}
-use Rattle.bf_forest.proofs.Pooled.{node-good}
 use Rattle.bf_forest.proofs.pool.Trees.position.Goals as goal
 
 pub returns-in_default : goal.returns-in_default
@@ -18,6 +17,3 @@ returns-in_default c =
     let key : c.key_of.result ≡ key_of (tree_name files) = c.key_of.ensures ∙ ap key_of c.requires.named in
     let none : get nat_cmp index (key_of (tree_name files)) ≡ None = ap (get nat_cmp index) (sym key) ∙ sym c.in_default.ensures.value in
     not_indexed index trees files (subst P c.self.view_is c.self.invariant.1) none
-
-pub files-requires : goal.files-requires
-files-requires c = node-good c.args.self.now c.args.entries.now c.requires.node

@@ -1,13 +1,13 @@
-use Rattle.std.proofs.Common.{◌≡◌, ℕ, ◌<◌, List, [], ◌∷◌, ◌++◌, length, Option, Some, None, sym, ap, ◌∙◌, subst, arith}
+use Rattle.std.proofs.Common.{◌≡◌, ℕ, ◌<◌, List, [], length, Option, Some, None, sym, ap, ◌∙◌, subst, arith}
 use Rattle.std.proofs.lemmas.List.{nil_from_length}
 use Rattle.bf_forest.specs.declared.edits.Edit.{Edit}
 use Rattle.bf_forest.specs.declared.opened.Opened.{Opened}
-use Rattle.bf_forest.specs.Files.{Files, edited}
+use Rattle.bf_forest.specs.Files.{edited}
 use Rattle.bf_forest.specs.Opened.{IsOpened, inner_weight, HasSome, heft, weight}
 use Rattle.bf_forest.specs.Slots.{base_files}
 use Rattle.bf_forest.specs.Trees.{files_at}
 use Rattle.bf_forest.proofs.Joining.{kept_trans}
-use Rattle.bf_forest.proofs.Walking.{Advances, IsStacked, stacked_start, stacked_kept, stacked_based, stacked_base, stacked_push, stacked_made, stacked_end, stacked_pop, height, height_more}
+use Rattle.bf_forest.proofs.Walking.{Advances, IsStacked, stacked_start, stacked_kept, stacked_based, stacked_push, stacked_made, stacked_end, stacked_pop, height, height_more}
 use Rattle.bf_forest.proofs.pool.Trees.settle.Goals as goal
 
 pub loop-top-init : goal.loop-top-init

@@ -1,4 +1,4 @@
-use Rattle.std.proofs.Common.{◌≡◌, true, length, ap, ◌∙◌, arith}
+use Rattle.std.proofs.Common.{length, ap, ◌∙◌, arith}
 use Rattle.std.specs.List.{list_all}
 use Rattle.bf_forest.specs.Files.{edited}
 use Rattle.bf_forest.specs.Listing.{is_listing, shown}
