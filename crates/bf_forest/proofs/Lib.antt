@@ -14,6 +14,7 @@ pub mod Making
 pub mod Members
 pub mod Named
 pub mod Ordered
+pub mod Overlaid
 pub mod Pooled
 pub mod Sameness
 pub mod Settling
