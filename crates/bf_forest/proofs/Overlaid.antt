@@ -9,7 +9,7 @@ use Rattle.std.specs.List.Sorted.{IsStrictlySortedBy}
 use Rattle.std.specs.Map.{keys_of}
 use Rattle.std.proofs.lemmas.Bool.{false≢true, and_parts, and_from}
 use Rattle.std.proofs.lemmas.Map.Lookups.{exact_bytes}
-use Rattle.bf_forest.specs.Overlays.{changed_at, overlaid, is_below, do_ascend, change_entry}
+use Rattle.bf_forest.specs.Overlays.{changed_at, overlaid, is_below, do_ascend, change_entry, are_from}
 use Rattle.bf_forest.specs.Slots.{put, without, found}
 use Rattle.bf_forest.proofs.Entered.{equal_is, all-put, all-without}
 use Rattle.bf_forest.proofs.Keys.{cmp-same}
@@ -97,7 +97,7 @@ module _ {X : Type 0} where
 
   -- ---- what is found
 
-  none_below : (key : List ℕ) (es : List (List ℕ × X)) → is_below key es ≡ true → found key es ≡ None
+  pub none_below : (key : List ℕ) (es : List (List ℕ × X)) → is_below key es ≡ true → found key es ≡ None
   none_below key [] h = refl
   none_below key (e ∷ es) h =
       ap (λ o. cond (is_eq o) (Some e.1) (found key es)) (below_less key e es h) ∙ none_below key es (below_rest key e es h)
@@ -279,7 +279,7 @@ module _ {X : Type 0} where
       overlaid_before x (front ++ back) changes (and_parts (is_below x.0 changes) _ h).0
       ∙ ap (λ v. x ∷ v) (overlaid_front front back changes (and_parts (is_below x.0 changes) _ h).1)
 
-  without_below : (key : List ℕ) (es : List (List ℕ × X)) → is_below key es ≡ true → without key es ≡ es
+  pub without_below : (key : List ℕ) (es : List (List ℕ × X)) → is_below key es ≡ true → without key es ≡ es
   without_below key [] h = refl
   without_below key (e ∷ es) h =
       ap (λ o. cond (is_eq o) es (e ∷ without key es)) (below_less key e es h)
@@ -294,11 +294,6 @@ module _ {X : Type 0} where
   changed_here e es key None l = ap (λ o. cond (is_eq o) es (e ∷ without key es)) l
   changed_here e es key (Some x) l =
       ap (λ o. match_ordering o ((key, x) ∷ e ∷ es) ((e.0, x) ∷ es) (e ∷ put es key x)) l ∙ ap {A = List ℕ} {B = List (List ℕ × X)} (λ k. (k, x) ∷ es) (sym (exact_bytes key e.0 l))
-
-  -- no entry is below a key
-  abbrev pub are_from : List ℕ → List (List ℕ × X) → Bool
-  are_from key [] = true
-  are_from key (e ∷ es) = cond (is_lt (slice_cmp nat_cmp e.0 key)) false true
 
   pub overlaid_first : (es : List (List ℕ × X)) (key : List ℕ) (change : Option X) (changes : List (List ℕ × Option X)) → do_ascend es ≡ true → are_from key es ≡ true → is_below key changes ≡ true
       → overlaid es ((key, change) ∷ changes) ≡ change_entry key change ++ overlaid (without key es) changes

@@ -1,5 +1,5 @@
 -- Entries over which changes lie, both by their keys.
-use Rattle.std.specs.Prelude.{ℕ, Bool, true, ◌&&◌, List, [], ◌∷◌, Option, Some, None}
+use Rattle.std.specs.Prelude.{ℕ, Bool, true, false, ◌&&◌, if◌then◌else◌, List, [], ◌∷◌, Option, Some, None}
 use Rattle.std.specs.Ordering.{nat_cmp, is_lt}
 use Rattle.std.specs.Cmp.Lexicographic.{slice_cmp}
 use Rattle.std.specs.List.{list_all}
@@ -27,3 +27,8 @@ do_ascend (entry ∷ entries) = is_below entry.0 entries && do_ascend entries
 abbrev pub change_entry : {X : Type 0} → List ℕ → Option X → List (List ℕ × X)
 change_entry key None = []
 change_entry key (Some entry) = (key, entry) ∷ []
+
+-- no entry has a key below another one
+abbrev pub are_from : {X : Type 0} → List ℕ → List (List ℕ × X) → Bool
+are_from key [] = true
+are_from key (entry ∷ entries) = if is_lt (slice_cmp nat_cmp entry.0 key) then false else true

@@ -289,23 +289,17 @@ impl Trees {
         }
     }
 
-    /// The old entries of a tree, or of an empty directory, with no changes.
-    fn rest<'a>(&self, base: Option<usize>) -> Result<Rest<'a>, AllocError>
+    /// The numbers of the entries of a tree, or of an empty directory.
+    fn tail(&self, base: Option<usize>) -> Result<Tail, AllocError>
         requires { IsTrue (is_base (length self.now.trees) base) }
-        ensures base { IfOk result (λ rest. IsBase self.now.trees self.now.table rest.base) }
-        ensures files { IfOk result (λ rest. files_in self.now.trees (stood self.now.table rest.base) ≡ base_files self.now.trees base) }
-        ensures node { IfOk result (λ rest. IsTrue (is_node self.now.trees (stood self.now.table rest.base))) }
-        ensures changes { IfOk result (λ rest. rest.changes.entries ≡ []) }
-        ensures sound { IsSound self.now.trees }
+        ensures base { IfOk result (IsBase self.now.trees self.now.table) }
+        ensures files { IfOk result (λ tail. files_in self.now.trees (stood self.now.table tail) ≡ base_files self.now.trees base) }
+        ensures node { IfOk result (λ tail. IsTrue (is_node self.now.trees (stood self.now.table tail))) }
     {
-        let base = match base {
-            None => Tail::new(self.alloc),
-            Some(number) => Tail::of(self.alloc, self.node(number).as_slice())?,
-        };
-        Ok(Rest {
-            base,
-            changes: BTreeMap::new(self.alloc),
-        })
+        match base {
+            None => Ok(Tail::new(self.alloc)),
+            Some(number) => Tail::of(self.alloc, self.node(number).as_slice()),
+        }
     }
 
     /// Opens a directory, to make it as it is after edits.
@@ -317,7 +311,11 @@ impl Trees {
         ensures empty { IfOk result (λ top. top.numbers ≡ []) }
         ensures heft { IfOk result (λ top. heft (slots_in self.now.table top.rest) + 2 * length edits.now ≤ weight edits.now) }
     {
-        let mut rest = self.rest(base)?;
+        let tail = self.tail(base)?;
+        let mut rest = Rest {
+            base: tail,
+            changes: BTreeMap::new(self.alloc),
+        };
         edit_all(&self.table, &mut rest, edits)?;
         Ok(Opened {
             numbers: Numbers::new(self.alloc),

@@ -5,16 +5,16 @@ ghost use Rattle.std.specs.List.{list_all};
 ghost use Rattle.bf_forest.specs.Cuts.{path_in};
 ghost use Rattle.bf_forest.specs.Nodes.{stood};
 ghost use Rattle.bf_forest.specs.Overlays.{overlaid};
-ghost use Rattle.bf_forest.specs.Rests.{IsOld, IsShorter, slots_in, old_directory, set_changes, less_changes};
+ghost use Rattle.bf_forest.specs.Rests.{IsOld, IsShorter, slots_in, old_directory, set_changes, less_changes, set_rest, remove_rest};
 ghost use Rattle.bf_forest.specs.declared.edits.Edit.TheVariants as edit;
 ghost use Rattle.bf_forest.specs.declared.slots.Slot.TheVariants as slot;
-ghost use Rattle.bf_forest.specs.Slots.{directory_key, put, directory_at, set_slots, remove_slots, slots_after, has_path, slots_of};
+ghost use Rattle.bf_forest.specs.Slots.{directory_key, put, directory_of, directory_at, slots_after, has_path, slots_of};
 
 use crate::cuts::{Cut, Pending};
 use crate::edits::Edit;
 use crate::nodes::EntryKind;
 use crate::table::Table;
-use crate::tail::{Tail, place_of};
+use crate::tail::{Tail, end_of, place_of};
 use bf_grammar::{Mode, Oid};
 use bf_io::Bytes;
 use std::alloc::AllocError;
@@ -53,12 +53,22 @@ fn old_directory(table: &Table, numbers: &[u32], key: &[u8]) -> Option<usize>
     ensures { old_directory result ≡ directory_at key.now (slots_of (stood table.now numbers.now)) }
 {
     let place = place_of(table, numbers, key);
-    if place >= numbers.len() || table.key(numbers[place]) != key {
+    if end_of(table, numbers, place, key) <= place {
         return None;
     }
     match table.kind(numbers[place]) {
         EntryKind::Directory(number) => Some(number),
         EntryKind::File(..) => None,
+    }
+}
+
+/// What is a directory, and none for all else.
+fn directory_in<'a>(slot: Option<Slot<'a>>) -> Option<(Option<usize>, Pending<'a>)>
+    ensures { result ≡ directory_of slot.entry }
+{
+    match slot {
+        Some(Slot::Directory(base, pending)) => Some((base, pending)),
+        _ => None,
     }
 }
 
@@ -74,8 +84,7 @@ fn taken<'a>(
     ensures changes { OnOk result (changes.new.entries ≡ put changes.old.entries key.now None) }
 {
     match changes.insert(key.try_clone()?, None)? {
-        Some(Some(Slot::Directory(base, pending))) => Ok(Some((base, pending))),
-        Some(_) => Ok(None),
+        Some(slot) => Ok(directory_in(slot)),
         None => match old_directory(table, base, key.as_slice()) {
             Some(number) => Ok(Some((Some(number), Pending::new(key.allocator())))),
             None => Ok(None),
@@ -145,7 +154,8 @@ fn remove_inside<'a>(
 fn set<'a>(table: &Table, rest: &mut Rest<'a>, cut: &Cut<'a>, mode: Mode, oid: Oid) -> Result<(), AllocError>
     requires old { IsOld table.now rest.old.base }
     requires cut { cut.now ≡ edit.Set (path_in cut.now) mode oid }
-    ensures slots { OnOk result (slots_in table.now rest.new ≡ set_slots (path_in cut.now) mode oid (slots_in table.now rest.old)) }
+    ensures changes { OnOk result (rest.new.changes.entries
+        ≡ set_rest (slots_of (stood table.now rest.old.base)) (path_in cut.now) mode oid rest.old.changes.entries) }
     ensures base { rest.new.base ≡ rest.old.base }
 {
     let base = rest.base.as_slice();
@@ -159,7 +169,8 @@ fn set<'a>(table: &Table, rest: &mut Rest<'a>, cut: &Cut<'a>, mode: Mode, oid: O
 fn remove<'a>(table: &Table, rest: &mut Rest<'a>, cut: &Cut<'a>) -> Result<(), AllocError>
     requires old { IsOld table.now rest.old.base }
     requires cut { cut.now ≡ edit.Remove (path_in cut.now) }
-    ensures slots { OnOk result (slots_in table.now rest.new ≡ remove_slots (path_in cut.now) (slots_in table.now rest.old)) }
+    ensures changes { OnOk result (rest.new.changes.entries
+        ≡ remove_rest (slots_of (stood table.now rest.old.base)) (path_in cut.now) rest.old.changes.entries) }
     ensures base { rest.new.base ≡ rest.old.base }
 {
     let base = rest.base.as_slice();

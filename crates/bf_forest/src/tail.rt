@@ -1,9 +1,9 @@
 //! What is left of the old entries of a directory that is edited, and where a key stands among them.
-ghost use Rattle.std.specs.Prelude.{◌≡◌, ℕ, ◌<◌, ◌≤◌, false, true, [], ◌++◌, length, take, drop, slice_index, IfOk, OnOk};
+ghost use Rattle.std.specs.Prelude.{◌≡◌, ℕ, ◌+◌, ◌<◌, ◌≤◌, false, true, [], ◌++◌, length, take, drop, slice_index, IfOk, OnOk};
 ghost use Rattle.std.specs.Ordering.{nat_cmp, is_lt};
 ghost use Rattle.std.specs.Cmp.Lexicographic.{slice_cmp};
-ghost use Rattle.bf_forest.specs.Nodes.{entry_at};
-ghost use Rattle.bf_forest.specs.Rests.{IsOld, IsPassed};
+ghost use Rattle.bf_forest.specs.Nodes.{entry_at, are_within};
+ghost use Rattle.bf_forest.specs.Rests.{IsOld, IsPassed, key_at};
 
 use crate::nodes::Numbers;
 use crate::table::Table;
@@ -71,6 +71,13 @@ impl Tail {
     }
 }
 
+/// Whether a key comes before another one, by their bytes.
+fn is_below(key: &[u8], other: &[u8]) -> bool
+    ensures { result ≡ is_lt (slice_cmp nat_cmp key.now other.now) }
+{
+    key.cmp(&other).is_lt()
+}
+
 /// How many of the entries with these numbers have keys below a key.
 pub(crate) fn place_of(table: &Table, numbers: &[u32], key: &[u8]) -> usize
     requires { IsOld table.now numbers.now }
@@ -83,13 +90,28 @@ pub(crate) fn place_of(table: &Table, numbers: &[u32], key: &[u8]) -> usize
     let mut high = numbers.len();
     while low < high {
         let middle = low + (high - low) / 2;
-        if table.key(numbers[middle]) < key {
+        if is_below(table.key(numbers[middle]), key) {
             low = middle + 1;
         } else {
             high = middle;
         }
     }
     low
+}
+
+/// The place behind the entry that has a key, where that is the one at a place, and else this place.
+pub(crate) fn end_of(table: &Table, numbers: &[u32], place: usize, key: &[u8]) -> usize
+    requires { are_within (length table.now) numbers.now ≡ true }
+    ensures there { place < result → (result ≡ place + 1) × (place < length numbers.now) × (key_at table.now numbers.now place ≡ key.now) }
+    ensures missing { result ≤ place → (result ≡ place) × (place < length numbers.now → key_at table.now numbers.now place ≡ key.now → ⊥) }
+{
+    if place >= numbers.len() {
+        return place;
+    }
+    if table.key(numbers[place]) != key {
+        return place;
+    }
+    place + 1
 }
 
 /// Takes the entries below a key, and passes the one that has it.
@@ -104,9 +126,8 @@ pub(crate) fn take_below(
 {
     let rest = base.as_slice();
     let place = place_of(table, rest, key);
+    let end = end_of(table, rest, place, key);
     numbers.append(&rest[..place])?;
-    let is_there = place < rest.len() && table.key(rest[place]) == key;
-    let count = if is_there { place + 1 } else { place };
-    base.pass(count);
+    base.pass(end);
     Ok(())
 }
