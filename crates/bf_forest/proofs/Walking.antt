@@ -1,6 +1,10 @@
 -- Directories that are being made, one in another.
-use Rattle.std.proofs.Common.{◌≡◌, ℕ, zero, suc, ◌+◌, ◌<◌, ◌≤◌, true, List, [], ◌∷◌, ◌++◌, length, take, drop, Option, Some, None, refl, sym, ap, ◌∙◌, subst, arith}
-use Rattle.std.specs.List.{list_all, filter, fold}
+use Rattle.std.proofs.Common.{◌≡◌, ℕ, zero, suc, ◌+◌, ◌<◌, ◌≤◌, nat_lt, true, List, [], ◌∷◌, ◌++◌, length, take, drop, Option, Some, None, refl, sym, ap, ◌∙◌, subst, arith}
+use Rattle.std.specs.Ordering.{nat_cmp, is_lt}
+use Rattle.std.specs.declared.cmp.Ordering.TheVariants.{Less}
+use Rattle.std.specs.Cmp.Lexicographic.{slice_cmp}
+use Rattle.std.specs.List.{list_all, filter, fold, All}
+use Rattle.std.specs.Map.{keys_of}
 use Rattle.std.proofs.lemmas.Bool.{and_parts, and_from, ltb-true, lt-ltb}
 use Rattle.std.proofs.lemmas.List.{append-nil, append_assoc}
 use Rattle.std.proofs.lemmas.List.Folds.{list_all-append}
@@ -18,15 +22,15 @@ use Rattle.bf_forest.specs.Files.{Files, edited}
 use Rattle.bf_forest.specs.Listing.{name_in, Listing, beneath}
 use Rattle.bf_forest.specs.Nodes.{World, StaysIn, stood, are_within, kind_files, files_in, listed, has_some, is_filled, is_node, is_earlier, IsSettled}
 use Rattle.bf_forest.specs.Opened.{IsOpened, IsBase, IsFrame, IsSettling, IsMade, Advances, IsClosed, with_directory, heft}
-use Rattle.bf_forest.specs.Overlays.{overlaid, change_entry}
-use Rattle.bf_forest.specs.Rests.{IsOld, IsShorter, slots_in}
+use Rattle.bf_forest.specs.Overlays.{overlaid, change_entry, is_below}
+use Rattle.bf_forest.specs.Rests.{IsOld, IsShorter, IsPassed, slots_in}
 use Rattle.bf_forest.specs.Slots.{base_files, slot_of, slots_of, are_in_order, is_base, is_based}
 use Rattle.bf_forest.specs.Trees.{where_some, or_none, directories, with_tree, files_at}
 use Rattle.bf_forest.proofs.Joining.{kept_refl, kept_trans}
 use Rattle.bf_forest.proofs.Leveled.{some_beneath}
 use Rattle.bf_forest.proofs.Pooled.{IsClosed as IsClosedPool, all_earlier, listed_kept, some_files, joined_base}
-use Rattle.bf_forest.proofs.Placed.{old_shorter}
-use Rattle.bf_forest.proofs.Tabled.{all_drop, stood_kept, stood_append, stood_drop, stood_take, within_kept}
+use Rattle.bf_forest.proofs.Placed.{old_shorter, taken_slots}
+use Rattle.bf_forest.proofs.Tabled.{all_take, all_drop, stood_kept, stood_append, stood_drop, stood_take, within_kept}
 use Rattle.bf_forest.proofs.Settling.{made, made_none, joined_some, edited-nil, slots_based, kept_length, earlier_more, listed_more, directory_added, settling_next}
 
 abbrev pub Slots : Type 0
@@ -172,6 +176,95 @@ stays_refl world = (kept_refl world.table, kept_refl world.trees)
 
 pub stays_trans : (a b c : World) → StaysIn a b → StaysIn b c → StaysIn a c
 stays_trans a b c s t = (kept_trans a.table b.table c.table s.0 t.0, kept_trans a.trees b.trees c.trees s.1 t.1)
+
+-- ---- one change is taken
+
+heft_append : (a b : Slots) → heft (a ++ b) ≡ heft a + heft b
+heft_append [] b = omega arith
+heft_append (slot ∷ a) b = let more = heft_append a b in omega (arith, more)
+
+-- where the old entries below a key are taken
+abbrev pub IsTaken : World → List ℕ → List ℕ → Slots → Slots → Type 0
+IsTaken world old new all rest =
+    (are_within (length world.table) new ≡ true)
+    × ((trees : List Files) (slots : Slots) → IsSettling trees slots world.trees (stood world.table old) all → IsSettling trees slots world.trees (stood world.table new) rest)
+    × (list_all (λ slot. is_based (length world.trees) slot.1) all ≡ true → list_all (λ slot. is_based (length world.trees) slot.1) rest ≡ true)
+    × (heft rest ≤ heft all)
+
+pub run_taken : (world : World) (old new run : List ℕ) (all rest : Slots) → IsClosedPool world.trees → are_within (length world.table) old ≡ true → IsBase world.trees world.table run
+    → new ≡ old ++ run → all ≡ slots_of (stood world.table run) ++ rest → IsTaken world old new all rest
+run_taken world old new run all rest closed within base taken whole = (
+    ap (are_within (length world.table)) taken ∙ list_all-append (λ n. nat_lt n (length world.table)) old run ∙ and_from _ _ within base.0.0,
+    λ trees slots h.
+    let P : Slots → Type 0 = λ v. IsSettling trees slots world.trees (stood world.table old) v in
+    let Q : List Entry → Type 0 = λ v. IsSettling trees slots world.trees v rest in
+    subst Q (sym (ap (stood world.table) taken ∙ stood_append world.table old run))
+    (settling_run trees slots world.trees (stood world.table old) (stood world.table run) rest closed base.1 (subst P whole h)),
+    λ h. (and_parts (list_all (λ slot. is_based (length world.trees) slot.1) (slots_of (stood world.table run))) _
+    (sym (list_all-append (λ slot. is_based (length world.trees) slot.1) (slots_of (stood world.table run)) rest)
+    ∙ ap (list_all (λ slot. is_based (length world.trees) slot.1)) (sym whole) ∙ h)).1,
+    (let size = ap heft whole in omega (arith, size, heft_append (slots_of (stood world.table run)) rest)),
+  )
+
+base_take : (trees : List Files) (table : List Entry) (base : List ℕ) (n : ℕ) → IsBase trees table base → IsBase trees table (take n base)
+base_take trees table base n h = (
+    (all_take (λ number. nat_lt number (length table)) base n h.0.0, ap are_in_order (stood_take table base n) ∙ order_take (stood table base) n h.0.1),
+    ap (λ v. list_all is_filled (listed trees v)) (stood_take table base n) ∙ filled_take (stood table base) n h.1,
+  )
+  where
+    order_take : (entries : List Entry) (m : ℕ) → are_in_order entries ≡ true → are_in_order (take m entries) ≡ true
+    order_take [] zero k = k
+    order_take [] (suc m) k = k
+    order_take (entry ∷ entries) zero k = refl
+    order_take (entry ∷ entries) (suc m) k =
+        let parts = and_parts (list_all (λ other. is_lt (slice_cmp nat_cmp entry.key other.key)) entries) (are_in_order entries) k in
+        and_from _ _ (all_take (λ other. is_lt (slice_cmp nat_cmp entry.key other.key)) entries m parts.0) (order_take entries m parts.1)
+
+    filled_take : (entries : List Entry) (m : ℕ) → list_all is_filled (listed trees entries) ≡ true → list_all is_filled (listed trees (take m entries)) ≡ true
+    filled_take [] zero k = k
+    filled_take [] (suc m) k = k
+    filled_take (entry ∷ entries) zero k = refl
+    filled_take (entry ∷ entries) (suc m) k =
+        let parts = and_parts (is_filled (entry.key, kind_files trees entry.key entry.kind)) (list_all is_filled (listed trees entries)) k in
+        and_from _ _ parts.0 (filled_take entries m parts.1)
+
+-- the old entries below a key are taken, and what is to stand there lies in front
+pub turn_taken : (world : World) (old new base rest key : List ℕ) (change : Option Slot) (changes : List (List ℕ × Option Slot)) → IsClosedPool world.trees
+    → are_within (length world.table) old ≡ true → IsBase world.trees world.table base → is_below key changes ≡ true → IsPassed world.table old new base rest key
+    → IsTaken world old new (overlaid (slots_of (stood world.table base)) ((key, change) ∷ changes)) (change_entry key change ++ overlaid (slots_of (stood world.table rest)) changes)
+      × IsBase world.trees world.table rest
+turn_taken world old new base rest key change changes closed within known below p =
+    (run_taken world old new (take p.0 base) (overlaid (slots_of (stood world.table base)) ((key, change) ∷ changes)) (change_entry key change ++ overlaid (slots_of (stood world.table rest)) changes)
+    closed within (base_take world.trees world.table base p.0 known) p.1 (taken_slots world.table old new base rest key changes change known.0 below p),
+      base_shorter world.trees world.table base rest known p.5)
+
+-- what is known where a table has grown
+abbrev IsEntered : World → World → Rest → List ℕ → Type 0
+IsEntered now next rest numbers =
+    (IsBase next.trees next.table rest.base × (are_within (length next.table) numbers ≡ true) × (list_all (λ slot. is_based (length next.trees) slot.1) (slots_in next.table rest) ≡ true))
+    × (heft (slots_in next.table rest) ≡ heft (slots_in now.table rest))
+    × ((trees : List Files) (slots : Slots) (entries : List Entry) → stood next.table numbers ≡ entries → IsSettling trees slots now.trees entries (slots_in now.table rest)
+      → IsSettling trees slots next.trees (stood next.table numbers) (slots_in next.table rest))
+
+pub entered : (now next : World) (rest : Rest) (numbers : List ℕ) → StaysIn now next → next.trees ≡ now.trees → IsBase now.trees now.table rest.base → are_within (length next.table) numbers ≡ true
+    → list_all (λ slot. is_based (length now.trees) slot.1) (slots_in now.table rest) ≡ true → IsEntered now next rest numbers
+entered now next rest numbers stays trees base within based =
+    let same : slots_in next.table rest ≡ slots_in now.table rest = slots_kept now next rest stays base.0.0 in (
+      (base_kept now next rest.base stays base, within,
+        ap (λ (v : List Files). list_all (λ slot. is_based (length v) slot.1) (slots_in next.table rest)) trees ∙ ap (list_all (λ slot. is_based (length now.trees) slot.1)) same ∙ based),
+      ap heft same,
+      λ start slots entries e h.
+      let P : List Entry → Type 0 = λ v. IsSettling start slots now.trees v (slots_in now.table rest) in
+      let Q : Slots → Type 0 = λ v. IsSettling start slots now.trees (stood next.table numbers) v in
+      let R : List Files → Type 0 = λ v. IsSettling start slots v (stood next.table numbers) (slots_in next.table rest) in
+      subst R (sym trees) (subst Q (sym same) (subst P (sym e) h)),
+    )
+
+-- all keys of a map come behind the one that was the first
+pub below_all : {X : Type 0} (key : List ℕ) (entries : List (List ℕ × X)) → All (λ other. slice_cmp nat_cmp key other ≡ Less) (keys_of entries) → is_below key entries ≡ true
+below_all key [] h = refl
+below_all key (entry ∷ entries) h =
+    and_from (is_lt (slice_cmp nat_cmp key entry.0)) _ (ap is_lt (h 0 entry.0 (omega arith))) (below_all key entries (λ k d l. h (suc k) d (omega arith)))
 
 -- ---- directories that wait for one in them
 

@@ -10,7 +10,8 @@ use Rattle.bf_forest.specs.declared.slots.Slot.TheVariants.{File, Directory}
 use Rattle.bf_forest.specs.Files.{Files}
 use Rattle.bf_forest.specs.Listing.{is_listing, shown}
 use Rattle.bf_forest.specs.Nodes.{listed, files_in, is_filled, is_node, is_earlier, stood, are_within, World, IsSound}
-use Rattle.bf_forest.specs.Rests.{IsOld, slots_in}
+use Rattle.bf_forest.specs.Overlays.{is_below}
+use Rattle.bf_forest.specs.Rests.{IsOld, slots_in, slots_with}
 use Rattle.bf_forest.specs.Slots.{contents, slot_directories, edit_length, is_based, is_slot}
 use Rattle.bf_forest.specs.Trees.{with_tree, with_directories, files_at}
 
@@ -62,6 +63,14 @@ IsFrame world top =
     × (are_within (length world.table) top.numbers ≡ true)
     × (list_all (λ slot. is_based (length world.trees) slot.1) (slots_in world.table top.rest) ≡ true)
 
+-- what is known where a change is to be taken
+abbrev pub IsTurn : World → Opened → List ℕ → Option Slot → Type 0
+IsTurn world top key change =
+    IsBase world.trees world.table top.rest.base
+    × (are_within (length world.table) top.numbers ≡ true)
+    × (is_below key top.rest.changes.entries ≡ true)
+    × (list_all (λ slot. is_based (length world.trees) slot.1) (slots_with world.table top.rest key change) ≡ true)
+
 -- ---- what calls answer
 
 -- entries with one more, for a directory with files
@@ -79,6 +88,13 @@ abbrev pub Advances : World → World → Opened → Opened → Option (Option �
 Advances before after old top inner =
     (trees : List Files) (slots : List (List ℕ × Slot))
     → IsSettling trees slots before.trees (stood before.table old.numbers) (slots_in before.table old.rest)
+    → IsSettling trees slots after.trees (stood after.table top.numbers) (slots_before inner top.inside (slots_in after.table top.rest))
+
+-- a change is taken
+abbrev pub Turns : World → World → Opened → List ℕ → Option Slot → Opened → Option (Option ℕ × List Edit) → Type 0
+Turns before after old key change top inner =
+    (trees : List Files) (slots : List (List ℕ × Slot))
+    → IsSettling trees slots before.trees (stood before.table old.numbers) (slots_with before.table old.rest key change)
     → IsSettling trees slots after.trees (stood after.table top.numbers) (slots_before inner top.inside (slots_in after.table top.rest))
 
 -- nothing is left where there is no directory to be made

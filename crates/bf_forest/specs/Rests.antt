@@ -31,6 +31,10 @@ IsShorter numbers all = (count : ℕ) × (numbers ≡ drop count all)
 abbrev pub slots_in : List Entry → Rest → List (List ℕ × Slot)
 slots_in table rest = overlaid (slots_of (stood table rest.base)) rest.changes.entries
 
+-- the entries, with one change in front of the others
+abbrev pub slots_with : List Entry → Rest → List ℕ → Option Slot → List (List ℕ × Slot)
+slots_with table rest key change = overlaid (slots_of (stood table rest.base)) ((key, change) ∷ rest.changes.entries)
+
 -- a directory that no edits wait in
 abbrev pub old_directory : Option ℕ → Option (Option ℕ × List Edit)
 old_directory None = None

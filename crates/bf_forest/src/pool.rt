@@ -4,8 +4,8 @@ ghost use Rattle.std.specs.Prelude.{◌≡◌, ℕ, List, ◌+◌, ◌*◌, ◌<
 ghost use Rattle.bf_forest.specs.Files.{is_tree, edited};
 ghost use Rattle.bf_forest.specs.Index.{key_of};
 ghost use Rattle.bf_forest.specs.Nodes.{files_in, is_node, is_good, entry_body, entry_at, stood, are_within, StaysIn, IsSound, IsPosition, IsSettled};
-ghost use Rattle.bf_forest.specs.Opened.{IsOpened, IsBase, IsFrame, IsMade, Advances, IsClosed, HasSome, IsSpent, inner_weight, heft, weight, with_directory};
-ghost use Rattle.bf_forest.specs.Rests.{slots_in};
+ghost use Rattle.bf_forest.specs.Opened.{IsOpened, IsBase, IsFrame, IsTurn, IsMade, Turns, Advances, IsClosed, HasSome, IsSpent, inner_weight, heft, weight, with_directory};
+ghost use Rattle.bf_forest.specs.Rests.{slots_in, slots_with};
 ghost use Rattle.bf_forest.specs.Slots.{base_files, is_base};
 ghost use Rattle.bf_forest.specs.Trees.{tree_name, directories, where_some, or_none, are_same, with_tree, with_directories, entries_of, files_at};
 
@@ -339,6 +339,40 @@ impl Trees {
         Some(number)
     }
 
+    /// Takes the old entries below a key and what is to stand there, or answers what the directory there is made of.
+    fn take<'a>(
+        &mut self,
+        top: &mut Opened<'a>,
+        key: Bytes,
+        change: Option<Slot<'a>>,
+    ) -> Result<Option<(Option<usize>, Pending<'a>)>, AllocError>
+        requires { IsTurn self.old top.old key change }
+        ensures turns { IfOk result (Turns self.old self.new top.old key change.entry top.new) }
+        ensures frame { OnOk result (IsFrame self.new top.new) }
+        ensures kept { StaysIn self.old self.new }
+        ensures trees { self.new.trees ≡ self.old.trees }
+        ensures heft { IfOk result (λ inner. inner_weight inner + heft (slots_in self.new.table top.new.rest) ≤ heft (slots_with self.old.table top.old.rest key change.entry)) }
+        ensures some { IfOk result HasSome }
+        ensures changes { top.new.rest.changes ≡ top.old.rest.changes }
+    {
+        take_below(&self.table, &mut top.numbers, &mut top.rest.base, key.as_slice())?;
+        match change {
+            None => Ok(None),
+            Some(Slot::File(mode, oid)) => {
+                self.enter(&mut top.numbers, key, EntryKind::File(mode, oid))?;
+                Ok(None)
+            }
+            Some(Slot::Directory(base, pending)) => {
+                if pending.as_slice().is_empty() {
+                    self.enter_directory(&mut top.numbers, key, self.filled(base))?;
+                    return Ok(None);
+                }
+                top.inside = key;
+                Ok(Some((base, pending)))
+            }
+        }
+    }
+
     /// Takes entries up to the next directory that is to be made first, and answers what it is made of.
     fn advance<'a>(&mut self, top: &mut Opened<'a>) -> Result<Option<(Option<usize>, Pending<'a>)>, AllocError>
         requires { IsFrame self.old top.old }
@@ -351,25 +385,27 @@ impl Trees {
         ensures spent { IfOk result (IsSpent (slots_in self.new.table top.new.rest)) }
     {
         while let Some((key, change)) = top.rest.changes.pop_first() {
-            take_below(&self.table, &mut top.numbers, &mut top.rest.base, key.as_slice())?;
-            match change {
-                None => {}
-                Some(Slot::File(mode, oid)) => {
-                    self.enter(&mut top.numbers, key, EntryKind::File(mode, oid))?;
-                }
-                Some(Slot::Directory(base, pending)) => {
-                    if pending.as_slice().is_empty() {
-                        self.enter_directory(&mut top.numbers, key, self.filled(base))?;
-                    } else {
-                        top.inside = key;
-                        return Ok(Some((base, pending)));
-                    }
-                }
+            if let Some(inner) = self.take(top, key, change)? {
+                return Ok(Some(inner));
             }
         }
+        self.take_all(top)?;
+        Ok(None)
+    }
+
+    /// Takes the old entries, where no changes are left.
+    fn take_all(&self, top: &mut Opened<'_>) -> Result<(), AllocError>
+        requires frame { IsFrame self.now top.old }
+        requires none { top.old.rest.changes.entries ≡ [] }
+        ensures advanced { OnOk result (Advances self.now self.now top.old top.new None) }
+        ensures frame { OnOk result (IsFrame self.now top.new) }
+        ensures spent { OnOk result (slots_in self.now.table top.new.rest ≡ []) }
+    {
+        // A use of a field: what holds of all trees is then known here.
+        let _ = &self.nodes;
         top.numbers.append(top.rest.base.as_slice())?;
         top.rest.base.pass_all();
-        Ok(None)
+        Ok(())
     }
 
     /// Adds the tree of a directory with these entries, if there are any, and answers its number.
