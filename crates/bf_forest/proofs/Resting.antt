@@ -1,5 +1,5 @@
 -- What an edit makes of the changes is what it makes of the entries.
-use Rattle.std.proofs.Common.{◌≡◌, ℕ, true, List, [], ◌∷◌, ◌++◌, length, drop, Option, Some, None, refl, sym, ap, ◌∙◌}
+use Rattle.std.proofs.Common.{◌≡◌, ℕ, true, List, [], ◌∷◌, ◌++◌, Option, Some, None, refl, sym, ap, ◌∙◌}
 use Rattle.bf_grammar.specs.declared.object.Mode.{Mode}
 use Rattle.bf_grammar.specs.declared.object.Oid.{Oid}
 use Rattle.bf_forest.specs.declared.edits.Edit.{Edit}
@@ -9,7 +9,7 @@ use Rattle.bf_forest.specs.declared.nodes.EntryKind.TheVariants as kind
 use Rattle.bf_forest.specs.declared.slots.Slot.{Slot}
 use Rattle.bf_forest.specs.declared.slots.Slot.TheVariants.{File, Directory}
 use Rattle.bf_forest.specs.Overlays.{overlaid, do_ascend}
-use Rattle.bf_forest.specs.Rests.{set_changes, less_change, less_changes, set_rest, remove_rest}
+use Rattle.bf_forest.specs.Rests.{less_change, set_rest, remove_rest}
 use Rattle.bf_forest.specs.Slots.{directory_key, put, without, found, directory_of, directory_at, with_edit, less_inside, slot_of, set_slots, remove_slots}
 use Rattle.bf_forest.proofs.Overlaid.{change_or, overlaid_put, found_overlaid}
 

@@ -1,7 +1,7 @@
 -- Files that are the same by their parts are equal.
 use Rattle.std.proofs.Common.{◌≡◌, ℕ, true, List, [], ◌∷◌, refl, ap, ◌∙◌}
 use Rattle.std.specs.Cmp.Lexicographic.{pointwise}
-use Rattle.std.proofs.lemmas.Bool.{false≢true, and_parts, eqb-true}
+use Rattle.std.proofs.lemmas.Bool.{false≢true, and_parts}
 use Rattle.std.proofs.lemmas.Slice.Eq.{bytes_eq-Decides}
 use Rattle.bf_grammar.specs.declared.object.Mode.{Mode}
 use Rattle.bf_grammar.specs.declared.object.Mode.TheVariants.{Plain, Exec, Link, Module}

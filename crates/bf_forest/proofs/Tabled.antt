@@ -1,12 +1,12 @@
 -- Entries by their numbers, in a table that grows.
-use Rattle.std.proofs.Common.{◌≡◌, ℕ, zero, suc, ◌+◌, ◌<◌, ◌≤◌, nat_lt, Bool, true, List, [], ◌∷◌, ◌++◌, length, take, drop, get_or, refl, sym, ap, ◌∙◌, subst, arith}
+use Rattle.std.proofs.Common.{◌≡◌, ℕ, zero, suc, ◌<◌, ◌≤◌, nat_lt, Bool, true, List, [], ◌∷◌, ◌++◌, length, take, drop, get_or, refl, sym, ap, ◌∙◌, arith}
 use Rattle.std.specs.List.{list_all}
 use Rattle.std.proofs.lemmas.Bool.{and_parts, and_from, ltb-true, lt-ltb}
 use Rattle.std.proofs.lemmas.List.{get_or-take}
 use Rattle.std.proofs.Math.ListN.{length-map}
 use Rattle.bf_forest.specs.declared.nodes.Entry.{Entry}
 use Rattle.bf_forest.specs.declared.pool.Kept.{Kept}
-use Rattle.bf_forest.specs.Nodes.{Node, World, StaysIn, no_entry, entry_at, stood, are_within, node_of, nodes_of, are_kept_within}
+use Rattle.bf_forest.specs.Nodes.{Node, no_entry, entry_at, stood, are_within, node_of, nodes_of, are_kept_within}
 use Rattle.bf_forest.proofs.Settling.{kept_length}
 
 pub entry_kept : (a b : List Entry) (number : ℕ) → take (length a) b ≡ a → number < length a → entry_at b number ≡ entry_at a number

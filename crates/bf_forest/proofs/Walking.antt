@@ -23,14 +23,14 @@ use Rattle.bf_forest.specs.Listing.{name_in, Listing, beneath}
 use Rattle.bf_forest.specs.Nodes.{World, StaysIn, stood, are_within, kind_files, files_in, listed, has_some, is_filled, is_node, is_earlier, IsSettled}
 use Rattle.bf_forest.specs.Opened.{IsOpened, IsBase, IsFrame, IsSettling, IsMade, Advances, IsClosed, with_directory, heft}
 use Rattle.bf_forest.specs.Overlays.{overlaid, change_entry, is_below}
-use Rattle.bf_forest.specs.Rests.{IsOld, IsShorter, IsPassed, slots_in}
+use Rattle.bf_forest.specs.Rests.{IsShorter, IsPassed, slots_in}
 use Rattle.bf_forest.specs.Slots.{base_files, slot_of, slots_of, are_in_order, is_base, is_based}
 use Rattle.bf_forest.specs.Trees.{where_some, or_none, directories, with_tree, files_at}
 use Rattle.bf_forest.proofs.Joining.{kept_refl, kept_trans}
 use Rattle.bf_forest.proofs.Leveled.{some_beneath}
 use Rattle.bf_forest.proofs.Pooled.{IsClosed as IsClosedPool, all_earlier, listed_kept, some_files, joined_base}
 use Rattle.bf_forest.proofs.Placed.{old_shorter, taken_slots}
-use Rattle.bf_forest.proofs.Tabled.{all_take, all_drop, stood_kept, stood_append, stood_drop, stood_take, within_kept}
+use Rattle.bf_forest.proofs.Tabled.{all_take, stood_kept, stood_append, stood_drop, stood_take, within_kept}
 use Rattle.bf_forest.proofs.Settling.{made, made_none, joined_some, edited-nil, slots_based, kept_length, earlier_more, listed_more, directory_added, settling_next}
 
 abbrev pub Slots : Type 0
@@ -140,10 +140,11 @@ settling_run trees slots now old (entry ∷ run) rest closed filled h =
 -- ---- what is known of a directory stays
 
 pub base_shorter : (trees : List Files) (table : List Entry) (base rest : List ℕ) → IsBase trees table base → IsShorter rest base → IsBase trees table rest
-base_shorter trees table base rest h s =
-    (old_shorter table base rest h.0 s,
-      ap (λ v. list_all is_filled (listed trees (stood table v))) s.1 ∙ ap (λ v. list_all is_filled (listed trees v)) (stood_drop table base s.0)
-      ∙ filled_drop trees (stood table base) s.0 h.1)
+base_shorter trees table base rest h s = (
+  old_shorter table base rest h.0 s,
+  ap (λ v. list_all is_filled (listed trees (stood table v))) s.1 ∙ ap (λ v. list_all is_filled (listed trees v)) (stood_drop table base s.0)
+      ∙ filled_drop trees (stood table base) s.0 h.1,
+)
   where
     filled_drop : (trees : List Files) (entries : List Entry) (n : ℕ) → list_all is_filled (listed trees entries) ≡ true → list_all is_filled (listed trees (drop n entries)) ≡ true
     filled_drop trees [] zero k = k
@@ -157,7 +158,7 @@ base_kept before after base stays h =
     let entries = stood before.table base in (
       (within_kept before.table after.table base stays.0 h.0.0, ap are_in_order same ∙ h.0.1),
       ap (λ v. list_all is_filled (listed after.trees v)) same
-      ∙ ap (list_all is_filled) (listed_kept before.trees after.trees entries stays.1 (all_earlier before.trees entries h.1)) ∙ h.1,
+          ∙ ap (list_all is_filled) (listed_kept before.trees after.trees entries stays.1 (all_earlier before.trees entries h.1)) ∙ h.1,
     )
 
 pub slots_kept : (before after : World) (rest : Rest) → StaysIn before after → are_within (length before.table) rest.base ≡ true → slots_in after.table rest ≡ slots_in before.table rest
@@ -165,11 +166,11 @@ slots_kept before after rest stays h = ap (λ v. overlaid (slots_of v) rest.chan
 
 pub frame_kept : (before after : World) (top : Opened) → StaysIn before after → IsFrame before top → IsFrame after top
 frame_kept before after top stays h = (
-    base_kept before after top.rest.base stays h.0,
-    within_kept before.table after.table top.numbers stays.0 h.1,
-    ap (list_all (λ slot. is_based (length after.trees) slot.1)) (slots_kept before after top.rest stays h.0.0.0)
-    ∙ based_more (length before.trees) (length after.trees) (slots_in before.table top.rest) (kept_length before.trees after.trees stays.1) h.2,
-  )
+  base_kept before after top.rest.base stays h.0,
+  within_kept before.table after.table top.numbers stays.0 h.1,
+  ap (list_all (λ slot. is_based (length after.trees) slot.1)) (slots_kept before after top.rest stays h.0.0.0)
+      ∙ based_more (length before.trees) (length after.trees) (slots_in before.table top.rest) (kept_length before.trees after.trees stays.1) h.2,
+)
 
 pub stays_refl : (world : World) → StaysIn world world
 stays_refl world = (kept_refl world.table, kept_refl world.trees)
@@ -194,23 +195,23 @@ IsTaken world old new all rest =
 pub run_taken : (world : World) (old new run : List ℕ) (all rest : Slots) → IsClosedPool world.trees → are_within (length world.table) old ≡ true → IsBase world.trees world.table run
     → new ≡ old ++ run → all ≡ slots_of (stood world.table run) ++ rest → IsTaken world old new all rest
 run_taken world old new run all rest closed within base taken whole = (
-    ap (are_within (length world.table)) taken ∙ list_all-append (λ n. nat_lt n (length world.table)) old run ∙ and_from _ _ within base.0.0,
-    λ trees slots h.
-    let P : Slots → Type 0 = λ v. IsSettling trees slots world.trees (stood world.table old) v in
-    let Q : List Entry → Type 0 = λ v. IsSettling trees slots world.trees v rest in
-    subst Q (sym (ap (stood world.table) taken ∙ stood_append world.table old run))
-    (settling_run trees slots world.trees (stood world.table old) (stood world.table run) rest closed base.1 (subst P whole h)),
-    λ h. (and_parts (list_all (λ slot. is_based (length world.trees) slot.1) (slots_of (stood world.table run))) _
-    (sym (list_all-append (λ slot. is_based (length world.trees) slot.1) (slots_of (stood world.table run)) rest)
-    ∙ ap (list_all (λ slot. is_based (length world.trees) slot.1)) (sym whole) ∙ h)).1,
-    (let size = ap heft whole in omega (arith, size, heft_append (slots_of (stood world.table run)) rest)),
-  )
+  ap (are_within (length world.table)) taken ∙ list_all-append (λ n. nat_lt n (length world.table)) old run ∙ and_from _ _ within base.0.0,
+  λ trees slots h.
+      let P : Slots → Type 0 = λ v. IsSettling trees slots world.trees (stood world.table old) v in
+      let Q : List Entry → Type 0 = λ v. IsSettling trees slots world.trees v rest in
+      subst Q (sym (ap (stood world.table) taken ∙ stood_append world.table old run))
+      (settling_run trees slots world.trees (stood world.table old) (stood world.table run) rest closed base.1 (subst P whole h)),
+  λ h. (and_parts (list_all (λ slot. is_based (length world.trees) slot.1) (slots_of (stood world.table run))) _
+      (sym (list_all-append (λ slot. is_based (length world.trees) slot.1) (slots_of (stood world.table run)) rest)
+      ∙ ap (list_all (λ slot. is_based (length world.trees) slot.1)) (sym whole) ∙ h)).1,
+  (let size = ap heft whole in omega (arith, size, heft_append (slots_of (stood world.table run)) rest)),
+)
 
 base_take : (trees : List Files) (table : List Entry) (base : List ℕ) (n : ℕ) → IsBase trees table base → IsBase trees table (take n base)
 base_take trees table base n h = (
-    (all_take (λ number. nat_lt number (length table)) base n h.0.0, ap are_in_order (stood_take table base n) ∙ order_take (stood table base) n h.0.1),
-    ap (λ v. list_all is_filled (listed trees v)) (stood_take table base n) ∙ filled_take (stood table base) n h.1,
-  )
+  (all_take (λ number. nat_lt number (length table)) base n h.0.0, ap are_in_order (stood_take table base n) ∙ order_take (stood table base) n h.0.1),
+  ap (λ v. list_all is_filled (listed trees v)) (stood_take table base n) ∙ filled_take (stood table base) n h.1,
+)
   where
     order_take : (entries : List Entry) (m : ℕ) → are_in_order entries ≡ true → are_in_order (take m entries) ≡ true
     order_take [] zero k = k
@@ -232,11 +233,12 @@ base_take trees table base n h = (
 pub turn_taken : (world : World) (old new base rest key : List ℕ) (change : Option Slot) (changes : List (List ℕ × Option Slot)) → IsClosedPool world.trees
     → are_within (length world.table) old ≡ true → IsBase world.trees world.table base → is_below key changes ≡ true → IsPassed world.table old new base rest key
     → IsTaken world old new (overlaid (slots_of (stood world.table base)) ((key, change) ∷ changes)) (change_entry key change ++ overlaid (slots_of (stood world.table rest)) changes)
-      × IsBase world.trees world.table rest
-turn_taken world old new base rest key change changes closed within known below p =
-    (run_taken world old new (take p.0 base) (overlaid (slots_of (stood world.table base)) ((key, change) ∷ changes)) (change_entry key change ++ overlaid (slots_of (stood world.table rest)) changes)
-    closed within (base_take world.trees world.table base p.0 known) p.1 (taken_slots world.table old new base rest key changes change known.0 below p),
-      base_shorter world.trees world.table base rest known p.5)
+    × IsBase world.trees world.table rest
+turn_taken world old new base rest key change changes closed within known below p = (
+  run_taken world old new (take p.0 base) (overlaid (slots_of (stood world.table base)) ((key, change) ∷ changes)) (change_entry key change ++ overlaid (slots_of (stood world.table rest)) changes)
+      closed within (base_take world.trees world.table base p.0 known) p.1 (taken_slots world.table old new base rest key changes change known.0 below p),
+  base_shorter world.trees world.table base rest known p.5,
+)
 
 -- what is known where a table has grown
 abbrev IsEntered : World → World → Rest → List ℕ → Type 0
@@ -244,20 +246,23 @@ IsEntered now next rest numbers =
     (IsBase next.trees next.table rest.base × (are_within (length next.table) numbers ≡ true) × (list_all (λ slot. is_based (length next.trees) slot.1) (slots_in next.table rest) ≡ true))
     × (heft (slots_in next.table rest) ≡ heft (slots_in now.table rest))
     × ((trees : List Files) (slots : Slots) (entries : List Entry) → stood next.table numbers ≡ entries → IsSettling trees slots now.trees entries (slots_in now.table rest)
-      → IsSettling trees slots next.trees (stood next.table numbers) (slots_in next.table rest))
+    → IsSettling trees slots next.trees (stood next.table numbers) (slots_in next.table rest))
 
 pub entered : (now next : World) (rest : Rest) (numbers : List ℕ) → StaysIn now next → next.trees ≡ now.trees → IsBase now.trees now.table rest.base → are_within (length next.table) numbers ≡ true
     → list_all (λ slot. is_based (length now.trees) slot.1) (slots_in now.table rest) ≡ true → IsEntered now next rest numbers
 entered now next rest numbers stays trees base within based =
     let same : slots_in next.table rest ≡ slots_in now.table rest = slots_kept now next rest stays base.0.0 in (
-      (base_kept now next rest.base stays base, within,
-        ap (λ (v : List Files). list_all (λ slot. is_based (length v) slot.1) (slots_in next.table rest)) trees ∙ ap (list_all (λ slot. is_based (length now.trees) slot.1)) same ∙ based),
+      (
+        base_kept now next rest.base stays base,
+        within,
+        ap (λ (v : List Files). list_all (λ slot. is_based (length v) slot.1) (slots_in next.table rest)) trees ∙ ap (list_all (λ slot. is_based (length now.trees) slot.1)) same ∙ based,
+      ),
       ap heft same,
       λ start slots entries e h.
-      let P : List Entry → Type 0 = λ v. IsSettling start slots now.trees v (slots_in now.table rest) in
-      let Q : Slots → Type 0 = λ v. IsSettling start slots now.trees (stood next.table numbers) v in
-      let R : List Files → Type 0 = λ v. IsSettling start slots v (stood next.table numbers) (slots_in next.table rest) in
-      subst R (sym trees) (subst Q (sym same) (subst P (sym e) h)),
+          let P : List Entry → Type 0 = λ v. IsSettling start slots now.trees v (slots_in now.table rest) in
+          let Q : Slots → Type 0 = λ v. IsSettling start slots now.trees (stood next.table numbers) v in
+          let R : List Files → Type 0 = λ v. IsSettling start slots v (stood next.table numbers) (slots_in next.table rest) in
+          subst R (sym trees) (subst Q (sym same) (subst P (sym e) h)),
     )
 
 -- all keys of a map come behind the one that was the first
@@ -307,9 +312,19 @@ chain_pop start files [] outer now inner h =
     let P : World → Type 0 = λ v. IsSettling start.trees h.0 v.trees (stood v.table outer.numbers) ((outer.inside, Directory h.2 h.3) ∷ slots_in v.table outer.rest) in
     let Q : World → Type 0 = λ v. IsFrame v outer in
     let R : World → Type 0 = λ v. StaysIn start v in
-    let same : h.1 ≡ now = h.8.0 in
-    (start, files, h.0, h.2, h.3, (refl, refl), h.4, subst P same h.5, subst Q same h.6, subst R same h.7,
-      ap (λ (v : World). edited (base_files v.trees h.2) h.3) (sym same) ∙ h.8.1)
+    let same : h.1 ≡ now = h.8.0 in (
+      start,
+      files,
+      h.0,
+      h.2,
+      h.3,
+      (refl, refl),
+      h.4,
+      subst P same h.5,
+      subst Q same h.6,
+      subst R same h.7,
+      ap (λ (v : World). edited (base_files v.trees h.2) h.3) (sym same) ∙ h.8.1,
+    )
 chain_pop start files (first ∷ opened) outer now inner h =
     let last = chain_pop h.1 (edited (base_files h.1.trees h.2) h.3) opened outer now inner h.8 in
     (last.0, last.1, last.2, last.3, last.4, (h.0, h.1, h.2, h.3, h.4, h.5, h.6, h.7, last.5), last.6, last.7, last.8, last.9, last.10)
@@ -353,10 +368,16 @@ stacked_base start files below now next old top base pending h go =
 pub stacked_push : (start : World) (files : Files) (below : List Opened) (now next : World) (old top inner : Opened) (base : Option ℕ) (pending : List Edit) → IsStacked start files below now old
     → IsAdvance now next old top (Some (base, pending)) → IsNew next (edited (base_files next.trees base) pending) inner → IsStacked start files (below ++ top ∷ []) next inner
 stacked_push start files below now next old top inner base pending h go new =
-    let made = edited (base_files next.trees base) pending in
-    (next, made, slots_in next.table inner.rest,
+    let made = edited (base_files next.trees base) pending in (
+      next,
+      made,
+      slots_in next.table inner.rest,
       chain_push start files below h.0 h.1 top h.2 next base pending h.3 h.4 (go.0 h.0.trees h.2 h.5) go.1 (stays_trans h.0 now next h.7 go.2),
-      new.0, new_settling next made inner new, new_frame next made inner new, stays_refl next)
+      new.0,
+      new_settling next made inner new,
+      new_frame next made inner new,
+      stays_refl next,
+    )
 
 pub stacked_made : (start : World) (files : Files) (below : List Opened) (now next : World) (old top : Opened) → IsStacked start files below now old → IsAdvance now next old top None
     → slots_in next.table top.rest ≡ [] → is_node next.trees (stood next.table top.numbers) ≡ true
@@ -374,6 +395,19 @@ stacked_end start files below now next old top h go spent none =
     let R : Files → Type 0 = λ v. IsMade start.trees next.trees v (stood next.table top.numbers) in
     subst R (sym here.1) (subst Q (sym here.0) (settling_made h.0.trees h.1 h.2 next.trees (stood next.table top.numbers) h.4 (subst P spent (go.0 h.0.trees h.2 h.5))))
 
+-- a tree more leaves the entries
+pub tree_stays : (next closed : World) → take (length next.trees) closed.trees ≡ next.trees → closed.table ≡ next.table → StaysIn next closed
+tree_stays next closed kept table =
+    let T : List Entry → Type 0 = λ v. take (length next.table) v ≡ next.table in
+    (subst T (sym table) (kept_refl next.table), kept)
+
+pub stacked_under : (start : World) (files : Files) (below less : List Opened) (now later : World) (top outer : Opened) → IsStacked start files below now top → below ≡ less ++ outer ∷ []
+    → StaysIn now later → are_within (length later.table) outer.numbers ≡ true
+stacked_under start files below less now later top outer h parts stays =
+    let C : List Opened → Type 0 = λ v. Chain start files v h.0 h.1 in
+    let low = chain_pop start files less outer h.0 h.1 (subst C parts h.3) in
+    within_kept h.0.table later.table outer.numbers (stays_trans h.0 now later h.7 stays).0 low.8.1
+
 -- the directory on top is over: its tree is there, and the one below it has an entry more
 pub stacked_pop : (start : World) (files : Files) (below less : List Opened) (now next closed last : World) (old top outer after : Opened) (number : Option ℕ)
     → IsStacked start files below now old → IsAdvance now next old top None → slots_in next.table top.rest ≡ [] → below ≡ less ++ outer ∷ []
@@ -385,8 +419,7 @@ stacked_pop start files below less now next closed last old top outer after numb
     let low = chain_pop start files less outer h.0 h.1 (subst C parts h.3) in
     let P : Slots → Type 0 = λ v. IsSettling h.0.trees h.2 next.trees (stood next.table top.numbers) v in
     let settled = settling_closed h.0.trees h.1 h.2 next.trees closed.trees (stood next.table top.numbers) number h.4 (subst P spent (go.0 h.0.trees h.2 h.5)) done in
-    let T : List Entry → Type 0 = λ v. take (length next.table) v ≡ next.table in
-    let to_closed : StaysIn next closed = (subst T (sym table) (kept_refl next.table), kept) in
+    let to_closed : StaysIn next closed = tree_stays next closed kept table in
     let from : StaysIn h.0 closed = stays_trans h.0 next closed (stays_trans h.0 now next h.7 go.2) to_closed in
     let whole : StaysIn h.0 last = stays_trans h.0 closed last from stays in
     let inner : h.1 ≡ edited (base_files h.0.trees low.3) low.4 = sym low.10 in

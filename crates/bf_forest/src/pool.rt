@@ -264,7 +264,12 @@ impl Trees {
     }
 
     /// Adds an entry to those of a directory.
-    fn enter(&mut self, numbers: &mut Numbers, key: Bytes, kind: EntryKind) -> Result<(), AllocError>
+    fn enter(
+        &mut self,
+        numbers: &mut Numbers,
+        key: Bytes,
+        kind: EntryKind,
+    ) -> Result<(), AllocError>
         requires { IsTrue (are_within (length self.old.table) numbers.old) }
         ensures entry { OnOk result (stood self.new.table numbers.new ≡ stood self.old.table numbers.old ++ record { key = key; kind = kind } ∷ []) }
         ensures within { OnOk result (IsTrue (are_within (length self.new.table) numbers.new)) }
@@ -276,7 +281,12 @@ impl Trees {
     }
 
     /// Adds the entry of a directory to those of another one, if it has files.
-    fn enter_directory(&mut self, numbers: &mut Numbers, key: Bytes, number: Option<usize>) -> Result<(), AllocError>
+    fn enter_directory(
+        &mut self,
+        numbers: &mut Numbers,
+        key: Bytes,
+        number: Option<usize>,
+    ) -> Result<(), AllocError>
         requires { IsTrue (are_within (length self.old.table) numbers.old) }
         ensures entry { OnOk result (stood self.new.table numbers.new ≡ with_directory (stood self.old.table numbers.old) key number) }
         ensures within { OnOk result (IsTrue (are_within (length self.new.table) numbers.new)) }
@@ -355,7 +365,12 @@ impl Trees {
         ensures some { IfOk result HasSome }
         ensures changes { top.new.rest.changes ≡ top.old.rest.changes }
     {
-        take_below(&self.table, &mut top.numbers, &mut top.rest.base, key.as_slice())?;
+        take_below(
+            &self.table,
+            &mut top.numbers,
+            &mut top.rest.base,
+            key.as_slice(),
+        )?;
         match change {
             None => Ok(None),
             Some(Slot::File(mode, oid)) => {
@@ -374,7 +389,10 @@ impl Trees {
     }
 
     /// Takes entries up to the next directory that is to be made first, and answers what it is made of.
-    fn advance<'a>(&mut self, top: &mut Opened<'a>) -> Result<Option<(Option<usize>, Pending<'a>)>, AllocError>
+    fn advance<'a>(
+        &mut self,
+        top: &mut Opened<'a>,
+    ) -> Result<Option<(Option<usize>, Pending<'a>)>, AllocError>
         requires { IsFrame self.old top.old }
         ensures advanced { IfOk result (Advances self.old self.new top.old top.new) }
         ensures frame { OnOk result (IsFrame self.new top.new) }

@@ -151,7 +151,13 @@ fn remove_inside<'a>(
     Ok(())
 }
 
-fn set<'a>(table: &Table, rest: &mut Rest<'a>, cut: &Cut<'a>, mode: Mode, oid: Oid) -> Result<(), AllocError>
+fn set<'a>(
+    table: &Table,
+    rest: &mut Rest<'a>,
+    cut: &Cut<'a>,
+    mode: Mode,
+    oid: Oid,
+) -> Result<(), AllocError>
     requires old { IsOld table.now rest.old.base }
     requires cut { cut.now ≡ edit.Set (path_in cut.now) mode oid }
     ensures changes { OnOk result (rest.new.changes.entries
@@ -201,7 +207,11 @@ fn edit_rest<'a>(table: &Table, rest: &mut Rest<'a>, cut: &Cut<'a>) -> Result<()
 }
 
 /// Makes edits, one after another.
-pub(crate) fn edit_all<'a>(table: &Table, rest: &mut Rest<'a>, edits: &[Cut<'a>]) -> Result<(), AllocError>
+pub(crate) fn edit_all<'a>(
+    table: &Table,
+    rest: &mut Rest<'a>,
+    edits: &[Cut<'a>],
+) -> Result<(), AllocError>
     requires { IsOld table.now rest.old.base }
     ensures slots { OnOk result (slots_in table.now rest.new ≡ fold (λ slots edit. slots_after edit slots) (slots_in table.now rest.old) edits.now) }
     ensures paths { OnOk result (IsTrue (list_all has_path edits.now)) }

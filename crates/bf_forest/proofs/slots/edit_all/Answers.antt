@@ -1,4 +1,4 @@
-use Rattle.bf_forest.proofs.Placed.{old_shorter, shorter_trans}
+use Rattle.bf_forest.proofs.Placed.{old_shorter}
 use Rattle.bf_forest.proofs.slots.edit_all.Goals as goal
 
 pub edit_rest-requires : goal.edit_rest-requires

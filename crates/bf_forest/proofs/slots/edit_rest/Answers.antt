@@ -1,4 +1,4 @@
-use Rattle.std.proofs.Common.{◌≡◌, [], List, ℕ, length, drop, sym, ap, ◌∙◌}
+use Rattle.std.proofs.Common.{length, sym, ap, ◌∙◌}
 use Rattle.bf_forest.specs.Cuts.{path_in, with_path}
 use Rattle.bf_forest.specs.Nodes.{stood}
 use Rattle.bf_forest.specs.Overlays.{overlaid}

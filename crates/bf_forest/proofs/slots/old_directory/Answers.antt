@@ -1,4 +1,4 @@
-use Rattle.std.proofs.Common.{◌≡◌, sym, ap, ◌∙◌}
+use Rattle.std.proofs.Common.{sym, ap, ◌∙◌}
 use Rattle.bf_forest.specs.Slots.{directory_of}
 use Rattle.bf_forest.proofs.Placed.{found_none, found_there}
 use Rattle.bf_forest.proofs.Resting.{kind_directory, kind_file}

@@ -1,6 +1,4 @@
-use Rattle.std.proofs.Common.{◌≡◌, Option, Some, None, List, ◌∷◌, [], sym, ap, ◌∙◌}
-use Rattle.bf_forest.specs.declared.slots.Slot.{Slot}
-use Rattle.bf_forest.specs.declared.slots.Slot.TheVariants.{File, Directory}
+use Rattle.std.proofs.Common.{◌≡◌, Some, None, List, sym, ap, ◌∙◌}
 use Rattle.bf_forest.specs.declared.edits.Edit.{Edit}
 use Rattle.bf_forest.specs.Nodes.{stood}
 use Rattle.bf_forest.specs.Rests.{old_directory}

@@ -1,4 +1,4 @@
-use Rattle.std.proofs.Common.{◌≡◌, ◌++◌, List, ℕ, length, take, drop, sym, ap, ◌∙◌, subst}
+use Rattle.std.proofs.Common.{List, ℕ, drop, sym, ap, ◌∙◌, subst}
 use Rattle.bf_forest.specs.Rests.{IsOld, IsPassed}
 use Rattle.bf_forest.proofs.Placed.{passed}
 use Rattle.bf_forest.proofs.tail.take_below.Goals as goal

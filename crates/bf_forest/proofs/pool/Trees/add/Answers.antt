@@ -6,7 +6,7 @@ use Rattle.bf_forest.specs.declared.nodes.Entry.{Entry}
 use Rattle.bf_forest.specs.declared.pool.Kept.{Kept}
 use Rattle.bf_forest.specs.Files.{Files}
 use Rattle.bf_forest.specs.Index.{key_of, IsIndexed}
-use Rattle.bf_forest.specs.Nodes.{World, Node, node_of, nodes_of, stood, files_in, trees_from, AreNodes, IsPosition, are_within, are_kept_within}
+use Rattle.bf_forest.specs.Nodes.{World, Node, nodes_of, stood, files_in, trees_from, IsPosition, are_within, are_kept_within}
 use Rattle.bf_forest.specs.Trees.{entries_of, tree_name, are_same, files_at}
 use Rattle.bf_forest.proofs.Indexed.{IsIndexed-insert, IsIndexed-push}
 use Rattle.bf_forest.proofs.Joining.{entries_of-push, with_tree-new, at_push, take_front}

@@ -13,8 +13,8 @@ abbrev pub invariant-loop-key : goal.invariant-loop-key
 invariant-loop-key l = record {
   frame : IsFrame l.self l.top;
   settling : (trees : List Files) (slots : Slots)
-    → IsSettling trees slots l.initial.self.trees (stood l.initial.self.table l.initial.top.numbers) (slots_in l.initial.self.table l.initial.top.rest)
-    → IsSettling trees slots l.self.trees (stood l.self.table l.top.numbers) (slots_in l.self.table l.top.rest);
+      → IsSettling trees slots l.initial.self.trees (stood l.initial.self.table l.initial.top.numbers) (slots_in l.initial.self.table l.initial.top.rest)
+      → IsSettling trees slots l.self.trees (stood l.self.table l.top.numbers) (slots_in l.self.table l.top.rest);
   kept : StaysIn l.initial.self l.self;
   trees : l.self.trees ≡ l.initial.self.trees;
   heft : heft (slots_in l.self.table l.top.rest) ≤ heft (slots_in l.initial.self.table l.initial.top.rest);

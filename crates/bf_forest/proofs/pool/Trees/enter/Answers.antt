@@ -1,4 +1,4 @@
-use Rattle.std.proofs.Common.{◌≡◌, ℕ, List, [], ◌∷◌, ◌++◌, true, length, take, sym, ap, ◌∙◌, subst}
+use Rattle.std.proofs.Common.{◌≡◌, List, [], length, take, sym, ap, ◌∙◌, subst}
 use Rattle.bf_forest.specs.declared.nodes.Entry.{Entry}
 use Rattle.bf_forest.specs.Index.{IsIndexed}
 use Rattle.bf_forest.specs.Nodes.{World, Node, nodes_of, trees_from, AreNodes, stood, are_within}

@@ -1,4 +1,4 @@
-use Rattle.std.proofs.Common.{◌≡◌, ℕ, ◌+◌, ◌-◌, ◌<◌, nat_lt, List, [], ◌∷◌, ◌++◌, true, ◌&&◌, length, take, refl, sym, ap, ◌∙◌, subst, length-append, arith}
+use Rattle.std.proofs.Common.{◌≡◌, ℕ, ◌+◌, ◌-◌, ◌<◌, nat_lt, List, [], ◌∷◌, ◌++◌, length, take, refl, sym, ap, ◌∙◌, subst, length-append, arith}
 use Rattle.std.specs.List.{list_all}
 use Rattle.std.proofs.lemmas.Bool.{and_parts, and_from, ltb-true}
 use Rattle.std.proofs.lemmas.List.{nil_from_length, append-nil}
@@ -49,7 +49,6 @@ returns-in_default-pop c =
     sym (append-nil files)
     ∙ sym (ap (λ v. files ++ lefts trees (levels_of table v) names (stood table rest)) no_level ∙ ap (λ v. files ++ files_in trees (stood table v)) no_rest)
     ∙ c.loop-entry.invariant.walked
-
 
 pub loop-entry-smaller-in_default : goal.loop-entry-smaller-in_default
 loop-entry-smaller-in_default c =
@@ -112,7 +111,6 @@ key-requires c =
     let P : List Entry → Type 0 = λ v. number < length v in
     subst P (sym same) (ltb-true number (length table) parts.0)
 
-
 pub kind-requires : goal.kind-requires
 kind-requires c =
     let now = c.args.self.now in
@@ -127,7 +125,6 @@ kind-requires c =
     let parts = and_parts (nat_lt number (length table)) (are_within (length table) others) (ap (are_within (length table)) (sym c.in-Some.ensures.cases.0) ∙ c.loop-entry.invariant.within) in
     let P : List Entry → Type 0 = λ v. number < length v in
     subst P (sym same) (ltb-true number (length table) parts.0)
-
 
 pub add_file-requires-clause-name : goal.add_file-requires-clause-name
 add_file-requires-clause-name c =
@@ -145,7 +142,6 @@ add_file-requires-clause-name c =
     let named : c.name_in-name.result.now ≡ name_in entry.key = c.name_in-name.ensures ∙ ap name_in c.key.ensures ∙ ap (λ (v : List Entry). name_in (entry_at v number).key) same in
     ap is_component named ∙ (and_parts (is_component (name_in entry.key)) _ (and_parts (is_good (length trees) entry) _ level.0).0).0
 
-
 pub loop-entry-smaller-in_ok-add_file-in-File : goal.loop-entry-smaller-in_ok-add_file-in-File
 loop-entry-smaller-in_ok-add_file-in-File c =
     let now = c.args.self.now in
@@ -160,7 +156,6 @@ loop-entry-smaller-in_ok-add_file-in-File c =
     let is : entry.kind ≡ File c.in-File.mode c.in-File.oid = ap (λ (v : List Entry). (entry_at v number).kind) (sym same) ∙ sym c.kind.ensures ∙ c.in-File.is in
     let falls = falls_file trees (stood table rest) (stood table others) entry c.in-File.mode c.in-File.oid first is in
     omega (arith, falls)
-
 
 pub loop-entry-preserved-in_ok-add_file-in-File : goal.loop-entry-preserved-in_ok-add_file-in-File
 loop-entry-preserved-in_ok-add_file-in-File c =
@@ -210,7 +205,6 @@ node-requires c =
     let P : List Entry → Type 0 = IsLevel trees in
     let level : IsLevel trees (entry ∷ stood table others) = subst P first c.loop-entry.invariant.level in
     directory_earlier (length trees) entry c.in-Directory.number (and_parts (is_good (length trees) entry) _ level.0).0 is
-
 
 pub loop-entry-smaller : goal.loop-entry-smaller
 loop-entry-smaller c =

@@ -50,9 +50,12 @@ returns-clause-number c =
     let view : trees_from [] nodes ≡ trees = ap (λ (w : World). w.trees) c.self.view_is in
     let less = ltb-true c.in-Some.number (length trees) (sym (ap (is_base (length trees)) c.in-Some.is) ∙ c.requires) in
     let at = numbered_in nodes trees c.in-Some.number (node_of table c.index.result.now) c.self.invariant.2 view less (node-at table kept c.in-Some.number c.index.result.now c.index.ensures) in
-    let files = ap (base_files trees) c.in-Some.is in
-    (less, sym files, ap has_some (files ∙ sym at.0) ∙ some_files trees (stood table c.index.result.now.numbers) at.1
-      (λ e. iff_false c.is_empty.ensures c.if-is_empty.false (stood_none table c.index.result.now.numbers e)))
+    let files = ap (base_files trees) c.in-Some.is in (
+      less,
+      sym files,
+      ap has_some (files ∙ sym at.0) ∙ some_files trees (stood table c.index.result.now.numbers) at.1
+          (λ e. iff_false c.is_empty.ensures c.if-is_empty.false (stood_none table c.index.result.now.numbers e)),
+    )
 
 pub returns-clause-joined : goal.returns-clause-joined
 returns-clause-joined c =

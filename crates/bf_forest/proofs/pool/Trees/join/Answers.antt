@@ -1,5 +1,4 @@
-use Rattle.std.proofs.Common.{◌≡◌, length, sym, ap, ◌∙◌}
-use Rattle.bf_forest.specs.Files.{edited}
+use Rattle.std.proofs.Common.{sym, ap, ◌∙◌}
 use Rattle.bf_forest.specs.Trees.{with_directories, files_at}
 use Rattle.bf_forest.proofs.Settling.{edited-nil, no_edits}
 use Rattle.bf_forest.proofs.pool.Trees.join.Goals as goal

@@ -1,7 +1,7 @@
-use Rattle.std.proofs.Common.{◌≡◌, [], length, sym, ap, ◌∙◌}
-use Rattle.bf_forest.specs.Nodes.{World, node_of, nodes_of, trees_from, stood, files_in, is_node, are_within}
+use Rattle.std.proofs.Common.{◌≡◌, [], sym, ap, ◌∙◌}
+use Rattle.bf_forest.specs.Nodes.{World, node_of, nodes_of, trees_from}
 use Rattle.bf_forest.proofs.Pooled.{node_within, numbered_in}
-use Rattle.bf_forest.proofs.Tabled.{length-nodes, node-at, kept_within_at}
+use Rattle.bf_forest.proofs.Tabled.{length-nodes, node-at}
 use Rattle.bf_forest.proofs.pool.Trees.name.Goals as goal
 
 pub index-requires : goal.index-requires

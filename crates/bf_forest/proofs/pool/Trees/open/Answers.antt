@@ -1,11 +1,10 @@
-use Rattle.std.proofs.Common.{◌≡◌, ◌+◌, ◌*◌, ◌≤◌, ℕ, List, [], true, length, refl, sym, ap, ◌∙◌, subst, arith}
+use Rattle.std.proofs.Common.{◌≡◌, ◌+◌, ◌*◌, ◌≤◌, List, true, length, sym, ap, ◌∙◌, subst, arith}
 use Rattle.std.specs.List.{list_all, fold}
 use Rattle.bf_forest.specs.declared.nodes.Entry.{Entry}
-use Rattle.bf_forest.specs.declared.slots.Slot.{Slot}
 use Rattle.bf_forest.specs.Files.{edited}
 use Rattle.bf_forest.specs.Listing.{is_listing, shown}
 use Rattle.bf_forest.specs.Nodes.{World, nodes_of, files_in, is_node, stood}
-use Rattle.bf_forest.specs.Opened.{IsOpened, IsBase, heft, weight}
+use Rattle.bf_forest.specs.Opened.{IsOpened, heft, weight}
 use Rattle.bf_forest.specs.Overlays.{overlaid}
 use Rattle.bf_forest.specs.Rests.{IsOld, slots_in}
 use Rattle.bf_forest.specs.Slots.{base_files, contents, slots_after, slots_of, is_slot, longest}

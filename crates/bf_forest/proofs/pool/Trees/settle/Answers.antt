@@ -1,16 +1,14 @@
-use Rattle.std.proofs.Common.{◌≡◌, ℕ, ◌<◌, List, [], ◌∷◌, ◌++◌, true, length, take, Option, Some, None, refl, sym, ap, ◌∙◌, subst, arith}
+use Rattle.std.proofs.Common.{◌≡◌, ℕ, ◌<◌, List, [], length, Option, Some, None, sym, ap, ◌∙◌, subst, arith}
 use Rattle.std.proofs.lemmas.List.{nil_from_length}
 use Rattle.bf_forest.specs.declared.edits.Edit.{Edit}
-use Rattle.bf_forest.specs.declared.nodes.Entry.{Entry}
 use Rattle.bf_forest.specs.declared.opened.Opened.{Opened}
-use Rattle.bf_forest.specs.Files.{Files, edited}
-use Rattle.bf_forest.specs.Nodes.{World, StaysIn, stood, are_within}
+use Rattle.bf_forest.specs.Files.{edited}
 use Rattle.bf_forest.specs.Opened.{IsOpened, IsSpent, inner_weight, HasSome, heft, weight}
 use Rattle.bf_forest.specs.Rests.{slots_in}
 use Rattle.bf_forest.specs.Slots.{base_files}
 use Rattle.bf_forest.specs.Trees.{files_at}
-use Rattle.bf_forest.proofs.Joining.{kept_refl, kept_trans}
-use Rattle.bf_forest.proofs.Walking.{IsAdvance, IsStacked, stays_trans, stacked_start, stacked_stays, stacked_base, stacked_push, stacked_made, stacked_end, stacked_pop, height, height_more, stacked_height}
+use Rattle.bf_forest.proofs.Joining.{kept_trans}
+use Rattle.bf_forest.proofs.Walking.{IsAdvance, IsStacked, stays_trans, stacked_start, stacked_stays, stacked_base, stacked_push, stacked_made, stacked_end, stacked_under, stacked_pop, tree_stays, height, height_more, stacked_height}
 use Rattle.bf_forest.proofs.pool.Trees.settle.Goals as goal
 
 pub loop-top-init : goal.loop-top-init
@@ -32,7 +30,23 @@ returns-in_err-base-clause-kept c =
 
 pub open-requires-in-Some : goal.open-requires-in-Some
 open-requires-in-Some c =
-    ?
+    let start = c.args.self.now in
+    let files = edited (files_at start.trees c.args.tree) c.args.edits.now in
+    let below = c.loop-top.below.items in
+    let now = c.loop-top.self in
+    let old = c.loop-top.top in
+    let next = c.advance.new.self in
+    let top = c.advance.new.top in
+    let h = c.loop-top.invariant in
+    let P : Option (Option ℕ × List Edit) → Type 0 = λ v. IsAdvance now next old top v in
+    let go : IsAdvance now next old top (Some (c.in-Some.base, c.in-Some.pending)) = subst P c.in-Some.is (c.in_ok-base.ensures.advanced, c.in_ok-base.ensures.frame, c.advance.ensures.kept, c.advance.ensures.trees) in
+    let H : Option (Option ℕ × List Edit) → Type 0 = HasSome in
+    let some : 0 < length c.in-Some.pending = subst H c.in-Some.is c.in_ok-base.ensures.some in
+    let size = ap length c.as_slice.ensures in
+    record {
+      base = stacked_base start files below now next old top c.in-Some.base c.in-Some.pending h go;
+      some = omega (arith, some, size);
+    }
 
 pub returns-in_err-inner-in-Some-clause-kept : goal.returns-in_err-inner-in-Some-clause-kept
 returns-in_err-inner-in-Some-clause-kept c =
@@ -142,7 +156,17 @@ returns-in_err-number-in-None-clause-kept c =
 
 pub wait_over-requires : goal.wait_over-requires
 wait_over-requires c =
-    ?
+    let start = c.args.self.now in
+    let files = edited (files_at start.trees c.args.tree) c.args.edits.now in
+    let below = c.loop-top.below.items in
+    let now = c.loop-top.self in
+    let old = c.loop-top.top in
+    let next = c.advance.new.self in
+    let top = c.advance.new.top in
+    let h = c.loop-top.invariant in
+    let closed = c.close.new.self in
+    let stays = stays_trans now next closed c.advance.ensures.kept (tree_stays next closed c.close.ensures.kept c.close.ensures.table) in
+    stacked_under start files below c.pop.new.self.items now closed old c.in-Some-pop.outer h c.in-Some-pop.ensures.items stays
 
 pub returns-in_err-wait_over-in-None-clause-kept : goal.returns-in_err-wait_over-in-None-clause-kept
 returns-in_err-wait_over-in-None-clause-kept c =
@@ -153,7 +177,23 @@ returns-in_err-wait_over-in-None-clause-kept c =
 
 pub loop-top-smaller : goal.loop-top-smaller
 loop-top-smaller c =
-    ?
+    let start = c.args.self.now in
+    let files = edited (files_at start.trees c.args.tree) c.args.edits.now in
+    let below = c.loop-top.below.items in
+    let now = c.loop-top.self in
+    let old = c.loop-top.top in
+    let next = c.advance.new.self in
+    let top = c.advance.new.top in
+    let h = c.loop-top.invariant in
+    let closed = c.close.new.self in
+    let last = c.wait_over.new.self in
+    let less = c.pop.new.self.items in
+    let outer = c.in-Some-pop.outer in
+    let stays = stays_trans now closed last (stays_trans now next closed c.advance.ensures.kept (tree_stays next closed c.close.ensures.kept c.close.ensures.table)) c.wait_over.ensures.kept in
+    let same = stacked_height start files below now last old h stays in
+    let list = ap (height last.table) c.in-Some-pop.ensures.items ∙ height_more last.table less outer in
+    let rest = ap (λ v. heft (slots_in last.table v)) c.in_ok-wait_over-in-None.ensures.rest in
+    omega (arith, same, list, rest)
 
 pub loop-top-preserved : goal.loop-top-preserved
 loop-top-preserved c =
@@ -172,4 +212,3 @@ loop-top-preserved c =
     stacked_pop start files below c.pop.new.self.items now next c.close.new.self c.wait_over.new.self old top c.in-Some-pop.outer c.wait_over.new.outer c.in_ok-number-in-None.number
     h go spent c.in-Some-pop.ensures.items c.in_ok-number-in-None.ensures.closed c.close.ensures.kept c.close.ensures.table
     c.in_ok-wait_over-in-None.ensures.entry c.in_ok-wait_over-in-None.ensures.within c.wait_over.ensures.kept c.wait_over.ensures.trees c.in_ok-wait_over-in-None.ensures.rest
-

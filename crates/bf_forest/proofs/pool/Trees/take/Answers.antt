@@ -1,11 +1,11 @@
-use Rattle.std.proofs.Common.{◌≡◌, ◌≤◌, ◌==◌, ◌++◌, ℕ, List, [], ◌∷◌, Option, Some, None, true, length, sym, ap, ◌∙◌, subst, arith}
+use Rattle.std.proofs.Common.{◌≡◌, ◌≤◌, ◌==◌, ◌++◌, ℕ, List, Option, Some, true, length, ap, ◌∙◌, subst, arith}
 use Rattle.std.specs.List.{list_all}
 use Rattle.std.proofs.lemmas.Bool.{and_parts}
 use Rattle.bf_forest.specs.declared.nodes.Entry.{Entry}
 use Rattle.bf_forest.specs.declared.slots.Rest.{Rest}
 use Rattle.bf_forest.specs.declared.slots.Slot.{Slot}
 use Rattle.bf_forest.specs.declared.slots.Slot.TheVariants.{File, Directory}
-use Rattle.bf_forest.specs.Nodes.{World, nodes_of, trees_from, stood, are_within}
+use Rattle.bf_forest.specs.Nodes.{World, nodes_of, stood}
 use Rattle.bf_forest.specs.Opened.{IsSettling, heft}
 use Rattle.bf_forest.specs.Overlays.{change_entry}
 use Rattle.bf_forest.specs.Rests.{IsPassed, slots_in, slots_with}

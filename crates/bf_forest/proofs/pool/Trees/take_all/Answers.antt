@@ -1,6 +1,6 @@
-use Rattle.std.proofs.Common.{◌≡◌, ◌++◌, List, [], ◌∷◌, ℕ, sym, ap, ◌∙◌, subst}
+use Rattle.std.proofs.Common.{◌≡◌, ◌++◌, [], sym, ap, ◌∙◌, subst}
 use Rattle.std.proofs.lemmas.List.{append-nil}
-use Rattle.bf_forest.specs.Nodes.{World, nodes_of, trees_from, stood}
+use Rattle.bf_forest.specs.Nodes.{World, nodes_of, stood}
 use Rattle.bf_forest.specs.Opened.{IsSettling}
 use Rattle.bf_forest.specs.Overlays.{overlaid}
 use Rattle.bf_forest.specs.Rests.{slots_in}
