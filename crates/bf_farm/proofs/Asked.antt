@@ -61,10 +61,10 @@ pub asks_claimed : (old new : BoardView) (p : ℕ) → old.core.farm.claims ≡ 
 asks_claimed old new p none does =
     let farm : Farm = record old.core.farm { claims = old.core.farm.claims ++ (record { worker = 0; place = p }) ∷ [] } in
     let is : farm ≡ new.core.farm = chosen (not (has_claim old.core.farm.claims 0) && is_best
-        (best_place old.core.setting old.core.farm) p) farm new.core.farm does.done in
+    (best_place old.core.setting old.core.farm) p) farm new.core.farm does.done in
     let best : is_best (best_place old.core.setting old.core.farm) p ≡ true =
     (and_parts (not (has_claim old.core.farm.claims 0)) (is_best (best_place old.core.setting old.core.farm) p)
-        (legal (not (has_claim old.core.farm.claims 0) && is_best (best_place old.core.setting old.core.farm) p) farm new.core.farm does.done)).1 in
+    (legal (not (has_claim old.core.farm.claims 0) && is_best (best_place old.core.setting old.core.farm) p) farm new.core.farm does.done)).1 in
     let waits = best_waits old.core.setting old.core.farm (run_of old.core) (run_of old.core).end p best in
     let same : waits.0 ≡ p = eqb-true waits.0 p (subst (λ (o : Option ℕ). is_best o p ≡ true) (asked_alone old.core waits.0 none waits.1) best) in
     let run_same : run_of new.core ≡ run_of old.core =
@@ -90,8 +90,11 @@ none_after_give old new p asking does =
 pub none_after_post : (old new : BoardView) (p : ℕ) (outcome : Outcome) → IsAsking old.core p → Does old new (events.Post 0 p outcome)
     → (new.core.farm ≡ unclaimed (set old.core.farm.table p (Some outcome)))
 none_after_post old new p outcome asking does =
-    sym (chosen (stands old.core.farm.claims 0 p) (record { table = set old.core.farm.table p
-        (Some outcome); claims = without old.core.farm.claims 0 }) new.core.farm does.done)
+    sym (chosen (stands old.core.farm.claims 0 p) (record {
+      table = set old.core.farm.table p
+          (Some outcome);
+      claims = without old.core.farm.claims 0;
+    }) new.core.farm does.done)
     ∙ ap (λ (cs : List Claim). record { table = set old.core.farm.table p (Some outcome); claims = without cs 0 }) asking.claims
 
 -- ---- what a pick of the calling thread leaves

@@ -30,8 +30,11 @@ chosen true x next e = cc
 chosen false x next e = cc
 
 at_most : (claims : List Claim) (worker : ℕ) → length (without claims worker) ≤ length claims
-at_most claims worker = omega (arith, length-filter_both (λ (c : Claim). not (c.worker == worker)) (λ (c : Claim). not (not (c.worker == worker)))
-    (λ c. refl) claims)
+at_most claims worker = omega (
+  arith,
+  length-filter_both (λ (c : Claim). not (c.worker == worker)) (λ (c : Claim). not (not (c.worker == worker)))
+      (λ c. refl) claims,
+)
 
 fewer_after : (b q s : Bool) (c : Claim) (rest claims : List Claim) → ((b && q) || s) ≡ true → length rest ≤ length claims
     → (s ≡ true → length rest < length claims) → length (cond (not b) (c ∷ rest) rest) < suc (length claims)
@@ -43,13 +46,13 @@ pub fewer : (claims : List Claim) (worker p : ℕ) → stands claims worker p �
 fewer [] worker p h = cc
 fewer (c ∷ claims) worker p h =
     fewer_after (c.worker == worker) (c.place == p) (stands claims worker p) c (without claims worker) claims h (at_most claims worker)
-        (fewer claims worker p)
+    (fewer claims worker p)
 
 pub claims_after_claim : (setting : Setting) (farm next : Farm) (worker p : ℕ) → step setting farm (events.Claim worker p) ≡ Some next
     → length next.claims ≡ length farm.claims + 1
 claims_after_claim setting farm next worker p e =
     let same = chosen (not (has_claim farm.claims worker) && is_best (best_place setting farm) p)
-        (record farm { claims = farm.claims ++ (record { worker = worker; place = p }) ∷ [] }) next e in
+    (record farm { claims = farm.claims ++ (record { worker = worker; place = p }) ∷ [] }) next e in
     subst (λ (f : Farm). length f.claims ≡ length farm.claims + 1) same
     (omega (arith, length-append farm.claims ((record { worker = worker; place = p }) ∷ [])))
 
@@ -90,10 +93,10 @@ pub claims_after : (setting : Setting) (farm next : Farm) (e : Event) → step s
 claims_after setting farm next (events.Claim worker p) h = let more = claims_after_claim setting farm next worker p h in omega arith
 claims_after setting farm next (events.Post worker p outcome) h =
     subst (λ (f : Farm). length f.claims ≤ length farm.claims + 1) (chosen (stands farm.claims worker p) _ next h)
-        (let most = at_most farm.claims worker in omega arith)
+    (let most = at_most farm.claims worker in omega arith)
 claims_after setting farm next (events.Give worker p) h =
     subst (λ (f : Farm). length f.claims ≤ length farm.claims + 1) (chosen (stands farm.claims worker p) _ next h)
-        (let most = at_most farm.claims worker in omega arith)
+    (let most = at_most farm.claims worker in omega arith)
 
 -- ---- claims given back
 

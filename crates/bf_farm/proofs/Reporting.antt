@@ -75,7 +75,7 @@ pub fault_told : (core : CoreView) (names : List Oid) (before now : ℕ) (failed
 fault_told core names before now failed result report ends is table = λ p e.
     fault_of core before now failed result p ends
     (ap (λ (t : List (Option Outcome)). (consumed core.setting t).end) (sym table) ∙ sym (end_reported core.setting core.first names report is) ∙ ap
-        (λ (x : Ending). end_of x) e)
+    (λ (x : Ending). end_of x) e)
 
 pub same_report : (old new : CoreView) (names : List Oid) (report : Report) → IsSameStart old new → IsReport new.setting new.first names report
     → IsReport old.setting old.first names report

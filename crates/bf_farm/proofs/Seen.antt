@@ -57,8 +57,18 @@ wanted_again core p consumed wanted = record {
 
 pub withdrawn_seen : (core : Machine) (workers : List ℕ) → IsConsumed core → machine.AreWithdrawn core workers → AreWithdrawn (view_of core) workers
 withdrawn_seen core workers consumed are worker = (
-  λ c. let w = (are worker).0 c in record { claim = w.claim; among = w.among; by = w.by; dropped = λ wanted. w.dropped
-      (wanted_again core w.claim.place consumed wanted) },
-  λ w. (are worker).1 (record { claim = w.claim; among = w.among; by = w.by; dropped = λ wanted. w.dropped
-      (wanted_seen core w.claim.place consumed wanted) }),
+  λ c. let w = (are worker).0 c in record {
+    claim = w.claim;
+    among = w.among;
+    by = w.by;
+    dropped = λ wanted. w.dropped
+        (wanted_again core w.claim.place consumed wanted);
+  },
+  λ w. (are worker).1 (record {
+    claim = w.claim;
+    among = w.among;
+    by = w.by;
+    dropped = λ wanted. w.dropped
+        (wanted_seen core w.claim.place consumed wanted);
+  }),
 )

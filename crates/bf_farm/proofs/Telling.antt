@@ -38,7 +38,7 @@ same_pairs known (a ∷ answers) (pair ∷ pairs) e h k =
     let tails : map (λ a. a.place) answers ≡ map (λ pair. pair.0) pairs = cc e in
     ap (λ (q : ℕ × Outcome). q ∷ map pair_of answers) (same_pair known a pair heads (h 0 a (omega arith)) (k 0 pair (omega arith)))
     ∙ ap (λ (l : List (ℕ × Outcome)). pair ∷ l) (same_pairs known answers pairs tails (λ i d l. h (suc i) d (omega arith))
-        (λ i d l. k (suc i) d (omega arith)))
+    (λ i d l. k (suc i) d (omega arith)))
 
 -- the answers of the used places are the pairs that the run used
 pub used_are : (setting : Setting) (table : List (Option Outcome)) (names : List Oid) (answers : List Answer)
@@ -88,7 +88,7 @@ pub used_known : (setting : Setting) (table : List (Option Outcome))
     → All (λ p. is_some (outcomes_of_table table p) ≡ true) (used_places (consumed setting table))
 used_known setting table =
     subst (λ (ps : List ℕ). All (λ p. is_some (outcomes_of_table table p) ≡ true) ps)
-        (listed (outcomes_of_table table) setting.graph (leg_of setting.leg) setting.start)
+    (listed (outcomes_of_table table) setting.graph (leg_of setting.leg) setting.start)
     (all_known (outcomes_of_table table) (consumed setting table).used (told (outcomes_of_table table) setting.graph (leg_of setting.leg) setting.start).used)
 
 all_left : (P : ℕ → Type 0) (xs ys : List ℕ) → All P (xs ++ ys) → All P xs
@@ -106,7 +106,7 @@ marked_known setting table other entries same is =
     subst (λ (t : List (Option Outcome)). All (λ p. is_some (outcomes_of_table t p) ≡ true) (marked_places entries)) (sym same)
     (subst (λ (es : List Entry). All (λ p. is_some (outcomes_of_table table p) ≡ true) (marked_places es)) (sym is)
     (all_left (λ p. is_some (outcomes_of_table table p) ≡ true) (marked_places (consumed setting table).entries)
-        (aborting_place (consumed setting table).end) (used_known setting table)))
+    (aborting_place (consumed setting table).end) (used_known setting table)))
 
 pub ending_known : (setting : Setting) (table other : List (Option Outcome)) (o : Option Ending) → other ≡ table → Tells o (consumed setting table).end
     → All (λ p. is_some (outcomes_of_table other p) ≡ true) (ending_place o)
@@ -114,19 +114,19 @@ ending_known setting table other o same tells =
     subst (λ (t : List (Option Outcome)). All (λ p. is_some (outcomes_of_table t p) ≡ true) (ending_place o)) (sym same)
     (subst (λ (ps : List ℕ). All (λ p. is_some (outcomes_of_table table p) ≡ true) ps) (sym (ending_tells o (consumed setting table).end tells))
     (all_right (λ p. is_some (outcomes_of_table table p) ≡ true) (marked_places (consumed setting table).entries)
-        (aborting_place (consumed setting table).end) (used_known setting table)))
+    (aborting_place (consumed setting table).end) (used_known setting table)))
 
 -- the answers of the places that entries and ending tell
 pub answers_of_run : (setting : Setting) (names : List Oid) (table other : List (Option Outcome)) (entries : List Entry) (o : Option Ending)
     (answers : List Answer) → other ≡ table
     → entries ≡ (consumed setting table).entries → Tells o (consumed setting table).end → AreAnswersAt names other
-        (marked_places entries ++ ending_place o) answers
+    (marked_places entries ++ ending_place o) answers
     → AreAnswersAt names table (used_places (consumed setting table)) answers
 answers_of_run setting names table other entries o answers same is tells h =
     subst (λ (t : List (Option Outcome)). AreAnswersAt names t (used_places (consumed setting table)) answers) same
     (subst (λ (ps : List ℕ). AreAnswersAt names other ps answers)
     (ap (λ (es : List Entry). marked_places es ++ ending_place o) is ∙ ap (λ (l : List ℕ). marked_places (consumed setting table).entries ++ l)
-        (ending_tells o (consumed setting table).end tells)) h)
+    (ending_tells o (consumed setting table).end tells)) h)
 
 pub reports : (setting : Setting) (first : Session) (names : List Oid) (table : List (Option Outcome)) (report : Report)
     → report.entries.items ≡ (consumed setting table).entries

@@ -15,4 +15,4 @@ returns-clause-absorbed g c = among_after (g.T.Tester.answers c.absorb.new.self)
 pub returns-in-Err-clause-own : goal.returns-in-Err-clause-own
 returns-in-Err-clause-own g c =
     subst (λ (l : List Answer). AreAmong l (g.T.Tester.answers c.args.tester.now)) (sym c.in-Err.ensures.err.1)
-        (among_itself (g.T.Tester.answers c.args.tester.now))
+    (among_itself (g.T.Tester.answers c.args.tester.now))

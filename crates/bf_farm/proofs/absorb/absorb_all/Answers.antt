@@ -33,7 +33,7 @@ loop-worker-preserved g c = record {
   absorbed = All-push (λ (w : Worker g.row.T.Denot). AreAmong (g.T.Tester.answers c.absorb.new.tester) (g.T.Tester.answers w.tester))
       c.loop-worker.yielded c.in-Some.worker
       (λ k d l. among_then _ (g.T.Tester.answers c.loop-worker.tester) (g.T.Tester.answers c.absorb.new.tester) c.absorb.ensures.own
-          (c.loop-worker.invariant.absorbed k d l))
+      (c.loop-worker.invariant.absorbed k d l))
       c.in_ok-absorb.ensures.absorbed;
   rest = one_taken c.args.workers.items c.loop-worker.yielded c.loop-worker.worker-iterator.rest.items c.next.new.self.rest.items c.in-Some.worker
       c.loop-worker.invariant.rest c.in-Some.ensures.steps.0;
@@ -42,7 +42,7 @@ loop-worker-preserved g c = record {
 pub returns-in_err-absorb-clause-own : goal.returns-in_err-absorb-clause-own
 returns-in_err-absorb-clause-own g c =
     among_then (g.T.Tester.answers c.args.tester.now) (g.T.Tester.answers c.loop-worker.tester) (g.T.Tester.answers c.absorb.new.tester)
-        c.absorb.ensures.own c.loop-worker.invariant.own
+    c.absorb.ensures.own c.loop-worker.invariant.own
 
 pub returns-clause-absorbed : goal.returns-clause-absorbed
 returns-clause-absorbed g c =

@@ -16,9 +16,9 @@ pub returns-clause-sound : goal.returns-clause-sound
 returns-clause-sound g c =
     sound_report (g.T.Tester.told c.args.tester.now) c.args.names.now (g.T.Tester.answers c.go_on.new.tester) c.go_on.new.board c.in_ok-report.report
     (c.in_ok-failed.ensures.sound c.requires.sound) c.in_ok-report.ensures.table c.in_ok-report.ensures.events c.in_ok-report.ensures.used
-        c.in_ok-report.ensures.report.named
+    c.in_ok-report.ensures.report.named
 
 pub returns-clause-fault : goal.returns-clause-fault
 returns-clause-fault g c =
     fault_told c.go_on.new.board.core c.args.names.now _ _ _ c.in_ok-failed.failed c.in_ok-report.report c.in_ok-failed.ensures.ends
-        c.in_ok-report.ensures.report c.in_ok-report.ensures.table
+    c.in_ok-report.ensures.report c.in_ok-report.ensures.table

@@ -17,13 +17,13 @@ pub returns-clause-report : goal.returns-clause-report
 returns-clause-report g c =
     subst (λ (s : Setting). IsReport s c.args.case.state c.args.case.names.now c.in_ok-report.report) c.in_ok-board.ensures.setting
     (subst (λ (f : Session). IsReport c.in_ok-board.board.core.setting f c.args.case.names.now c.in_ok-report.report) c.in_ok-board.ensures.state
-        c.in_ok-report.ensures.report)
+    c.in_ok-report.ensures.report)
 
 pub returns-clause-history : goal.returns-clause-history
 returns-clause-history g c =
     subst (λ (s : Setting). HasHistory s c.args.case.table c.in_ok-report.report) c.in_ok-board.ensures.setting
     (subst (λ (t : List (Option Outcome)). HasHistory c.in_ok-board.board.core.setting t c.in_ok-report.report) c.in_ok-board.ensures.first
-        c.in_ok-report.ensures.history)
+    c.in_ok-report.ensures.history)
 
 pub returns-clause-alone : goal.returns-clause-alone
 returns-clause-alone g c =

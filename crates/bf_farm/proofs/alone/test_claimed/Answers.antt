@@ -9,7 +9,7 @@ pub returns-in_ok-post-in-Done-clause-sound : goal.returns-in_ok-post-in-Done-cl
 returns-in_ok-post-in-Done-clause-sound g c = λ sound.
     sound_tested (g.T.Tester.told c.args.tester.now) c.args.names.now (g.T.Tester.answers c.args.tester.now) (g.T.Tester.answers c.test.new.self)
     _ c.args.board.now c.post.new.self 0 c.args.place c.in-Done.outcome _ c.in-Done.ensures.answers
-        (slice_get-get_or c.args.names.now c.args.place _ c.requires.named) c.in-Done.ensures.planned
+    (slice_get-get_or c.args.names.now c.args.place _ c.requires.named) c.in-Done.ensures.planned
     c.in_ok-post-in-Done.ensures.done sound
 
 pub returns-in-Failed-clause-sound : goal.returns-in-Failed-clause-sound

@@ -10,7 +10,7 @@ pub invariant_of-self-2 : goal.invariant_of-self-2
 invariant_of-self-2 c =
     let here : stands c.self.inside.core.claims c.args.worker c.args.place ≡ true = cc (c.stands.ensures, c.if-not-stands.false, c.claims.ensures.claims) in
     let less = claims_after_post (setting_of c.self.inside.core) (farm_of c.self.inside.core) (farm_of c.post.new.self) c.args.worker c.args.place
-        c.args.outcome here c.in_ok-withdrawn.ensures.event.farm in (
+    c.args.outcome here c.in_ok-withdrawn.ensures.event.farm in (
       leads_more _ _ _ _ _ (events.Post c.args.worker c.args.place c.args.outcome) _ _ c.self.invariant.0 c.in_ok-withdrawn.ensures.event.farm
           c.in_ok-withdrawn.ensures.event.setting c.note.ensures.noted,
       omega (arith, less, c.self.invariant.1, c.note.ensures.len, c.note.ensures.room),
