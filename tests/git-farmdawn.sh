@@ -168,6 +168,21 @@ test_folders_and_scripts() {
     cd .. && nothing_left
 }
 
+needs_words() { needs_all && has make; }
+test_words() {
+    make_line 2 9
+    for number in 2 3 4 5; do
+        printf 'test:\n\ttest %s -lt 4\n' $number >Makefile
+        git add -A && git commit -q -m "make $number" || exit 1
+    done
+    expect 'the command gets its own words alone' [ "$(git farmdawn main main~3 -- make test | tail -n 1)" = "$(git rev-parse main~1) is the first bad commit" ]
+    # shellcheck disable=SC2016
+    expect 'and the name in the environment' git farmdawn --workers 1 main main~3 -- sh -c '
+        test "$#|$1|$2" = "2|a b|" && test "$(git rev-parse HEAD)" = "$FARMDAWN_COMMIT" || exit 255
+        make -s test' sh 'a b' ''
+    nothing_left
+}
+
 needs_going_on() { needs_all; }
 test_going_on() {
     make_line 20 9
@@ -205,5 +220,5 @@ test_interrupts() {
 }
 
 [ $# -gt 0 ] || set -- line merges unrelated_good terms encodings signed signed_by_gpg sha256 shallow part_of_many submodules \
-    folders_and_scripts going_on check_ends interrupts
+    words folders_and_scripts going_on check_ends interrupts
 run_tests "$@"
