@@ -10,6 +10,7 @@ Usage: benches/bench.py SUBJECT [NUMBER ..]    (the numbers behind a subject are
   run 20000 100000             whole searches; 1,000 skips in a row     beside git rev-list --bisect
   hostile 1                    streams and logs made to cost much, at a size and at twice the size; a small stack;
                                the sizes are divided by the number
+  wall 300 40 3                commits, files of C, runs: wall time of 1, 2, 4 and 8 workers  beside git bisect run
   real [--seed N] [--pairs N] [REPOSITORY]    a repository: the answers of farmdawn and of git bisect run must agree
 
 Ratios say how many times as fast as git a program is; they are of processor time, where nothing else is said. The
@@ -24,6 +25,7 @@ import tempfile
 import hostile
 import real
 import streams
+import wall
 from measure import measure
 
 TOP = os.path.dirname(os.path.dirname(os.path.abspath(__file__)))
@@ -217,6 +219,8 @@ def main():
     subject, *words = sys.argv[1:] or ["--help"]
     if subject == "real":
         real.main(words, program("farmdawn"))
+    elif subject == "wall":
+        wall.main(words, program("farmdawn"))
     elif subject in SUBJECTS:
         with tempfile.TemporaryDirectory() as work:
             SUBJECTS[subject](Bench(work), *map(int, words))
