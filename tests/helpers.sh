@@ -42,6 +42,13 @@ has_run() {
     [ "$("$farmdawn" run a b -- true </dev/null 2>/dev/null)" != 'not built yet' ]
 }
 
+# A Slurm is at hand.
+has_slurm() {
+    has srun sinfo || return 1
+    missing='a Slurm that answers'
+    [ -n "${SLURM_CONF-}" ] && [ -n "$(sinfo -h -t idle,mixed,allocated -o %N 2>/dev/null)" ]
+}
+
 # Runs the tests that are named, each in a new folder, and counts; the counts are added to the file FARMDAWN_COUNTS, too.
 run_tests() {
     for test; do

@@ -3,12 +3,6 @@
 # number of one slurmd, a node is lost while tests run.
 . "$(dirname "$0")/helpers.sh"
 
-has_slurm() {
-    has srun sinfo || return 1
-    missing='a Slurm that answers'
-    [ -n "${SLURM_CONF-}" ] && [ -n "$(sinfo -h -t idle,mixed,allocated -o %N 2>/dev/null)" ]
-}
-
 status_of() {
     farmdawn-srun --tries 1 "$@" >>output 2>&1
     echo $?
