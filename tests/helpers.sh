@@ -6,6 +6,7 @@ top=$(cd "$(dirname "$0")/.." && pwd)
 PATH=$top/tools:$PATH
 farmdawn=${FARMDAWN:-$top/crates/farmdawn/out/farmdawn}
 export PATH
+unset MAKEFLAGS MAKELEVEL MFLAGS # a make within a test is not one of make check
 export GIT_AUTHOR_NAME='Ann Lee' GIT_AUTHOR_EMAIL=ann@example.org GIT_COMMITTER_NAME=Bo GIT_COMMITTER_EMAIL=bo@example.org
 export GIT_CONFIG_GLOBAL=/dev/null GIT_CONFIG_SYSTEM=/dev/null GIT_CONFIG_NOSYSTEM=1 LC_ALL=C
 
