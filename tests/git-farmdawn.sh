@@ -163,6 +163,12 @@ test_folders_and_scripts() {
     done
     printf '#!/bin/sh\ntest -e deep/file && test ! -e bug\n' >check.sh && chmod +x check.sh
     expect 'a script that is not tracked' [ "$(git farmdawn main main~4 -- ./check.sh | tail -n 1)" = "$(git rev-parse main~1) is the first bad commit" ]
+    printf '#!/bin/sh\ntest "$(cat deep/file)" != 4\n' >check.sh
+    expect 'another text of it is another test' [ "$(git farmdawn main main~4 -- ./check.sh | tail -n 1)" = "$(git rev-parse main) is the first bad commit" ]
+    cp check.sh ../outside.sh
+    expect 'a script outside' [ "$(git farmdawn main main~4 -- sh ../outside.sh | tail -n 1)" = "$(git rev-parse main) is the first bad commit" ]
+    echo 'exit 255' >../outside.sh
+    expect 'and another text of that' sh -c '! git farmdawn main main~4 -- sh ../outside.sh'
     cd deep || exit 1
     expect 'from a folder inside' [ "$(git farmdawn main main~4 -- sh -c 'test -e file && test ! -e ../bug' | tail -n 1)" = "$(git rev-parse main~1) is the first bad commit" ]
     cd .. && nothing_left
