@@ -174,6 +174,28 @@ test_folders_and_scripts() {
     cd .. && nothing_left
 }
 
+# In a folder with an odd name, in a linked worktree, from outside, and beside another search in the same repository.
+needs_places() { needs_all; }
+test_places() {
+    mkdir "a 'b\" \$c" && cd "a 'b\" \$c" || exit 1
+    make_line 12 7
+    answer="$(git rev-parse main~4) is the first bad commit"
+    ask() { "$@" main main~11 -- sh -c "$command" 2>/dev/null | tail -n 1; }
+    expect 'an odd name' [ "$(ask git farmdawn)" = "$answer" ]
+    git worktree add -q ../linked main~11 && cd ../linked || exit 1
+    expect 'a linked worktree' [ "$(ask git farmdawn --fresh)" = "$answer" ]
+    cd / || exit 1
+    expect 'from outside' [ "$(ask git -C "$OLDPWD" farmdawn --fresh)" = "$answer" ]
+    cd "$OLDPWD" && git -C . worktree list >before || exit 1
+    for number in 1 2 3; do
+        ask git farmdawn --fresh --workers 3 --log-dir "../logs$number" >"../answer$number" &
+    done
+    wait
+    for number in 1 2 3; do expect 'three at once' [ "$(cat ../answer$number)" = "$answer" ]; done
+    git worktree list >after
+    expect 'the worktrees are as before' cmp before after
+}
+
 needs_words() { needs_all && has make; }
 test_words() {
     make_line 2 9
@@ -226,5 +248,5 @@ test_interrupts() {
 }
 
 [ $# -gt 0 ] || set -- line merges unrelated_good terms encodings signed signed_by_gpg sha256 shallow part_of_many submodules \
-    words folders_and_scripts going_on check_ends interrupts
+    places words folders_and_scripts going_on check_ends interrupts
 run_tests "$@"
