@@ -4,11 +4,13 @@
 
 mod answer;
 mod entries;
+mod known;
 mod label;
 mod write;
 
+pub use known::Known;
 pub use label::{Commits, Sides};
-pub use write::{write_aborted, write_ask, write_entries, write_waiting};
+pub use write::{write_aborted, write_ask, write_entries, write_more, write_waiting};
 
 #[cfg(test)]
 mod tests;
