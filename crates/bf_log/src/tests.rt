@@ -113,3 +113,37 @@ git bisect bad 1111111111111111111111111111111111111111
     );
     Ok(())
 }
+
+#[test]
+fn a_state_is_told(rt: HostRuntime) -> Result<(), Fail> {
+    let names = [Oid([0x11; 20]), Oid([0x2a; 20]), Oid([0x33; 20])];
+    let subjects = [
+        Bytes::new(rt.alloc()),
+        Bytes::new(rt.alloc()),
+        Bytes::new(rt.alloc()),
+    ];
+    let commits = Commits {
+        names: &names,
+        subjects: &subjects,
+    };
+    let sides = Sides {
+        new: b"slow",
+        old: b"fast",
+    };
+    let standing = Standing {
+        bad: Some(2),
+        goods: &[1],
+        skipped: &[0],
+    };
+    let mut out = Bytes::new(rt.alloc());
+    write_state(commits, sides, standing, &mut out)?;
+    assert_eq!(rt;
+        out.as_slice(),
+        b"slow: 3333333333333333333333333333333333333333
+fast: 2a2a2a2a2a2a2a2a2a2a2a2a2a2a2a2a2a2a2a2a
+skip: 1111111111111111111111111111111111111111
+"
+            .as_slice()
+    );
+    Ok(())
+}
