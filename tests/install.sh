@@ -14,6 +14,11 @@ test_files() {
     for page in farmdawn $scripts; do
         expect 'the page is installed' cmp "root/usr/share/man/man1/$page.1" "$top/man/$page.1"
     done
+    for name in farmdawn git-farmdawn; do
+        expect 'completion for bash' cmp "root/usr/share/bash-completion/completions/$name" "$top/completions/farmdawn.bash"
+        expect 'for zsh' cmp "root/usr/share/zsh/site-functions/_$name" "$top/completions/_$name"
+        expect 'for fish' cmp "root/usr/share/fish/vendor_completions.d/$name.fish" "$top/completions/$name.fish"
+    done
     expect 'make uninstall' make -s -C "$top" uninstall DESTDIR="$PWD/root" PREFIX=/usr
     expect 'nothing is left' [ -z "$(find root -type f)" ]
 }
@@ -53,10 +58,23 @@ test_bash() {
     expect 'options' [ "$(offered farmdawn run --first)" = '--first-parent ' ]
     expect 'branches' [ "$(offered farmdawn run to)" = 'topic ' ]
     expect 'the options of a command alone' [ "$(offered farmdawn replay --t)" = ' ' ]
+    # git's own completion offers words by __gitcomp
+    # shellcheck disable=SC2016
+    words=$(bash -c '. "$1"; __gitcomp() { echo "$1"; }; cur=--; _git_farmdawn' bash "$top/completions/farmdawn.bash")
+    expect 'the options of git farmdawn' [ "$(sorted_words "$words")" = "$(options_of git-farmdawn)" ]
 }
 
+sorted_words() { printf '%s\n' "$1" | tr ' ' '\n' | sort | tr '\n' ' '; }
+
+# The options of a script, as its help has them.
+options_of() { sorted_words "$("$1" --help | grep -o '^  --[a-z-]*\|, --[a-z-]*' | grep -o -- '--.*')"; }
+
 needs_zsh() { has zsh; }
-test_zsh() { expect 'zsh reads the completion' zsh -n "$top/completions/_farmdawn"; }
+test_zsh() {
+    for name in _farmdawn _git-farmdawn; do expect 'zsh reads the completion' zsh -n "$top/completions/$name"; done
+    words=$(sed -n "s/^.*[(' ]\*\?\(--[a-z-]*\)[['}].*/\1/p; s/.*{-h,--help}.*/--help/p" "$top/completions/_git-farmdawn")
+    expect 'the options of git farmdawn' [ "$(sorted_words "$words")" = "$(options_of git-farmdawn)" ]
+}
 
 needs_fish() { has fish git; }
 test_fish() {
@@ -65,6 +83,9 @@ test_fish() {
     expect 'fish reads the completion' fish -n "$top/completions/farmdawn.fish"
     # shellcheck disable=SC2016
     expect 'and offers commands' sh -c 'fish -N -c ". $1; complete -C \"farmdawn sim\"" | grep -q ^simulate' sh "$top/completions/farmdawn.fish"
+    # shellcheck disable=SC2016
+    words=$(fish -N -c '. $argv[1]; complete -C "git-farmdawn --"' "$top/completions/git-farmdawn.fish" | cut -f1)
+    expect 'the options of git farmdawn' [ "$(sorted_words "$words")" = "$(options_of git-farmdawn)" ]
     # shellcheck disable=SC2016
     expect 'and branches' sh -c 'fish -N -c ". $1; complete -C \"farmdawn run to\"" | grep -q ^topic' sh "$top/completions/farmdawn.fish"
 }
