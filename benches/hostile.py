@@ -146,9 +146,9 @@ def comments(out, size):
 
 
 # each kind with the smaller of its two sizes
-KINDS = {deep: 10000, again_deep: 500, paths: 2000, wide: 50000, again: 2000, refs: 50000, fronts: 50000, marks: 50000, aligned: 50000,
+KINDS = {deep: 10000, again_deep: 500, paths: 2000, wide: 100000, again: 2000, refs: 50000, fronts: 50000, marks: 50000, aligned: 50000,
          moved: 50000, merges: 20000, merged: 10000, parents: 10000, names: 2000, alike: 2000, quoted: 50000, edits: 50000, swaps: 50000,
-         tags: 500000, comments: 500000}
+         tags: 1000000, comments: 500000}
 
 
 # Logs over a history of ten commits in a line, named main.
