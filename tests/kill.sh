@@ -7,14 +7,14 @@
 needs_all() { has git pgrep && has_run; }
 
 # A history of forty commits with a branch, and what is due over it, in the file `due`. By the commits' names the tests
-# are good, bad or skipped, each a tenth of a second long; the words of a test have the name of this run.
+# are good, bad or skipped, each a seventh of a second long; the words of a test have the name of this run.
 prepare() {
     awk 'BEGIN { for (i = 1; i <= 40; i++) {
         printf "commit refs/heads/main\nmark :%d\ncommitter gen <gen> %d +0000\ndata 2\nc\n", i, i
         if (i > 1) printf "from :%d\n", i - 1
         if (i % 7 == 0) printf "merge :%d\n", i - 3 } }' >stream
     name=farmdawn-kill-$$-$test
-    test_words='sleep 0.1; case $1 in *[0-5]) exit 0 ;; *[6-d]) exit 1 ;; *) exit 125 ;; esac'
+    test_words='sleep 0.15; case $1 in *[0-5]) exit 0 ;; *[6-d]) exit 1 ;; *) exit 125 ;; esac'
     (search 1 <stream >due) || [ $? -eq 2 ] || exit 1
 }
 
