@@ -2,8 +2,10 @@ pub mod Asked
 pub mod History
 pub mod Listed
 pub mod Marking
+pub mod Planned
 pub mod Reporting
 pub mod Rests
 pub mod Seen
 pub mod Soundness
 pub mod Telling
+pub mod Teams
