@@ -4,5 +4,7 @@ pub mod Index
 pub mod Listing
 pub mod Nodes
 pub mod Opened
+pub mod Overlays
+pub mod Rests
 pub mod Slots
 pub mod Trees

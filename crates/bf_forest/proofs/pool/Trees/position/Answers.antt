@@ -3,7 +3,7 @@ use Rattle.std.specs.Ordering.{nat_cmp}
 use Rattle.std.specs.BTreeMap.{get}
 use Rattle.bf_forest.specs.Files.{Files}
 use Rattle.bf_forest.specs.Index.{key_of, IsIndexed}
-use Rattle.bf_forest.specs.Nodes.{files_in}
+use Rattle.bf_forest.specs.Nodes.{World, files_in, stood}
 use Rattle.bf_forest.specs.Trees.{tree_name}
 use Rattle.bf_forest.proofs.Indexed.{not_indexed}
 use Rattle.bf_forest.proofs.pool.Trees.position.Goals as goal
@@ -11,9 +11,9 @@ use Rattle.bf_forest.proofs.pool.Trees.position.Goals as goal
 pub returns-in_default : goal.returns-in_default
 returns-in_default c =
     let index = c.self.inside.index in
-    let trees = c.args.self.now in
-    let files = files_in trees c.args.entries.now in
+    let trees = c.args.self.now.trees in
+    let files = files_in trees (stood c.args.self.now.table c.args.numbers.now) in
     let P : List Files → Type 0 = IsIndexed index in
     let key : c.key_of.result ≡ key_of (tree_name files) = c.key_of.ensures ∙ ap key_of c.requires.named in
     let none : get nat_cmp index (key_of (tree_name files)) ≡ None = ap (get nat_cmp index) (sym key) ∙ sym c.in_default.ensures.value in
-    not_indexed index trees files (subst P c.self.view_is c.self.invariant.1) none
+    not_indexed index trees files (subst P (ap (λ (w : World). w.trees) c.self.view_is) c.self.invariant.1) none
