@@ -21,5 +21,6 @@ pub mod Resting
 pub mod Sameness
 pub mod Settling
 pub mod Slotted
+pub mod Storing
 pub mod Tabled
 pub mod Walking

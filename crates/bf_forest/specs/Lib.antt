@@ -7,4 +7,5 @@ pub mod Opened
 pub mod Overlays
 pub mod Rests
 pub mod Slots
+pub mod Stored
 pub mod Trees
