@@ -17,11 +17,6 @@ use Rattle.bf_forest.proofs.Listed.{listing-first, listing-rest}
 use Rattle.bf_forest.proofs.Ordered.{less}
 
 -- what holds of each holds of the one at a place
-pub all_at : {X : Type 0} (p : X → Bool) (xs : List X) (i : ℕ) (x : X) → list_all p xs ≡ true → i < length xs → x ≡ get_or xs i x → p x ≡ true
-all_at p [] i x h l e = absurd (omega arith)
-all_at p (y ∷ xs) zero x h l e = ap p e ∙ (and_parts _ _ h).0
-all_at p (y ∷ xs) (suc i) x h l e = all_at p xs i x (and_parts (p y) _ h).1 (omega arith) e
-
 -- ---- entries that are copied in order
 
 lt_of : (a b : List ℕ) → is_lt (slice_cmp nat_cmp a b) ≡ true → slice_cmp nat_cmp b a ≡ Greater

@@ -248,6 +248,3 @@ old_shorter table base rest h s =
 
 drop_more : (numbers : List ℕ) (m n : ℕ) → drop n (drop m numbers) ≡ drop (m + n) numbers
 drop_more numbers m n = drop-drop n m numbers
-
-pub shorter_trans : (a b c : List ℕ) → IsShorter a b → IsShorter b c → IsShorter a c
-shorter_trans a b c s t = (t.0 + s.0, s.1 ∙ ap (drop s.0) t.1 ∙ drop_more c t.0 s.0)

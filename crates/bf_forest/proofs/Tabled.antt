@@ -28,13 +28,6 @@ within_more a b (number ∷ numbers) l h =
 pub within_kept : (a b : List Entry) (numbers : List ℕ) → take (length a) b ≡ a → are_within (length a) numbers ≡ true → are_within (length b) numbers ≡ true
 within_kept a b numbers e h = within_more (length a) (length b) numbers (kept_length a b e) h
 
-pub within_at : (count : ℕ) (numbers : List ℕ) (i number : ℕ) → are_within count numbers ≡ true → i < length numbers → number ≡ get_or numbers i number → number < count
-within_at count [] i number h l e = absurd (omega arith)
-within_at count (first ∷ numbers) zero number h l e =
-    let less = ltb-true first count (and_parts _ (are_within count numbers) h).0 in
-    omega (arith, less, e)
-within_at count (first ∷ numbers) (suc i) number h l e = within_at count numbers i number (and_parts _ (are_within count numbers) h).1 (omega arith) e
-
 pub nodes_kept : (a b : List Entry) (kept : List Kept) → take (length a) b ≡ a → are_kept_within (length a) kept ≡ true → nodes_of b kept ≡ nodes_of a kept
 nodes_kept a b [] e h = refl
 nodes_kept a b (tree ∷ kept) e h =

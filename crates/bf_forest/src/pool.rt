@@ -2,7 +2,6 @@
 //! name the trees of its directories by their numbers.
 ghost use Rattle.std.specs.Prelude.{◌≡◌, ℕ, List, ◌+◌, ◌*◌, ◌<◌, ◌≤◌, [], ◌∷◌, ◌++◌, length, take, fold, IsTrue, IfOk, OnOk, OnErr};
 ghost use Rattle.bf_forest.specs.Files.{is_tree, edited};
-ghost use Rattle.bf_forest.specs.Index.{key_of};
 ghost use Rattle.bf_forest.specs.Nodes.{files_in, is_node, is_good, entry_body, entry_at, stood, are_within, StaysIn, IsSound, IsPosition, IsSettled};
 ghost use Rattle.bf_forest.specs.Opened.{IsOpened, IsBase, IsFrame, IsTurn, IsMade, Turns, Advances, IsClosed, HasSome, IsSpent, inner_weight, heft, weight, with_directory};
 ghost use Rattle.bf_forest.specs.Rests.{slots_in, slots_with};
@@ -33,14 +32,14 @@ pub(crate) struct Kept {
     name: Oid,
 }
 
-/// Trees by their numbers. The index has a number for the front of each tree's name: that of a tree
-/// with such a name, or of one that was taken back.
+/// Trees by their numbers. The index has a number for each tree's name: that of a tree with
+/// this name, or of one that was taken back.
 #[derive(Debug, Drop)]
 pub(crate) struct Trees {
     alloc: Global,
     table: Table,
     nodes: Vec<Kept>,
-    index: BTreeMap<u64, usize>,
+    index: BTreeMap<[u8; 20], usize>,
     entries: u64,
 }
 
@@ -60,15 +59,6 @@ impl Model for Trees {
         × IsIndexed t.index (trees_from [] (nodes_of t.table t.nodes.items))
         × AreNodes [] (nodes_of t.table t.nodes.items)
         × (are_kept_within (length t.table) t.nodes.items ≡ true) };
-}
-
-/// The first eight bytes of a name.
-#[tactic(auto, unfolding(crate::specs::Index::key_of))]
-fn key_of(name: Oid) -> u64
-    ensures { result ≡ key_of name.0 }
-{
-    let [a, b, c, d, e, f, g, h, ..] = name.0;
-    u64::from_be_bytes([a, b, c, d, e, f, g, h])
 }
 
 impl Trees {
@@ -228,7 +218,7 @@ impl Trees {
         requires within { IsTrue (are_within (length self.now.table) numbers.now) }
         ensures { IfOk result (IsPosition self.now.trees (files_in self.now.trees (stood self.now.table numbers.now))) }
     {
-        let Some(number) = self.index.get(&key_of(name)) else {
+        let Some(number) = self.index.get(&name.0) else {
             return Ok(None);
         };
         if self.is_at(*number, numbers) {
@@ -257,7 +247,7 @@ impl Trees {
         let number = self.nodes.len();
         let count = numbers.as_slice().len();
         let total = self.entries.checked_add(count as u64).ok_or(AllocError)?;
-        self.index.insert(key_of(name), number)?;
+        self.index.insert(name.0, number)?;
         self.nodes.push(Kept { numbers, name })?;
         self.entries = total;
         Ok(number)

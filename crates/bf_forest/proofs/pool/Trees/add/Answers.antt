@@ -1,12 +1,13 @@
 use Rattle.std.proofs.Common.{◌≡◌, ℕ, List, Option, IsSome, refl, subst, ◌++◌, ◌∷◌, [], true, false, length, take, sym, ap, ◌∙◌, length-append, arith}
 use Rattle.std.specs.List.{list_any}
 use Rattle.std.specs.Ordering.{nat_cmp}
+use Rattle.std.specs.Cmp.Lexicographic.{slice_cmp}
 use Rattle.std.specs.BTreeMap.{get}
 use Rattle.bf_forest.specs.declared.nodes.Entry.{Entry}
 use Rattle.bf_forest.specs.declared.pool.Kept.{Kept}
 use Rattle.bf_forest.specs.Files.{Files}
-use Rattle.bf_forest.specs.Index.{key_of, IsIndexed}
-use Rattle.bf_forest.specs.Nodes.{World, Node, nodes_of, stood, files_in, trees_from, IsPosition, are_within, are_kept_within}
+use Rattle.bf_forest.specs.Index.{IsIndexed}
+use Rattle.bf_forest.specs.Nodes.{World, Node, AreNodes, nodes_of, stood, files_in, trees_from, IsPosition, are_within, are_kept_within}
 use Rattle.bf_forest.specs.Trees.{entries_of, tree_name, are_same, files_at}
 use Rattle.bf_forest.proofs.Indexed.{IsIndexed-insert, IsIndexed-push}
 use Rattle.bf_forest.proofs.Joining.{entries_of-push, with_tree-new, at_push, take_front}
@@ -44,12 +45,12 @@ invariant_of-self-2 c =
     let size : length entries ≡ length numbers = length-stood now.table numbers in
     let sum : c.in_ok-total.total ≡ entries_of (trees_from [] (nodes_of table next)) = omega (arith, all, total.1, old, count, size, count_names trees entries c.requires.node) in
     let index = c.insert.new.self in
-    let key : key_of (tree_name files) ≡ c.key_of.result = ap key_of (sym c.in_ok-name.ensures) ∙ sym c.key_of.ensures in
-    let Holds : ℕ → Type 0 = λ k. IsSome (get nat_cmp index k) in
+    let key : tree_name files ≡ c.in_ok-name.name.0 = sym c.in_ok-name.ensures in
+    let Holds : List ℕ → Type 0 = λ k. IsSome (get (slice_cmp nat_cmp) index k) in
     let Present : Option ℕ → Type 0 = λ o. IsSome o in
-    let here : IsSome (get nat_cmp index c.key_of.result) = subst Present (sym c.in_ok-insert.ensures.updates.1) refl in
+    let here : IsSome (get (slice_cmp nat_cmp) index c.in_ok-name.name.0) = subst Present (sym c.in_ok-insert.ensures.updates.1) refl in
     let Indexed : List Files → Type 0 = IsIndexed c.self.inside.index in
-    let still = IsIndexed-insert c.self.inside.index index trees c.key_of.result c.len-number.result c.in_ok-insert.ensures.updates (subst Indexed view c.self.invariant.1) in
+    let still = IsIndexed-insert c.self.inside.index index trees c.in_ok-name.name.0 c.len-number.result c.in_ok-insert.ensures.updates (subst Indexed view c.self.invariant.1) in
     let P : List Files → Type 0 = IsIndexed index in
     let Q : List Kept → Type 0 = λ v. are_kept_within (length table) v ≡ true in
     let R : List Entry → Type 0 = λ v. are_within (length v) numbers ≡ true in (
@@ -58,6 +59,17 @@ invariant_of-self-2 c =
       nodes_pushed nodes (nodes_of table next) trees node pushed view c.self.invariant.2 c.requires.node c.in_ok-name.ensures,
       subst Q (sym c.in_ok-push.ensures.items) (kept_within_push (length table) kept tree c.self.invariant.3 (subst R (sym same) c.requires.within)),
     )
+
+-- where there is no memory for the tree, the index has one name more than there are trees
+pub invariant_of-self-in_err-push : goal.invariant_of-self-in_err-push
+invariant_of-self-in_err-push c =
+    let table = c.self.inside.table in
+    let index = c.insert.new.self in
+    let trees = trees_from [] (nodes_of table c.self.inside.nodes.items) in
+    let still = IsIndexed-insert c.self.inside.index index trees c.in_ok-name.name.0 c.len-number.result c.in_ok-insert.ensures.updates c.self.invariant.1 in
+    let P : List Kept → Type 0 = λ v. (c.self.inside.entries ≡ entries_of (trees_from [] (nodes_of table v))) × IsIndexed index (trees_from [] (nodes_of table v))
+    × AreNodes [] (nodes_of table v) × (are_kept_within (length table) v ≡ true) in
+    subst P (sym c.in_err-push.ensures.items) (c.self.invariant.0, still, c.self.invariant.2, c.self.invariant.3)
 
 pub returns-clause-ok : goal.returns-clause-ok
 returns-clause-ok c =
