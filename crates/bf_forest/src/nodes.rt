@@ -1,5 +1,5 @@
 //! The entries of a directory.
-ghost use Rattle.std.specs.Prelude.{◌≡◌, ◌↔◌, [], ◌∷◌, ◌++◌, IsTrue, OnOk};
+ghost use Rattle.std.specs.Prelude.{◌≡◌, ◌↔◌, [], ◌∷◌, ◌++◌, IsTrue, IfOk, OnOk};
 ghost use Rattle.bf_forest.specs.Listing.{name_in};
 ghost use Rattle.bf_forest.specs.Trees.{mode_text, entry_bytes};
 
@@ -46,6 +46,15 @@ impl Numbers {
         }
     }
 
+    /// No number, with room for so many.
+    pub(crate) fn with_room(alloc: Global, count: usize) -> Result<Numbers, AllocError>
+        ensures { IfOk result (λ numbers. numbers ≡ []) }
+    {
+        Ok(Numbers {
+            items: Vec::with_capacity(alloc, count)?,
+        })
+    }
+
     pub(crate) fn as_slice(&self) -> &[u32]
         ensures { result.now ≡ self.now }
     {
@@ -72,6 +81,14 @@ impl Numbers {
     {
         self.items.extend_from_slice(numbers)
     }
+}
+
+/// No bytes, with room for what these entries usually take in the body of a tree: 40 bytes each.
+pub(crate) fn empty_body(alloc: Global, numbers: &Numbers) -> Result<Bytes, AllocError>
+    ensures { IfOk result (λ body. body ≡ []) }
+{
+    let room = numbers.as_slice().len().saturating_mul(40);
+    Ok(Bytes::from_vec(alloc, Vec::with_capacity(alloc, room)?))
 }
 
 /// The name in a key.

@@ -12,7 +12,7 @@ use crate::cuts::{Cut, Pending};
 use crate::edits::Edit;
 use crate::entries::{FileEntry, add_file, are_same};
 use crate::levels::Level;
-use crate::nodes::{Entry, EntryKind, Numbers, add_entry, mode_text, name_in};
+use crate::nodes::{Entry, EntryKind, Numbers, add_entry, empty_body, mode_text, name_in};
 use crate::opened::Opened;
 use crate::slots::{Rest, Slot, edit_all};
 use crate::table::Table;
@@ -170,7 +170,7 @@ impl Trees {
         requires within { IsTrue (are_within (length self.now.table) numbers.now) }
         ensures { IfOk result (λ name. name.0 ≡ tree_name (files_in self.now.trees (stood self.now.table numbers.now))) }
     {
-        let mut body = Bytes::new(self.alloc);
+        let mut body = empty_body(self.alloc, numbers)?;
         for number in numbers.as_slice() {
             self.add_body(&mut body, *number)?;
         }
@@ -317,8 +317,13 @@ impl Trees {
             changes: BTreeMap::new(self.alloc),
         };
         edit_all(&self.table, &mut rest, edits)?;
+        let room = rest
+            .base
+            .as_slice()
+            .len()
+            .saturating_add(rest.changes.len());
         Ok(Opened {
-            numbers: Numbers::new(self.alloc),
+            numbers: Numbers::with_room(self.alloc, room)?,
             inside: Bytes::new(self.alloc),
             rest,
         })
