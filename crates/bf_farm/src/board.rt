@@ -8,7 +8,8 @@ ghost use Rattle.bf_core.specs.Machine.{IsOverGraph};
 ghost use Rattle.bf_farm.specs.Cores.{AreWithdrawn, run_of};
 ghost use Rattle.bf_state.specs.Session.{with_search};
 ghost use Rattle.bf_spec.specs.Walks.{Tells};
-ghost use Rattle.bf_farm.specs.Boards.{LeadsTo, unclaimed, BoardView, IsSameBoard, Does, DoesIf, PicksFor, PicksNew, claimed_by, GivesBack};
+ghost use Rattle.bf_farm.specs.Boards.{LeadsTo, unclaimed, BoardView, IsSameBoard, Does, DoesIf, PicksFor, PicksNew, claimed_by};
+ghost use Rattle.bf_farm.specs.Sound.{GivesBack};
 
 use bf_core::{ApplyFault, Core, CoreParts, Pick, Withdrawn};
 use bf_reach::Reach;

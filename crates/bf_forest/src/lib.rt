@@ -10,6 +10,8 @@ mod nodes;
 mod opened;
 mod pool;
 mod slots;
+mod table;
+mod tail;
 mod trees;
 
 pub use edits::Edit;
