@@ -19,6 +19,7 @@ case depends on the seed and its number alone.
 """
 import argparse
 import collections
+import functools
 import os
 import random
 import re
@@ -317,7 +318,8 @@ def fault_of(case, ours, arguments):
     if ours.status not in TEXTS or not re.fullmatch(TEXTS[ours.status], ours.output):
         return f"status {ours.status} with the text {ours.output[-200:]!r}"
     given = len(case.stream) + len(case.log)
-    if ours.peak > 65536 + given * arguments.memory // 1024:
+    # sample makes a stream of its own
+    if ours.peak > 65536 + given * arguments.memory // 1024 and case.words[:1] != [b"sample"]:
         return f"{ours.peak} KiB for {given} bytes"
     if not arguments.second:
         return None
@@ -346,8 +348,8 @@ class Summary:
         self.wrong = self.over = 0
         self.slowest, self.greatest = (0.0, ""), (0, "")
 
-    def add(self, label, case, ours, fault):
-        self.kinds[case.kind] += 1
+    def add(self, label, kind, ours, fault):
+        self.kinds[kind] += 1
         if ours:
             self.statuses[ours.status] += 1
             self.slowest = max(self.slowest, (ours.seconds, label))
@@ -356,7 +358,7 @@ class Summary:
             self.over += 1
         elif fault:
             self.wrong += 1
-            print(f"case {label} ({case.kind}): {fault}", flush=True)
+            print(f"case {label} ({kind}): {fault}", flush=True)
 
     def show(self):
         print("kinds: " + ", ".join(f"{kind} {count}" for kind, count in sorted(self.kinds.items())))
@@ -366,18 +368,20 @@ class Summary:
               f"{self.wrong} wrong, {self.over} passed over")
 
 
-def large_cases():
-    """The shapes of the benchmarks, each at its smaller size, with a question that asks for no test."""
-    for make, size in hostile.KINDS.items():
-        with tempfile.TemporaryFile() as file:
-            make(file, size)
-            file.seek(0)
-            yield make.__name__, Case("large", [b"simulate", b"refs/heads/main", b"refs/heads/main", b""], file.read(), b"")
+def large_case(make):
+    """A shape of the benchmarks at its smaller size, with a question that asks for no test."""
+    with tempfile.TemporaryFile() as file:
+        make(file, hostile.KINDS[make])
+        file.seek(0)
+        return Case("large", [b"simulate", b"refs/heads/main", b"refs/heads/main", b""], file.read(), b"")
 
 
-def random_cases(arguments):
-    for number in range(arguments.first, arguments.first + arguments.count):
-        yield str(number), make_case(arguments.seed, number)
+def cases_of(arguments):
+    """The label of each case, and what makes it."""
+    if arguments.large:
+        return [(make.__name__, functools.partial(large_case, make)) for make in hostile.KINDS]
+    numbers = range(arguments.first, arguments.first + arguments.count)
+    return [(str(number), functools.partial(make_case, arguments.seed, number)) for number in numbers]
 
 
 def read_arguments():
@@ -401,16 +405,17 @@ def main():
     summary = Summary()
 
     def try_case(labelled):
-        label, case = labelled
+        label, make = labelled
+        case = make()
         ours = run(arguments.program, case, arguments.limit)
-        return label, case, ours, fault_of(case, ours, arguments)
+        fault = fault_of(case, ours, arguments)
+        if fault and fault != "passed over" and arguments.keep:
+            keep(arguments.keep, label, case)
+        return label, case.kind, ours, fault
 
-    cases = large_cases() if arguments.large else random_cases(arguments)
     with ThreadPoolExecutor(arguments.jobs) as pool:
-        for label, case, ours, fault in pool.map(try_case, cases) if arguments.jobs > 1 else map(try_case, cases):
-            summary.add(label, case, ours, fault)
-            if fault and fault != "passed over" and arguments.keep:
-                keep(arguments.keep, label, case)
+        for told in pool.map(try_case, cases_of(arguments)):
+            summary.add(*told)
     summary.show()
     sys.exit(1 if summary.wrong else 0)
 
