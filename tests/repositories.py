@@ -285,7 +285,7 @@ def main():
             statuses[tool.status] += 1
             if not same:
                 print(f"{number}: {question}\n  git farmdawn {tool}\n  whole {whole}", flush=True)
-            if beside not in ("same answer", "no answer in both", "both right, by other tests"):
+            if beside not in ("same answer", "no answer in both"):
                 print(f"{number}: {beside}: {question}\n  git farmdawn {tool}\n  git bisect run {theirs}", flush=True)
             if left:
                 print(f"{number}: a worktree is left", flush=True)
