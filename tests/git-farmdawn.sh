@@ -225,6 +225,22 @@ test_going_on() {
     nothing_left
 }
 
+# Words that are wrong are told before anything is run, and leave nothing.
+needs_wrong_words() { needs_all; }
+test_wrong_words() {
+    make_line 3 1
+    for words in '--workers 0' '--workers 65' '--workers x' '--workers 01' '--timeout 0' '--timeout -1' '--nothing' '--skip nowhere' '--copy nowhere' '--term-new nowhere --term-old nowhere'; do
+        # shellcheck disable=SC2086
+        expect "a fault: $words" sh -c '! git farmdawn "$@" main main~2 -- touch ../tested >out 2>err' sh $words
+        expect 'nothing on standard output' [ ! -s out ]
+        expect 'a line on standard error' [ "$(grep -vc 'commits to search' err)" -eq 1 ]
+    done
+    expect 'no such commit' sh -c '! git farmdawn main nowhere -- touch ../tested'
+    expect 'no command' sh -c '! git farmdawn main main~2 --'
+    expect 'no test was run' [ -z "$(find .. -name tested)" ]
+    nothing_left
+}
+
 needs_check_ends() { needs_all; }
 test_check_ends() {
     make_line 6 3
@@ -248,5 +264,5 @@ test_interrupts() {
 }
 
 [ $# -gt 0 ] || set -- line merges unrelated_good terms encodings signed signed_by_gpg sha256 shallow part_of_many submodules \
-    places words folders_and_scripts going_on check_ends interrupts
+    places words folders_and_scripts wrong_words going_on check_ends interrupts
 run_tests "$@"
