@@ -225,6 +225,25 @@ test_going_on() {
     nothing_left
 }
 
+# What a test printed is kept by commit, and one that takes too long is a skip.
+needs_logs_and_limits() { needs_all && has timeout; }
+test_logs_and_limits() {
+    make_line 6 4
+    hangs=$(git rev-parse main~3)
+    # shellcheck disable=SC2016
+    expect 'a search' git farmdawn --timeout 2 --log-dir ../logs main main~5 -- sh -c '
+        echo "this is $FARMDAWN_COMMIT"; cat content >&2
+        [ "$FARMDAWN_COMMIT" != "$0" ] || sleep 77.25
+        test ! -e bug' "$hangs" >log
+    expect 'the answer' [ "$(tail -n 1 log)" = "$(git rev-parse main~1) is the first bad commit" ]
+    expect 'the one that hangs is skipped' grep -q "^git bisect skip $hangs$" log
+    expect 'and does not run on' [ -z "$(pgrep -f 'sleep 77.25')" ]
+    for tested in $(sed -n 's/^git bisect [a-z]* \([0-9a-f]\{40\}\)$/\1/p' log); do
+        expect 'what was printed is kept' grep -qx "this is $tested" "../logs/$tested.log"
+    done
+    nothing_left
+}
+
 # Words that are wrong are told before anything is run, and leave nothing.
 needs_wrong_words() { needs_all; }
 test_wrong_words() {
@@ -264,5 +283,5 @@ test_interrupts() {
 }
 
 [ $# -gt 0 ] || set -- line merges unrelated_good terms encodings signed signed_by_gpg sha256 shallow part_of_many submodules \
-    places words folders_and_scripts wrong_words going_on check_ends interrupts
+    places words folders_and_scripts logs_and_limits wrong_words going_on check_ends interrupts
 run_tests "$@"
