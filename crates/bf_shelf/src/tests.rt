@@ -1,0 +1,74 @@
+//! A test for each shelf.
+use crate::*;
+use bf_io::Bytes;
+use std::alloc::Global;
+use std::fs;
+use std::test::Fail;
+
+// The files of the tests: two of one name, and an empty one.
+fn files(alloc: Global) -> Result<Vec<ShelfFile>, Fail> {
+    let texts: [(&[u8], &[u8]); 3] = [(b"a", b"first"), (b"a", b"second"), (b"b", b"")];
+    let mut files = Vec::new(alloc);
+    for (name, bytes) in texts {
+        files.push(ShelfFile {
+            name: Bytes::from_slice(alloc, name)?,
+            bytes: Bytes::from_slice(alloc, bytes)?,
+        })?;
+    }
+    Ok(files)
+}
+
+// What a load gave, lent for comparing.
+fn told(answer: &Result<Bytes, LoadFault>) -> Result<&[u8], LoadFault> {
+    match answer {
+        Ok(bytes) => Ok(bytes.as_slice()),
+        Err(fault) => Err(*fault),
+    }
+}
+
+// The loads of each shelf, with their answers.
+static LOADS: [(&[u8], u32, Result<&[u8], LoadFault>); 6] = [
+    (b"a", 5, Ok(b"first")),
+    (b"a", 4, Err(LoadFault::TooLong)),
+    (b"b", 0, Ok(b"")),
+    (b"c", 100, Err(LoadFault::Missing)),
+    (b"", 100, Err(LoadFault::Missing)),
+    (b"A", 100, Err(LoadFault::Missing)),
+];
+
+#[test]
+fn a_plain_shelf_gives_the_first_file_of_a_name(rt: HostRuntime) -> Result<(), Fail> {
+    let mut shelf = PlainShelf::new(files(rt.alloc())?);
+    for (name, max, answer) in LOADS {
+        assert_eq!(rt; told(&shelf.load(name, max)), answer, "{name:?}");
+    }
+    Ok(())
+}
+
+#[test]
+fn a_shelf_fails_at_its_numbers(rt: HostRuntime) -> Result<(), Fail> {
+    let mut shelf = MemShelf::new(files(rt.alloc())?, vec![in rt.alloc(); 1, 8]?);
+    assert_eq!(rt; told(&shelf.load(b"a", 9)), Err(LoadFault::Failed));
+    for (name, max, answer) in LOADS {
+        assert_eq!(rt; told(&shelf.load(name, max)), answer, "{name:?}");
+    }
+    assert_eq!(rt; told(&shelf.load(b"a", 9)), Err(LoadFault::Failed));
+    assert_eq!(rt; shelf.calls(), 8);
+    Ok(())
+}
+
+#[test]
+fn a_shelf_of_the_system_reads_its_files(rt: HostRuntime) -> Result<(), Fail> {
+    fs::write(&rt, "a", b"first".as_slice())?;
+    fs::write(&rt, "b", b"".as_slice())?;
+    let mut shelf = DirShelf::new(rt, rt.alloc());
+    for (name, max, answer) in LOADS {
+        assert_eq!(rt; told(&shelf.load(name, max)), answer, "{name:?}");
+    }
+    assert_eq!(rt; told(&shelf.load(b"/", 9)), Err(LoadFault::Failed));
+    assert_eq!(rt; told(&shelf.load(b"\xff", 9)), Err(LoadFault::Failed));
+    assert_eq!(rt; told(&shelf.load(b"/dev/zero", 9)), Err(LoadFault::TooLong));
+    fs::remove_file(&rt, "a")?;
+    fs::remove_file(&rt, "b")?;
+    Ok(())
+}
