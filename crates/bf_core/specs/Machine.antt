@@ -1,5 +1,6 @@
 -- What contracts see of a core, and what its calls leave of it.
 use Rattle.std.specs.Prelude.{◌≡◌, ◌≢◌, ◌↔◌, ℕ, ◌<◌, length, List, [], ◌∷◌, ◌++◌, Contains, Option, Some, None}
+use Rattle.bf_graph.specs.Graph.{IsGraph}
 use Rattle.bf_search.specs.declared.entries.Entry.{Entry}
 use Rattle.bf_search.specs.declared.farm.Claim.{Claim}
 use Rattle.bf_search.specs.declared.farm.Ending.{Ending}
@@ -8,6 +9,7 @@ use Rattle.bf_search.specs.declared.farm.Event.TheVariants.{Claim as Claimed}
 use Rattle.bf_search.specs.declared.outcomes.Mark.{Mark}
 use Rattle.bf_search.specs.declared.outcomes.Outcome.{Outcome}
 use Rattle.bf_search.specs.Outcomes.{outcomes_of_table}
+use Rattle.bf_search.specs.State.{IsSearchOver}
 use Rattle.bf_search.specs.Run.{Open, Run}
 use Rattle.bf_search.specs.OpenPaths.{OpenPath, best_open}
 use Rattle.bf_search.specs.Farm.{Setting, Farm, consumed, best_place, step}
@@ -53,6 +55,11 @@ setting_of core = record { graph = core.graph; start = core.first.search; leg = 
 
 abbrev pub farm_of : Machine → Farm
 farm_of core = record { table = core.table; claims = core.claims }
+
+-- the graph is one, and the places of the search that it started with are its places
+pub record IsOverGraph (setting : Setting) : Type 0 where
+  pub parents : IsGraph setting.graph
+  pub places : IsSearchOver setting.graph setting.start
 
 -- the run on the outcomes that are known
 abbrev pub run_of : Machine → Run

@@ -9,7 +9,7 @@ ghost use Rattle.bf_guesses.specs.Ends.{HasEnds};
 ghost use Rattle.bf_core.specs.Claims.{AreClaims, KeepsNodes};
 ghost use Rattle.bf_core.specs.Machine.{setting_of, farm_of, run_of, IsConsumed, IsStarted, IsStep, IsSameButNodes};
 ghost use Rattle.bf_core.specs.Machine.{IsAllTaken, ClaimsWork, LeavesPick, HasBestNode, KeepsGuesses};
-ghost use Rattle.bf_core.specs.Machine.{StaysBeside, AreWithdrawn, IsRefused, IsLegOver};
+ghost use Rattle.bf_core.specs.Machine.{StaysBeside, AreWithdrawn, IsRefused, IsLegOver, IsOverGraph};
 
 use crate::answers::{ApplyFault, CoreParts, Pick, Withdrawn};
 use crate::claims::{end_claim, has_claim, stands, without};
@@ -134,6 +134,7 @@ impl<'r> Core<'r> {
         ensures ending { result.ending ≡ self.entry.ending }
         ensures table { result.table ≡ self.entry.table }
         ensures consumed { IsConsumed self.entry }
+        ensures over { IsOverGraph (setting_of self.entry) }
     {
         let Core {
             alloc: _,

@@ -1,5 +1,5 @@
 -- The history of a board: one event more, and the claims that stand then.
-use Rattle.std.proofs.Common.{◌≡◌, ℕ, ◌<◌, ◌≤◌, ◌+◌, suc, Bool, true, false, not, ◌&&◌, ◌||◌, ◌==◌, cond, List, [], ◌∷◌, ◌++◌, length, Option, Some, None, refl, sym, subst, ◌∙◌, arith, length-append}
+use Rattle.std.proofs.Common.{◌≡◌, ℕ, ◌<◌, ◌≤◌, ◌+◌, suc, Bool, true, false, not, ◌&&◌, ◌||◌, ◌==◌, cond, List, [], ◌∷◌, ◌++◌, length, All, Option, Some, None, refl, sym, subst, ◌∙◌, arith, length-append}
 use Rattle.std.specs.List.{find}
 use Rattle.std.specs.Option.{option_map}
 use Rattle.std.proofs.lemmas.List.Elements.{All-push}
@@ -12,8 +12,8 @@ use Rattle.bf_search.specs.Farm.{Setting, Farm, step, after_events, has_claim, s
 use Rattle.bf_core.specs.Machine.{Machine, IsStep, ClaimsWork}
 use Rattle.bf_core.specs.declared.answers.Pick.{Pick}
 use Rattle.bf_core.specs.declared.answers.Pick.TheVariants.{Work}
-use Rattle.bf_farm.specs.Boards.{BoardView, LeadsTo, unclaimed, claimed_by, Does, DoesIf, GivesBack}
-use Rattle.bf_farm.specs.Reports.{IsPostIn, PostsIn}
+use Rattle.bf_farm.specs.Boards.{BoardView, LeadsTo, unclaimed, claimed_by, Does, DoesIf}
+use Rattle.bf_farm.specs.Sound.{IsSoundEvent, GivesBack}
 
 -- what follows one event more
 pub after_one_more : (setting : Setting) (start : Option Farm) (es : List Event) (e : Event) (farm next : Farm)
@@ -108,16 +108,16 @@ give_keeps_table setting farm next worker p e =
     subst (λ (f : Farm). f.table ≡ farm.table) (chosen (stands farm.claims worker p) (record farm { claims = without farm.claims worker }) next e) refl
 
 pub gives_none : (b : BoardView) → GivesBack b b
-gives_none b = record { start = record { setting = refl; first = refl }; first = refl; table = refl; posts = λ names answers h. h }
+gives_none b = record { start = record { setting = refl; first = refl }; first = refl; table = refl; posts = λ told names answers h. h }
 
 pub gives_more : (a b c : BoardView) (worker p : ℕ) → GivesBack a b → Does b c (events.Give worker p) → GivesBack a c
 gives_more a b c worker p given does = record {
   start = record { setting = does.start.setting ∙ given.start.setting; first = does.start.first ∙ given.start.first };
   first = does.first ∙ given.first;
   table = give_keeps_table b.core.setting b.core.farm c.core.farm worker p does.done ∙ given.table;
-  posts = λ names answers h.
-      subst (λ (l : List Event). PostsIn names answers l) (sym does.noted)
-      (All-push (λ (e : Event). IsPostIn names answers e) b.events (events.Give worker p) (given.posts names answers h) tt);
+  posts = λ told names answers h.
+      subst (λ (l : List Event). All (λ e. IsSoundEvent told names answers e) l) (sym does.noted)
+      (All-push (λ (e : Event). IsSoundEvent told names answers e) b.events (events.Give worker p) (given.posts told names answers h) tt);
 }
 
 pub fewer_given : (a b : BoardView) (worker p : ℕ) → Does a b (events.Give worker p) → stands a.core.farm.claims worker p ≡ true

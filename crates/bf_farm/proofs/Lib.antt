@@ -1,9 +1,14 @@
 pub mod Asked
+pub mod Gaining
+pub mod GoingOn
 pub mod History
 pub mod Listed
 pub mod Marking
+pub mod Planned
 pub mod Reporting
+pub mod Promised
 pub mod Rests
 pub mod Seen
 pub mod Soundness
 pub mod Telling
+pub mod Teams

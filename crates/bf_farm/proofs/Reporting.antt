@@ -66,7 +66,7 @@ fault_of : (core : CoreView) (before now : ℕ) (failed result : Option ℕ) (p 
 fault_of core before now failed None p ends waits = cc (ends, ap (λ (e : End). is_open e) waits)
 fault_of core before now failed (Some q) p ends waits = (ends.rose, cc (ends.latest, ends.waits, waits))
 
-end_reported : (setting : Setting) (first : Session) (names : List Oid) (report : Report) → IsReport setting first names report
+pub end_reported : (setting : Setting) (first : Session) (names : List Oid) (report : Report) → IsReport setting first names report
     → end_of report.ending ≡ (consumed setting report.table).end
 end_reported setting first names report h = h.ending ∙ ap (λ r. r.end) h.table
 

@@ -1,6 +1,7 @@
 -- A board that tells of answers alone still does after an event that does.
-use Rattle.std.proofs.Common.{◌≡◌, ◌⊎◌, inl, inr, ℕ, zero, suc, Bool, true, false, List, [], ◌∷◌, ◌++◌, get_or, set, All, Contains, Option, Some, None, refl, sym, ap, subst, ◌∙◌, arith}
+use Rattle.std.proofs.Common.{◌≡◌, ◌⊎◌, inl, inr, ℕ, zero, suc, Bool, true, false, List, [], ◌∷◌, ◌++◌, get_or, set, length, All, Contains, Option, Some, None, refl, sym, ap, subst, ◌∙◌, arith}
 use Rattle.std.proofs.lemmas.List.Elements.{All-push, All-contains, All-contains_itself, Contains-append_left, Contains-append_right}
+use Rattle.std.proofs.lemmas.List.{length-set}
 use Rattle.std.specs.List.{slice_get}
 use Rattle.bf_grammar.specs.declared.object.Oid.{Oid}
 use Rattle.bf_search.specs.declared.farm.Event.{Event}
@@ -12,8 +13,8 @@ use Rattle.bf_farm.specs.Cores.{CoreView, IsSameStart}
 use Rattle.bf_tester.specs.declared.answer.Answer.{Answer}
 use Rattle.bf_tester.specs.Replies.{answer_of, FollowsPlan}
 use Rattle.bf_farm.specs.Boards.{BoardView, Does, DoesIf, IsSameBoard}
-use Rattle.bf_farm.specs.Reports.{IsAnswered, AreAmong}
-use Rattle.bf_farm.specs.Sound.{IsSound, IsSoundPost, IsSoundEvent, ArePartOf}
+use Rattle.bf_farm.specs.Reports.{IsAnswered, AreAmong, TableIn}
+use Rattle.bf_farm.specs.Sound.{IsSound, IsSoundPost, IsSoundEvent, ArePartOf, GivesBack}
 use Rattle.bf_farm.proofs.History.{chosen}
 
 -- the table after an event
@@ -80,6 +81,23 @@ pub first_if : (legal : Bool) (old new : BoardView) (e : Event) → DoesIf legal
 first_if true old new e does = does.first
 first_if false old new e same = same.first
 
+table_len : (e : Event) (table : List (Option Outcome)) → length (table_with e table) ≡ length table
+table_len (events.Claim worker p) table = refl
+table_len (events.Post worker p outcome) table = length-set table p (Some outcome)
+table_len (events.Give worker p) table = refl
+
+pub len_if : (legal : Bool) (old new : BoardView) (e : Event) → DoesIf legal old new e → length new.core.farm.table ≡ length old.core.farm.table
+len_if true old new e does =
+    ap (λ (t : List (Option Outcome)). length t) (table_after old.core.setting old.core.farm new.core.farm e does.done) ∙ table_len e old.core.farm.table
+len_if false old new e same = ap (λ (x : CoreView). length x.farm.table) same.core
+
+pub sound_given : (told : Option (List Outcome)) (names : List Oid) (answers : List Answer) (old new : BoardView)
+    → GivesBack old new → IsSound told names answers old → IsSound told names answers new
+sound_given told names answers old new given sound = record {
+  table = λ p outcome h. sound.table p outcome (subst (λ (t : List (Option Outcome)). outcomes_of_table t p ≡ Some outcome) given.table h);
+  posts = given.posts told names answers sound.posts;
+}
+
 pub start_of : (b : BoardView) → IsSameStart b.core b.core
 start_of b = record { setting = refl; first = refl }
 
@@ -123,6 +141,10 @@ answered_wider names more answers p outcome among h = record {
   named = h.named;
   given = All-contains (λ (v : Answer). Contains more v) answers (answer_of p h.name outcome) among h.given;
 }
+
+pub table_wider : (names : List Oid) (more answers : List Answer) (table : List (Option Outcome)) → AreAmong more answers
+    → TableIn names answers table → TableIn names more table
+table_wider names more answers table among known = λ p outcome h. answered_wider names more answers p outcome among (known p outcome h)
 
 post_wider : (told : Option (List Outcome)) (names : List Oid) (more answers : List Answer) (p : ℕ) (outcome : Outcome) → AreAmong more answers
     → IsSoundPost told names answers p outcome → IsSoundPost told names more p outcome

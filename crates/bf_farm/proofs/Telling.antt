@@ -1,6 +1,8 @@
 -- The answers of the places that a run used tell the run.
-use Rattle.std.proofs.Common.{◌≡◌, ℕ, suc, true, ◌||◌, is_some, List, [], ◌∷◌, ◌++◌, map, Option, Some, None, All, refl, sym, ap, ◌∙◌, subst, arith}
+use Rattle.std.proofs.Common.{◌≡◌, ◌≢◌, ℕ, suc, true, ◌||◌, is_some, List, [], ◌∷◌, ◌++◌, length, get_or, map, Option, Some, None, All, refl, sym, ap, ◌∙◌, subst, arith}
+use Rattle.std.specs.List.{AllPairs}
 use Rattle.std.proofs.lemmas.Bool.{both_ways}
+use Rattle.std.proofs.lemmas.List.{get_or-map, length-map}
 use Rattle.std.proofs.lemmas.List.Elements.{All-nil, All-cons}
 use Rattle.bf_grammar.specs.declared.object.Oid.{Oid}
 use Rattle.bf_search.specs.declared.entries.Entry.{Entry}
@@ -13,9 +15,12 @@ use Rattle.bf_search.specs.Run.{End, Answered, Leg, Open, Aborted, Run, leg_of, 
 use Rattle.bf_spec.specs.Walks.{Tells}
 use Rattle.bf_state.specs.Runs.{is_open}
 use Rattle.bf_state.specs.Session.{Session, with_search}
-use Rattle.bf_guesses.proofs.Used.{told, pairs_tell}
+use Rattle.bf_guesses.specs.Ends.{marks_of}
+use Rattle.bf_guesses.proofs.Causes.{leg_ends, leg_made}
+use Rattle.bf_guesses.proofs.Used.{told, pairs_tell, used_differ}
+use Rattle.bf_core.specs.Machine.{IsOverGraph}
 use Rattle.bf_tester.specs.declared.answer.Answer.{Answer}
-use Rattle.bf_farm.specs.Answering.{pair_of, run_on, IsReport}
+use Rattle.bf_farm.specs.Answering.{pair_of, run_on, IsLegOver, IsReport}
 use Rattle.bf_farm.specs.Ends.{StopsAt}
 use Rattle.bf_farm.specs.declared.report.Report.{Report}
 use Rattle.bf_farm.specs.Used.{marked_places, aborting_place, ending_place, used_places, AreAnswersAt}
@@ -128,11 +133,34 @@ answers_of_run setting names table other entries o answers same is tells h =
     (ap (λ (es : List Entry). marked_places es ++ ending_place o) is ∙ ap (λ (l : List ℕ). marked_places (consumed setting table).entries ++ l)
     (ending_tells o (consumed setting table).end tells)) h)
 
+-- answers of pairs with different places have different places
+apart_pairs : (answers : List Answer) → AllPairs (λ (a b : ℕ × Outcome). a.0 ≢ b.0) (map pair_of answers) → AllPairs (λ (a b : Answer). a.place ≢ b.place) answers
+apart_pairs answers h = λ i j d below within.
+    subst (λ (pair : ℕ × Outcome). pair.0 ≢ (get_or answers j d).place) (get_or-map pair_of answers i d (pair_of d) (omega arith))
+    (subst (λ (pair : ℕ × Outcome). (get_or (map pair_of answers) i (pair_of d)).0 ≢ pair.0) (get_or-map pair_of answers j d (pair_of d) within)
+    (h i j (pair_of d) below (omega (arith, length-map answers pair_of))))
+
+leg_only : (ending : Ending) → end_of ending ≡ Leg → ending ≡ endings.Leg
+leg_only (endings.FirstBad p) e = cc
+leg_only (endings.OnlySkipped ps) e = cc
+leg_only (endings.MergeBaseBad p) e = cc
+leg_only (endings.GoodNotAncestor p) e = cc
+leg_only (endings.BothSides p) e = cc
+leg_only (endings.Aborted p outcome) e = cc
+leg_only endings.Leg e = refl
+leg_only (endings.TestFault p) e = cc
+
+over_by : (setting : Setting) (table : List (Option Outcome)) (report : Report) → IsOverGraph setting
+    → report.entries.items ≡ (consumed setting table).entries → (consumed setting table).end ≡ Leg → IsLegOver setting.leg report.entries.items
+over_by setting table report over entries ends =
+    let both = leg_ends setting.graph (outcomes_of_table table) over.parents setting.start setting.leg over.places ends in
+    record { has_end = both.0; made = ap (λ (es : List Entry). length (marks_of es)) entries ∙ both.1 }
+
 pub reports : (setting : Setting) (first : Session) (names : List Oid) (table : List (Option Outcome)) (report : Report)
     → report.entries.items ≡ (consumed setting table).entries
     → report.state ≡ with_search first (consumed setting table).search → end_of report.ending ≡ (consumed setting table).end → report.table ≡ table
-    → AreAnswersAt names table (used_places (consumed setting table)) report.used.items → IsReport setting first names report
-reports setting first names table report entries state ending same h =
+    → AreAnswersAt names table (used_places (consumed setting table)) report.used.items → IsOverGraph setting → IsReport setting first names report
+reports setting first names table report entries state ending same h over =
     let is : run_on setting report.used.items ≡ consumed setting table = run_is setting table names report.used.items h in
     record {
       entries = entries ∙ ap (λ (r : Run). r.entries) (sym is);
@@ -141,6 +169,14 @@ reports setting first names table report entries state ending same h =
       used = used_are setting table names report.used.items h ∙ ap (λ (r : Run). r.used) (sym is);
       table = is ∙ ap (λ (t : List (Option Outcome)). consumed setting t) (sym same);
       named = h.named;
+      once = apart_pairs report.used.items
+          (subst (λ (pairs : List (ℕ × Outcome)). AllPairs (λ a b. a.0 ≢ b.0) pairs) (sym (used_are setting table names report.used.items h))
+          (used_differ setting.graph (outcomes_of_table table) over.parents (leg_of setting.leg) setting.start over.places));
+      leg = (
+        λ e. over_by setting table report over entries (sym ending ∙ ap (λ (x : Ending). end_of x) e),
+        λ spent. leg_only report.ending (ending ∙ leg_made setting.graph (outcomes_of_table table) over.parents setting.start setting.leg over.places spent.has_end
+            (sym (ap (λ (es : List Entry). length (marks_of es)) entries) ∙ spent.made)),
+      );
     }
 
 -- no run has ended that waits

@@ -1,14 +1,18 @@
 -- What a run of tests promises of its report.
-use Rattle.std.specs.Prelude.{◌≡◌, ℕ, List, map, filter, All, Option, Some}
-use Rattle.std.specs.List.{slice_get}
+use Rattle.std.specs.Prelude.{◌≡◌, ◌≢◌, ◌↔◌, ℕ, ◌<◌, ◌≤◌, ◌*◌, ◌^◌, true, List, length, map, filter, All, Option, Some}
+use Rattle.std.specs.List.{slice_get, AllPairs}
 use Rattle.std.specs.Option.{is_none}
 use Rattle.bf_grammar.specs.declared.object.Oid.{Oid}
 use Rattle.bf_io.specs.Causes.{Rose}
-use Rattle.bf_search.specs.declared.farm.Ending.TheVariants.{TestFault}
+use Rattle.bf_search.specs.declared.entries.Entry.{Entry}
+use Rattle.bf_search.specs.declared.farm.Ending.TheVariants.{Leg, TestFault}
 use Rattle.bf_search.specs.declared.outcomes.Outcome.{Outcome}
 use Rattle.bf_search.specs.Farm.{Setting, consumed, end_of}
 use Rattle.bf_search.specs.Outcomes.{outcomes_of_pairs, outcomes_of_table}
+use Rattle.bf_search.specs.OpenPaths.{left_of}
 use Rattle.bf_search.specs.Run.{Run, seq}
+use Rattle.bf_guesses.specs.Ends.{marks_of}
+use Rattle.bf_guesses.specs.Halving.{IsLine, NoneSkipped, IsGoodOrBad}
 use Rattle.bf_state.specs.Session.{Session, with_search}
 use Rattle.bf_tester.specs.declared.answer.Answer.{Answer}
 use Rattle.bf_farm.specs.declared.report.Report.{Report}
@@ -28,7 +32,12 @@ setting_at graph first leg = record { graph = graph; start = first.search; leg =
 abbrev pub run_on : Setting → List Answer → Run
 run_on setting used = seq setting.graph setting.start (outcomes_of_pairs (map pair_of used)) setting.leg
 
--- The report is that of testing one commit at a time on the answers that were used.
+-- a leg has an end, and so many marks were made
+pub record IsLegOver (leg : ℕ) (entries : List Entry) : Type 0 where
+  pub has_end : 0 < leg
+  pub made : length (marks_of entries) ≡ leg
+
+-- The report is that of testing one commit at a time on the answers that were used, each place once.
 pub record IsReport (setting : Setting) (first : Session) (names : List Oid) (report : Report) : Type 0 where
   pub entries : report.entries.items ≡ (run_on setting report.used.items).entries
   pub state : report.state ≡ with_search first (run_on setting report.used.items).search
@@ -36,6 +45,8 @@ pub record IsReport (setting : Setting) (first : Session) (names : List Oid) (re
   pub used : map pair_of report.used.items ≡ (run_on setting report.used.items).used
   pub table : run_on setting report.used.items ≡ consumed setting report.table
   pub named : All (λ a. slice_get names a.place ≡ Some a.name) report.used.items
+  pub once : AllPairs (λ a b. a.place ≢ b.place) report.used.items
+  pub leg : (report.ending ≡ Leg) ↔ IsLegOver setting.leg report.entries.items
 
 -- Its events are legal from the given table, leave no claim, and lead to the reported table.
 abbrev pub HasHistory : Setting → List (Option Outcome) → Report → Type 0
@@ -52,6 +63,12 @@ IsAlone report = AreAlone report.events.items
 -- the used answers that a table lacks, in order
 abbrev pub lacking : List (Option Outcome) → List Answer → List Answer
 lacking table used = filter (λ a. is_none (outcomes_of_table table a.place)) used
+
+-- Among candidates in one line each test halves them, where nothing is skipped and each outcome is good or bad.
+abbrev pub Halves : Setting → Report → Type 0
+Halves setting report =
+    setting.start.checked ≡ true → NoneSkipped setting.start → IsLine setting.graph setting.start → All (λ a. IsGoodOrBad a.outcome) report.used.items
+    → 1 ≤ left_of setting.graph setting.start → 2 ^ length report.used.items < 2 * left_of setting.graph setting.start
 
 -- It tells of answers alone: its table, which follows the plan, its posts, and what it used.
 pub record IsSoundReport (told : Option (List Outcome)) (names : List Oid) (answers : List Answer) (report : Report) : Type 0 where

@@ -7,9 +7,6 @@ use Rattle.bf_search.specs.declared.farm.Event.TheVariants as events
 use Rattle.bf_search.specs.declared.outcomes.Outcome.{Outcome}
 use Rattle.bf_search.specs.Farm.{Setting, Farm, step, after_events, best_place}
 use Rattle.bf_state.specs.Runs.{is_open}
-use Rattle.bf_grammar.specs.declared.object.Oid.{Oid}
-use Rattle.bf_tester.specs.declared.answer.Answer.{Answer}
-use Rattle.bf_farm.specs.Reports.{PostsIn}
 use Rattle.bf_farm.specs.Cores.{CoreView, run_of, IsSameStart}
 use Rattle.bf_core.specs.declared.answers.Pick.{Pick}
 use Rattle.bf_core.specs.declared.answers.Pick.TheVariants.{Work, NotYet, Ended}
@@ -62,10 +59,3 @@ PicksNew old new worker Ended = IsSameBoard old new × (is_open (run_of old.core
 abbrev pub PicksFor : Option ℕ → BoardView → BoardView → ℕ → Pick → Type 0
 PicksFor (Some p) old new worker pick = (pick ≡ Work p) × IsSameBoard old new
 PicksFor None old new worker pick = PicksNew old new worker pick
-
--- claims were given back, and nothing else has changed
-pub record GivesBack (old new : BoardView) : Type 0 where
-  pub start : IsSameStart old.core new.core
-  pub first : new.first ≡ old.first
-  pub table : new.core.farm.table ≡ old.core.farm.table
-  pub posts : (names : List Oid) (answers : List Answer) → PostsIn names answers old.events → PostsIn names answers new.events

@@ -1,10 +1,11 @@
 //! Testing one commit at a time, on a board of one's own.
-ghost use Rattle.std.specs.Prelude.{◌≡◌, false, ◌≤◌, ◌<◌, [], length, List, Option, None, Some, OnOk, IfOk};
+ghost use Rattle.std.specs.Prelude.{◌≡◌, false, ◌≤◌, ◌<◌, [], ◌++◌, length, List, Option, None, Some, OnOk, IfOk};
 ghost use Rattle.bf_io.specs.Causes.{Rose};
 ghost use Rattle.bf_search.specs.Farm.{best_place};
 ghost use Rattle.bf_search.specs.Run.{Open};
 ghost use Rattle.bf_farm.specs.Cores.{IsSameStart, run_of};
-ghost use Rattle.bf_farm.specs.Answering.{IsReport, IsSoundReport, HasHistory, HasFault, IsAlone, setting_at};
+ghost use Rattle.bf_farm.specs.Answering.{IsReport, IsSoundReport, HasHistory, HasFault, IsAlone, setting_at, lacking, Halves};
+ghost use Rattle.bf_farm.specs.Gains.{GainsMore};
 ghost use Rattle.bf_guesses.specs.Ends.{HasEnds};
 ghost use Rattle.bf_farm.specs.Ends.{EndsWith, IsAsking, IsNext, TurnEnds, AreAlone, missing};
 ghost use Rattle.bf_farm.specs.Reports.{manner_by, TableIn, TableFollows};
@@ -64,6 +65,7 @@ fn test_claimed<R: Host, T: Tester>(
     requires within { place < length board.old.core.farm.table }
     requires asking { IsAsking board.old.core place }
     ensures sound { OnOk result (IsSound (T.told tester.old) names.now (T.answers tester.old) board.old → IsSound (T.told tester.old) names.now (T.answers tester.new) board.new) }
+    ensures gains { OnOk result (GainsMore names.now board.old.core (T.answers tester.old) board.new.core (T.answers tester.new)) }
     ensures start { OnOk result (IsSameStart board.old.core board.new.core) }
     ensures first { OnOk result (board.new.first ≡ board.old.first) }
     ensures manner { manner_by T.told T.command T.is_lenient T.grounds T.recalled tester.new ≡ manner_by T.told T.command T.is_lenient T.grounds T.recalled tester.old }
@@ -99,6 +101,7 @@ fn take_turn<R: Host, T: Tester>(
     requires named { length names.now ≡ length board.old.core.farm.table }
     requires claims { board.old.core.farm.claims ≡ [] }
     ensures sound { OnOk result (IsSound (T.told tester.old) names.now (T.answers tester.old) board.old → IsSound (T.told tester.old) names.now (T.answers tester.new) board.new) }
+    ensures gains { OnOk result (GainsMore names.now board.old.core (T.answers tester.old) board.new.core (T.answers tester.new)) }
     ensures start { OnOk result (IsSameStart board.old.core board.new.core) }
     ensures first { OnOk result (board.new.first ≡ board.old.first) }
     ensures manner { manner_by T.told T.command T.is_lenient T.grounds T.recalled tester.new ≡ manner_by T.told T.command T.is_lenient T.grounds T.recalled tester.old }
@@ -126,6 +129,7 @@ pub(crate) fn go_on<R: Host, T: Tester>(
     requires named { length names.now ≡ length board.old.core.farm.table }
     requires claims { board.old.core.farm.claims ≡ [] }
     ensures sound { OnOk result (IsSound (T.told tester.old) names.now (T.answers tester.old) board.old → IsSound (T.told tester.old) names.now (T.answers tester.new) board.new) }
+    ensures gains { OnOk result (GainsMore names.now board.old.core (T.answers tester.old) board.new.core (T.answers tester.new)) }
     ensures start { OnOk result (IsSameStart board.old.core board.new.core) }
     ensures first { OnOk result (board.new.first ≡ board.old.first) }
     ensures manner { manner_by T.told T.command T.is_lenient T.grounds T.recalled tester.new ≡ manner_by T.told T.command T.is_lenient T.grounds T.recalled tester.old }
@@ -159,6 +163,8 @@ pub(crate) fn finish<R: Host, T: Tester>(
     ensures history { IfOk result (HasHistory board.entry.core.setting board.entry.first) }
     ensures sound { IfOk result (IsSoundReport (T.told tester.old) names.now (T.answers tester.new)) }
     ensures fault { IfOk result (HasFault (T.faults tester.old) (T.faults tester.new) (T.failed tester.new)) }
+    ensures lacking { IfOk result (λ report. T.answers tester.new ≡ T.answers tester.old ++ lacking board.entry.core.farm.table report.used.items) }
+    ensures halving { IfOk result (Halves board.entry.core.setting) }
     ensures alone { IfOk result (λ report. AreAlone board.entry.events → IsAlone report) }
     ensures manner { manner_by T.told T.command T.is_lenient T.grounds T.recalled tester.new ≡ manner_by T.told T.command T.is_lenient T.grounds T.recalled tester.old }
     ensures is_split { T.is_split tester.new ≡ T.is_split tester.old }
@@ -190,6 +196,8 @@ pub fn run_alone<R: Host, T: Tester>(
     ensures history { IfOk result (HasHistory (setting_at case.entry.reach.now case.entry.state case.entry.leg) case.entry.table) }
     ensures sound { IfOk result (IsSoundReport (T.told tester.old) case.entry.names.now (T.answers tester.new)) }
     ensures fault { IfOk result (HasFault (T.faults tester.old) (T.faults tester.new) (T.failed tester.new)) }
+    ensures lacking { IfOk result (λ report. T.answers tester.new ≡ T.answers tester.old ++ lacking case.entry.table report.used.items) }
+    ensures halving { IfOk result (Halves (setting_at case.entry.reach.now case.entry.state case.entry.leg)) }
     ensures alone { IfOk result IsAlone }
     ensures manner { manner_by T.told T.command T.is_lenient T.grounds T.recalled tester.new ≡ manner_by T.told T.command T.is_lenient T.grounds T.recalled tester.old }
     ensures is_split { T.is_split tester.new ≡ false }

@@ -4,10 +4,12 @@ ghost use Rattle.bf_guesses.specs.Ends.{HasEnds};
 ghost use Rattle.bf_search.specs.Farm.{stands, has_claim};
 ghost use Rattle.bf_search.specs.declared.farm.Event.TheVariants as event;
 ghost use Rattle.std.specs.List.Sorted.{IsStrictlyIncreasing};
+ghost use Rattle.bf_core.specs.Machine.{IsOverGraph};
 ghost use Rattle.bf_farm.specs.Cores.{AreWithdrawn, run_of};
 ghost use Rattle.bf_state.specs.Session.{with_search};
 ghost use Rattle.bf_spec.specs.Walks.{Tells};
-ghost use Rattle.bf_farm.specs.Boards.{LeadsTo, unclaimed, BoardView, IsSameBoard, Does, DoesIf, PicksFor, PicksNew, claimed_by, GivesBack};
+ghost use Rattle.bf_farm.specs.Boards.{LeadsTo, unclaimed, BoardView, IsSameBoard, Does, DoesIf, PicksFor, PicksNew, claimed_by};
+ghost use Rattle.bf_farm.specs.Sound.{GivesBack};
 
 use bf_core::{ApplyFault, Core, CoreParts, Pick, Withdrawn};
 use bf_reach::Reach;
@@ -146,6 +148,7 @@ impl<'r> Board<'r> {
         ensures state { result.0.state ≡ with_search self.entry.core.first (run_of self.entry.core).search }
         ensures ending { Tells result.0.ending (run_of self.entry.core).end }
         ensures table { result.0.table ≡ self.entry.core.farm.table }
+        ensures over { IsOverGraph self.entry.core.setting }
         ensures events { result.1.items ≡ self.entry.events }
         ensures history { LeadsTo self.entry.core.setting self.entry.first self.entry.events self.entry.core.farm }
     {

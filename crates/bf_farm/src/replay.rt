@@ -1,5 +1,5 @@
 //! The replay of what the workers did, on a board of one's own.
-ghost use Rattle.std.specs.Prelude.{◌≡◌, true, List, Option, All, OnOk};
+ghost use Rattle.std.specs.Prelude.{◌≡◌, true, List, Option, All, OnOk, length};
 ghost use Rattle.bf_farm.specs.Cores.{IsSameStart};
 ghost use Rattle.bf_search.specs.declared.outcomes.Outcome.{Outcome};
 ghost use Rattle.bf_tester.specs.declared.answer.Answer.{Answer};
@@ -90,6 +90,7 @@ pub(crate) fn replay<T: Tester>(
 ) -> Result<(), AllocError>
     ensures start { OnOk result (IsSameStart board.old.core board.new.core) }
     ensures first { OnOk result (board.new.first ≡ board.old.first) }
+    ensures len { OnOk result (length board.new.core.farm.table ≡ length board.old.core.farm.table) }
     ensures sound { OnOk result ((told : Option (List Outcome)) (answers : List Answer) → All (λ w. ArePartOf told answers (T.answers w.tester)) workers.now → IsSound told names.now answers board.old → IsSound told names.now answers board.new) }
 {
     for event in events {

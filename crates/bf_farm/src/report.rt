@@ -5,6 +5,7 @@ ghost use Rattle.bf_search.specs.Farm.{end_of};
 ghost use Rattle.bf_search.specs.Outcomes.{outcomes_of_table};
 ghost use Rattle.bf_search.specs.Run.{End};
 ghost use Rattle.bf_spec.specs.Walks.{Tells};
+ghost use Rattle.bf_core.specs.Machine.{IsOverGraph};
 ghost use Rattle.bf_farm.specs.Answering.{IsReport, HasHistory};
 ghost use Rattle.bf_farm.specs.Cores.{run_of};
 ghost use Rattle.bf_farm.specs.Ends.{StopsAt};
@@ -130,6 +131,7 @@ pub(crate) fn report_of(
     requires claims { board.core.farm.claims ≡ [] }
     requires stops { StopsAt (run_of board.core).end failed }
     ensures report { IfOk result (IsReport board.entry.core.setting board.entry.core.first names.now) }
+    ensures over { OnOk result (IsOverGraph board.entry.core.setting) }
     ensures history { IfOk result (HasHistory board.entry.core.setting board.entry.first) }
     ensures table { IfOk result (λ report. report.table ≡ board.entry.core.farm.table) }
     ensures events { IfOk result (λ report. report.events.items ≡ board.entry.events) }

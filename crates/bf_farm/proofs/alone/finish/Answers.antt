@@ -1,3 +1,5 @@
+use Rattle.bf_farm.proofs.Gaining.{gained_none}
+use Rattle.bf_farm.proofs.Promised.{lacking_told, halves_told, over_before}
 use Rattle.bf_farm.proofs.Reporting.{sound_report, stops_of, fault_told, same_report, same_history}
 use Rattle.bf_farm.proofs.alone.finish.Goals as goal
 
@@ -22,3 +24,17 @@ pub returns-clause-fault : goal.returns-clause-fault
 returns-clause-fault g c =
     fault_told c.go_on.new.board.core c.args.names.now _ _ _ c.in_ok-failed.failed c.in_ok-report.report c.in_ok-failed.ensures.ends
     c.in_ok-report.ensures.report c.in_ok-report.ensures.table
+
+pub returns-clause-lacking : goal.returns-clause-lacking
+returns-clause-lacking g c =
+    lacking_told c.args.names.now c.args.board.core.farm.table (g.T.Tester.answers c.args.tester.now) (g.T.Tester.answers c.go_on.new.tester)
+    c.go_on.new.board.core c.go_on.new.board.core.first c.in_ok-report.report
+    (c.in_ok-failed.ensures.gains
+    (over_before c.args.board.core c.go_on.new.board.core c.in_ok-failed.ensures.start c.in_ok-report.ensures.over) c.args.board.core.farm.table (g.T.Tester.answers c.args.tester.now)
+    (gained_none c.args.names.now c.args.board.core (g.T.Tester.answers c.args.tester.now)))
+    c.in_ok-report.ensures.report c.in_ok-report.ensures.table
+
+pub returns-clause-halving : goal.returns-clause-halving
+returns-clause-halving g c =
+    halves_told c.args.board.core.setting c.args.board.core.first c.args.names.now c.in_ok-report.report
+    (over_before c.args.board.core c.go_on.new.board.core c.in_ok-failed.ensures.start c.in_ok-report.ensures.over) (returns-clause-report g c)

@@ -1,6 +1,7 @@
 use Rattle.std.proofs.Common.{◌≡◌, ◌≤◌, [], length}
 use Rattle.bf_farm.specs.Cores.{IsSameStart}
 use Rattle.bf_farm.specs.Ends.{AreAlone, missing}
+use Rattle.bf_farm.specs.Gains.{GainsMore}
 use Rattle.bf_farm.specs.Reports.{manner_by}
 use Rattle.bf_farm.specs.Sound.{IsSound}
 use Rattle.bf_farm.proofs.alone.go_on.Given as goal
@@ -9,6 +10,7 @@ abbrev pub invariant-loop-place : goal.invariant-loop-place
 invariant-loop-place g l = record {
   sound : IsSound (g.T.Tester.told l.fn.tester) l.names (g.T.Tester.answers l.fn.tester) l.fn.board
       → IsSound (g.T.Tester.told l.fn.tester) l.names (g.T.Tester.answers l.tester) l.board;
+  gains : GainsMore l.names l.fn.board.core (g.T.Tester.answers l.fn.tester) l.board.core (g.T.Tester.answers l.tester);
   start : IsSameStart l.fn.board.core l.board.core;
   first : l.board.first ≡ l.fn.board.first;
   manner : manner_by g.T.Tester.told g.T.Tester.command g.T.Tester.is_lenient g.T.Tester.grounds g.T.Tester.recalled l.tester

@@ -1,4 +1,5 @@
 use Rattle.bf_farm.proofs.Asked.{on_ok}
+use Rattle.bf_farm.proofs.Gaining.{gains_kept, gains_then}
 use Rattle.bf_farm.proofs.alone.take_turn.Goals as goal
 
 pub returns-in-Some-clause-sound : goal.returns-in-Some-clause-sound
@@ -13,3 +14,17 @@ returns-in-Some-clause-alone g c =
 
 pub returns-in-None-clause-sound : goal.returns-in-None-clause-sound
 returns-in-None-clause-sound g c = c.in_ok-place.ensures.sound (g.T.Tester.told c.args.tester.now) c.args.names.now (g.T.Tester.answers c.args.tester.now)
+
+pub returns-in-Some-clause-gains : goal.returns-in-Some-clause-gains
+returns-in-Some-clause-gains g c =
+    on_ok c.test_claimed.result
+    (λ gains. gains_then c.args.names.now (g.T.Tester.answers c.args.tester.now) (g.T.Tester.answers c.args.tester.now) (g.T.Tester.answers c.test_claimed.new.tester)
+    c.args.board.now.core c.next_place.new.board.core c.test_claimed.new.board.core c.in_ok-place.ensures.start
+    (gains_kept c.args.names.now (g.T.Tester.answers c.args.tester.now) c.args.board.now.core c.next_place.new.board.core c.in_ok-place.ensures.start
+    c.in_ok-place.ensures.table) gains)
+    c.test_claimed.ensures.gains
+
+pub returns-in-None-clause-gains : goal.returns-in-None-clause-gains
+returns-in-None-clause-gains g c =
+    gains_kept c.args.names.now (g.T.Tester.answers c.args.tester.now) c.args.board.now.core c.next_place.new.board.core c.in_ok-place.ensures.start
+    c.in_ok-place.ensures.table

@@ -2,6 +2,7 @@ use Rattle.std.proofs.lemmas.Option.{slice_get-get_or}
 use Rattle.bf_farm.proofs.Soundness.{sound_tested, sound_untested}
 use Rattle.bf_search.specs.declared.farm.Event.TheVariants as events
 use Rattle.bf_farm.proofs.Asked.{fewer_after, one_stands}
+use Rattle.bf_farm.proofs.Gaining.{gains_done, gains_none}
 use Rattle.bf_farm.proofs.History.{done_where}
 use Rattle.bf_farm.proofs.alone.test_claimed.Goals as goal
 
@@ -22,3 +23,14 @@ returns-in_ok-post-in-Done-clause-fewer g c = λ goes.
     fewer_after c.args.board.now c.post.new.self c.args.place c.in-Done.outcome c.requires.within c.requires.asking
     (done_where _ c.args.board.now c.post.new.self (events.Post 0 c.args.place c.in-Done.outcome) c.in_ok-post-in-Done.ensures.done
     (one_stands c.args.board.now.core c.args.place c.requires.asking))
+
+pub returns-in_ok-post-in-Done-clause-gains : goal.returns-in_ok-post-in-Done-clause-gains
+returns-in_ok-post-in-Done-clause-gains g c =
+    gains_done c.args.names.now (g.T.Tester.answers c.args.tester.now) (g.T.Tester.answers c.test.new.self) c.args.board.now c.post.new.self c.args.place _
+    c.in-Done.outcome c.requires.asking c.requires.within c.in_ok-post-in-Done.ensures.done
+    (slice_get-get_or c.args.names.now c.args.place _ c.requires.named) c.in-Done.ensures.answers
+
+pub returns-in-Failed-clause-gains : goal.returns-in-Failed-clause-gains
+returns-in-Failed-clause-gains g c =
+    gains_none c.args.names.now (g.T.Tester.answers c.args.tester.now) (g.T.Tester.answers c.test.new.self) c.args.board.now c.give.new.self c.args.place
+    c.requires.asking c.give.ensures c.in-Failed.ensures.answers

@@ -1,5 +1,5 @@
 use Rattle.std.proofs.Common.{◌∙◌}
-use Rattle.bf_farm.proofs.Soundness.{sound_if, start_if, start_then, first_if}
+use Rattle.bf_farm.proofs.Soundness.{sound_if, start_if, start_then, first_if, len_if}
 use Rattle.bf_farm.proofs.replay.replay.Goals as goal
 
 pub loop-event-preserved : goal.loop-event-preserved
@@ -7,6 +7,7 @@ loop-event-preserved g c = record {
   start = start_then c.args.board.now c.loop-event.board c.redo.new.self c.loop-event.invariant.start
       (start_if c.in_ok-redo.field-0 c.loop-event.board c.redo.new.self c.checked-event.result c.in_ok-redo.ensures.done);
   first = first_if c.in_ok-redo.field-0 c.loop-event.board c.redo.new.self c.checked-event.result c.in_ok-redo.ensures.done ∙ c.loop-event.invariant.first;
+  len = len_if c.in_ok-redo.field-0 c.loop-event.board c.redo.new.self c.checked-event.result c.in_ok-redo.ensures.done ∙ c.loop-event.invariant.len;
   sound = λ told answers parts before.
       sound_if told c.args.names.now answers c.in_ok-redo.field-0 c.loop-event.board c.redo.new.self c.checked-event.result c.in_ok-redo.ensures.done
       (c.checked-event.ensures told answers parts) (c.loop-event.invariant.sound told answers parts before);

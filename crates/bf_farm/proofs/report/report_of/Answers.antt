@@ -25,3 +25,4 @@ returns-clause-report c =
     (answers_of_run c.args.board.core.setting c.args.names.now c.args.board.core.farm.table c.into_parts-parts.result.0.table c.as_slice.result.now
     (option_copied c.as_ref.result) c.in_ok-used.used.items c.into_parts-parts.ensures.table (c.as_slice.ensures.value ∙ c.into_parts-parts.ensures.entries)
     (subst (λ (o : Option Ending). Tells o end) (sym c.as_ref.ensures.value) c.into_parts-parts.ensures.ending) c.in_ok-used.ensures)
+    c.into_parts-parts.ensures.over

@@ -1,5 +1,5 @@
 use Rattle.std.proofs.Common.{length}
-use Rattle.bf_farm.specs.Boards.{GivesBack}
+use Rattle.bf_farm.specs.Sound.{GivesBack}
 use Rattle.bf_farm.proofs.board.Board.give_all.Given as goal
 
 abbrev pub invariant-loop-claim : goal.invariant-loop-claim

@@ -1,0 +1,24 @@
+use Rattle.std.proofs.Common.{ℕ, List, Option, sym, ap, subst}
+use Rattle.bf_search.specs.declared.outcomes.Outcome.{Outcome}
+use Rattle.bf_farm.specs.Answering.{HasFault}
+use Rattle.bf_farm.specs.Reports.{Manner}
+use Rattle.bf_farm.specs.Sound.{IsSound}
+use Rattle.bf_farm.proofs.Soundness.{table_wider}
+use Rattle.bf_farm.proofs.Teams.{parts_of_team}
+use Rattle.bf_farm.proofs.farm.run_farm.Goals as goal
+
+pub finish-requires-clause-sound : goal.finish-requires-clause-sound
+finish-requires-clause-sound g c = λ κs lives.
+    subst (λ (t : Option (List Outcome)). IsSound t c.args.case.names.now (g.T.Tester.answers c.absorb_all.new.tester) c.in_ok-board.board)
+    (sym (ap (λ (m : Manner). m.told) c.in_ok-absorb_all.ensures.manner))
+    (c.in_ok-board.ensures.sound (g.T.Tester.told c.args.tester.now) (g.T.Tester.answers c.absorb_all.new.tester)
+    (parts_of_team g.T.Tester.told g.T.Tester.command g.T.Tester.is_lenient g.T.Tester.grounds g.T.Tester.recalled g.T.Tester.answers c.args.tester.now
+    (g.T.Tester.answers c.absorb_all.new.tester) c.in_ok-team.team.workers.items c.in_ok-team.ensures c.in_ok-absorb_all.ensures.absorbed)
+    (table_wider c.args.case.names.now (g.T.Tester.answers c.absorb_all.new.tester) (g.T.Tester.answers c.args.tester.now) c.args.case.table
+    c.in_ok-absorb_all.ensures.own c.requires.known)
+    c.requires.plan)
+
+pub returns-clause-fault : goal.returns-clause-fault
+returns-clause-fault g c =
+    subst (λ (n : ℕ). HasFault n (g.T.Tester.faults c.finish.new.tester) (g.T.Tester.failed c.finish.new.tester) c.in_ok-report.report)
+    c.in_ok-absorb_all.ensures.faults c.in_ok-report.ensures.fault

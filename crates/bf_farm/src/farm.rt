@@ -1,0 +1,147 @@
+//! Testing several commits at once.
+ghost use Rattle.std.specs.Prelude.{◌≡◌, false, ◌≤◌, [], length, List, Option, All, IfOk};
+ghost use Rattle.bf_farm.specs.Answering.{IsReport, IsSoundReport, HasHistory, HasFault, setting_at};
+ghost use Rattle.bf_farm.specs.Reports.{manner_by, IsPart, TableIn, TableFollows};
+ghost use Rattle.bf_farm.specs.Sound.{IsSound, ArePartOf};
+ghost use Rattle.bf_guesses.specs.Ends.{HasEnds};
+ghost use Rattle.bf_search.specs.declared.outcomes.Outcome.{Outcome};
+ghost use Rattle.bf_tester.specs.declared.answer.Answer.{Answer};
+
+use crate::absorb::absorb_all;
+use crate::alone::finish;
+use crate::board::Board;
+use crate::case::Case;
+use crate::replay::replay;
+use crate::report::Report;
+use crate::share::{lowered, run_workers, split_all};
+use crate::worker::Worker;
+use bf_search::Event;
+use bf_tester::{Host, Tester};
+use std::alloc::{AllocError, Global};
+
+/// Workers that are done, and the events of the board that they shared.
+#[derive(Drop)]
+struct Team<T: Drop> {
+    workers: Vec<Worker<T>>,
+    events: Vec<Event>,
+}
+
+/// A board for the workers. The case stays as it is.
+fn board_of<'r>(alloc: Global, case: &Case<'r>) -> Result<Board<'r>, AllocError>
+    requires len { length case.now.reach.now ≡ case.now.state.len }
+    requires table { length case.now.table ≡ case.now.state.len }
+    requires ends { HasEnds case.now.state.search }
+    ensures setting { IfOk result (λ board. board.core.setting ≡ setting_at case.entry.now.reach.now case.entry.now.state case.entry.now.leg) }
+    ensures first { IfOk result (λ board. board.first ≡ case.entry.now.table) }
+{
+    let state = case.state.try_clone()?;
+    let table = case.table.try_clone()?;
+    let board = Board::start(alloc, case.reach, state, table, case.leg)?;
+    Ok(board)
+}
+
+/// Lets so many workers test over a board of their own, each with a tester that is split off.
+fn work_apart<R: Host, T: Tester>(
+    rt: &R,
+    alloc: Global,
+    case: &Case<'_>,
+    count: u32,
+    tester: &T,
+) -> Result<Team<T>, AllocError>
+    requires len { length case.now.reach.now ≡ case.now.state.len }
+    requires table { length case.now.table ≡ case.now.state.len }
+    requires ends { HasEnds case.now.state.search }
+    ensures { IfOk result (λ team. All (λ w. IsPart T.told T.command T.is_lenient T.grounds T.recalled T.answers tester.now w.tester) team.workers.items) }
+{
+    let board = board_of(alloc, case)?;
+    let flags = lowered(alloc, count)?;
+    let mut workers = split_all(alloc, tester, count)?;
+    let events = run_workers(
+        rt,
+        board,
+        flags.as_slice(),
+        case.names,
+        workers.as_mut_slice(),
+    );
+    Ok(Team { workers, events })
+}
+
+/// So many counts, all zero.
+fn zeros(alloc: Global, count: usize) -> Result<Vec<usize>, AllocError> {
+    let mut counts = Vec::new(alloc);
+    counts.resize(count, 0)?;
+    Ok(counts)
+}
+
+/// A board on which the events of the workers are done again, each post only where the worker's tester
+/// has the answer. No claim stands on it.
+fn board_again<'r, T: Tester>(
+    alloc: Global,
+    case: Case<'r>,
+    team: &Team<T>,
+) -> Result<Board<'r>, AllocError>
+    requires len { length case.reach.now ≡ case.state.len }
+    requires table { length case.table ≡ case.state.len }
+    requires ends { HasEnds case.state.search }
+    ensures setting { IfOk result (λ board. board.core.setting ≡ setting_at case.entry.reach.now case.entry.state case.entry.leg) }
+    ensures state { IfOk result (λ board. board.core.first ≡ case.entry.state) }
+    ensures first { IfOk result (λ board. board.first ≡ case.entry.table) }
+    ensures claims { IfOk result (λ board. board.core.farm.claims ≡ []) }
+    ensures len { IfOk result (λ board. length board.core.farm.table ≡ length case.entry.table) }
+    ensures sound { IfOk result (λ board. (told : Option (List Outcome)) (answers : List Answer) → All (λ w. ArePartOf told answers (T.answers w.tester)) team.now.workers.items → TableIn case.entry.names.now answers case.entry.table → TableFollows told case.entry.table → IsSound told case.entry.names.now answers board) }
+{
+    let Case {
+        reach,
+        names,
+        state,
+        table,
+        leg,
+    } = case;
+    let mut board = Board::start(alloc, reach, state, table, leg)?;
+    let mut seen = zeros(alloc, team.workers.len())?;
+    replay(
+        &mut board,
+        team.events.as_slice(),
+        team.workers.as_slice(),
+        seen.as_mut_slice(),
+        names,
+    )?;
+    board.give_all();
+    Ok(board)
+}
+
+/// Tests several commits at once, each worker one in a thread of its own, until the run has ended or no
+/// worker can go on; then the calling thread goes on alone. What is reported is the run on the answers
+/// that were used, whatever the number of workers.
+///
+/// After want of memory the tester may have more answers and faults than before.
+pub fn run_farm<R: Host, T: Tester>(
+    rt: &R,
+    alloc: Global,
+    case: Case<'_>,
+    workers: u32,
+    tester: &mut T,
+) -> Result<Report, AllocError>
+    requires len { length case.reach.now ≡ case.state.len }
+    requires table { length case.table ≡ case.state.len }
+    requires named { length case.names.now ≡ case.state.len }
+    requires ends { HasEnds case.state.search }
+    requires known { TableIn case.names.now (T.answers tester.old) case.table }
+    requires plan { TableFollows (T.told tester.old) case.table }
+    requires is_split { T.is_split tester.old ≡ false }
+    requires some { 1 ≤ workers }
+    requires most { workers ≤ 64 }
+    ensures report { IfOk result (IsReport (setting_at case.entry.reach.now case.entry.state case.entry.leg) case.entry.state case.entry.names.now) }
+    ensures history { IfOk result (HasHistory (setting_at case.entry.reach.now case.entry.state case.entry.leg) case.entry.table) }
+    ensures sound { IfOk result (IsSoundReport (T.told tester.old) case.entry.names.now (T.answers tester.new)) }
+    ensures fault { IfOk result (HasFault (T.faults tester.old) (T.faults tester.new) (T.failed tester.new)) }
+    ensures manner { manner_by T.told T.command T.is_lenient T.grounds T.recalled tester.new ≡ manner_by T.told T.command T.is_lenient T.grounds T.recalled tester.old }
+    ensures is_split { T.is_split tester.new ≡ false }
+{
+    let names = case.names;
+    let team = work_apart(rt, alloc, &case, workers, &*tester)?;
+    let board = board_again(alloc, case, &team)?;
+    absorb_all(tester, team.workers)?;
+    let report = finish(rt, alloc, board, names, tester)?;
+    Ok(report)
+}
