@@ -3,4 +3,7 @@ pub mod Statuses
 pub mod Refusals
 pub mod Beginning
 pub mod Simulate
+pub mod Next
+pub mod Gen
+pub mod Sample
 pub mod Output

@@ -9,7 +9,10 @@ use Rattle.bf_words.specs.declared.request.Request.{Request}
 use Rattle.bf_words.specs.declared.verb.Verb.{Verb}
 use Rattle.bf_words.specs.declared.verb.Verb.TheVariants.{Simulate, Run, Next, Replay, Gen, Sample}
 use Rattle.bf_words.specs.Words.{request}
+use Rattle.bf_output.specs.Gen.{generated, made_stream}
+use Rattle.bf_output.specs.Next.{next_told}
 use Rattle.bf_output.specs.Refusals.{usage, refusal, unbuilt}
+use Rattle.bf_output.specs.Sample.{sampled}
 use Rattle.bf_output.specs.Simulate.{simulated}
 use Rattle.bf_output.specs.Told.{Told, told_by}
 
@@ -17,47 +20,75 @@ use Rattle.bf_output.specs.Told.{Told, told_by}
 abbrev pub is_built_verb : Verb → Bool
 is_built_verb Simulate = true
 is_built_verb Run = false
-is_built_verb Next = false
+is_built_verb Next = true
 is_built_verb Replay = false
-is_built_verb Gen = false
-is_built_verb Sample = false
+is_built_verb Gen = true
+is_built_verb Sample = true
 
 abbrev pub is_built : Request → Bool
 is_built request =
     is_built_verb request.verb && not (is_some request.replay) && (request.leg == 0) && not request.trace && (request.workers == 1)
 
--- what a command answers over a history
-abbrev pub over_history : Verb → Request → List (List ℕ) → History → Told
-over_history Simulate request words history = told_by (simulated request words history)
-over_history Run request words history = unbuilt
-over_history Next request words history = unbuilt
-over_history Replay request words history = unbuilt
-over_history Gen request words history = unbuilt
-over_history Sample request words history = unbuilt
-
-abbrev pub over_stream : Request → List (List ℕ) → Result History ImportFault → Told
-over_stream request words (Ok history) = over_history request.verb request words history
-over_stream request words (Err fault) = refusal fault
-
--- what the program is given: its words, and the bytes of the stream, where the source tells them
+-- what the program is given beside its stream
 pub record Given : Type 0 where
   pub words : List (List ℕ)
-  pub stream : Option (List ℕ)
 
--- the stream is read to its end; where it is not told, nothing is said of the answer
-abbrev pub IsReadOutput : Request → Given → Told → Type 0
-IsReadOutput request given told =
-    IfSome given.stream
-    (λ bytes. (result : Result History ImportFault) × Loads bytes standard_limits result × (told ≡ over_stream request given.words result))
+-- ---- over a history
 
-abbrev pub IsOutputIf : Bool → Request → Given → Told → Type 0
-IsOutputIf false request given told = told ≡ unbuilt
-IsOutputIf true request given told = IsReadOutput request given told
+-- what a command answers over a history; `gen` looks at none
+abbrev pub IsOver : Verb → Request → Given → History → Told → Type 0
+IsOver Simulate request given history told = told ≡ told_by (simulated request given.words history)
+IsOver Run request given history told = told ≡ unbuilt
+IsOver Next request given history told = told ≡ told_by (next_told request given.words history)
+IsOver Replay request given history told = told ≡ unbuilt
+IsOver Gen request given history told = told ≡ generated request
+IsOver Sample request given history told = told ≡ sampled request history
+
+abbrev pub IsOverLoaded : Request → Given → Result History ImportFault → Told → Type 0
+IsOverLoaded request given (Ok history) told = IsOver request.verb request given history told
+IsOverLoaded request given (Err fault) told = told ≡ refusal fault
+
+-- the bytes of a stream are read to its end
+abbrev pub IsOverBytes : Request → Given → List ℕ → Told → Type 0
+IsOverBytes request given bytes told =
+    (result : Result History ImportFault) × Loads bytes standard_limits result × IsOverLoaded request given result told
+
+-- where the stream is not told, nothing is said of the answer
+abbrev pub IsOverStream : Request → Given → Option (List ℕ) → Told → Type 0
+IsOverStream request given stream told = IfSome stream (λ bytes. IsOverBytes request given bytes told)
+
+-- ---- by the words
+
+-- the commands that read the stream; the others have theirs from a number
+abbrev pub reads_stream : Verb → Bool
+reads_stream Simulate = true
+reads_stream Run = true
+reads_stream Next = true
+reads_stream Replay = true
+reads_stream Gen = false
+reads_stream Sample = false
+
+abbrev pub IsOutputOf : Verb → Request → Given → Option (List ℕ) → Told → Type 0
+IsOutputOf Simulate request given stream told = IsOverStream request given stream told
+IsOutputOf Run request given stream told = IsOverStream request given stream told
+IsOutputOf Next request given stream told = IsOverStream request given stream told
+IsOutputOf Replay request given stream told = IsOverStream request given stream told
+IsOutputOf Gen request given stream told = told ≡ generated request
+IsOutputOf Sample request given stream told = IsOverBytes request given (made_stream request) told
+
+abbrev pub IsOutputIf : Bool → Request → Given → Option (List ℕ) → Told → Type 0
+IsOutputIf false request given stream told = told ≡ unbuilt
+IsOutputIf true request given stream told = IsOutputOf request.verb request given stream told
 
 -- the words come first
-abbrev pub IsOutputFor : Result Request ℕ → Given → Told → Type 0
-IsOutputFor (Err word) given told = told ≡ usage word
-IsOutputFor (Ok request) given told = IsOutputIf (is_built request) request given told
+abbrev pub IsOutputFor : Result Request ℕ → Given → Option (List ℕ) → Told → Type 0
+IsOutputFor (Err word) given stream told = told ≡ usage word
+IsOutputFor (Ok request) given stream told = IsOutputIf (is_built request) request given stream told
 
-abbrev pub IsOutput : Given → Told → Type 0
-IsOutput given told = IsOutputFor (request given.words) given told
+abbrev pub IsOutput : Given → Option (List ℕ) → Told → Type 0
+IsOutput given stream told = IsOutputFor (request given.words) given stream told
+
+-- whether the words ask for a command that reads the stream
+abbrev pub reads : Result Request ℕ → Bool
+reads (Err word) = false
+reads (Ok request) = reads_stream request.verb

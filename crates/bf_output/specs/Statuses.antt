@@ -6,7 +6,7 @@ use Rattle.bf_grammar.specs.declared.fault.Limit.TheVariants as limit
 use Rattle.bf_names.specs.declared.fault.NameFault.{NameFault}
 use Rattle.bf_names.specs.declared.fault.NameFault.TheVariants as name
 use Rattle.bf_output.specs.declared.status.Status.{Status}
-use Rattle.bf_output.specs.declared.status.Status.TheVariants.{Done, Usage, OnlySkipped, MergeBaseBad, GoodNotAncestor, BothSides, Aborted, StreamRefused, NameRefused, TooLarge, LogRefused, ReadFault, WriteFault, ShelfFault, NoMemory, NoFile, Waiting, Unbuilt}
+use Rattle.bf_output.specs.declared.status.Status.TheVariants.{Done, Usage, OnlySkipped, MergeBaseBad, GoodNotAncestor, BothSides, Aborted, StreamRefused, NameRefused, TooLarge, LogRefused, TestFault, ReadFault, WriteFault, ShelfFault, NoMemory, NoFile, Waiting, Unbuilt}
 use Rattle.bf_output.specs.declared.status.StreamKind.{StreamKind}
 use Rattle.bf_output.specs.declared.status.StreamKind.TheVariants as kind
 
@@ -22,6 +22,7 @@ number_of (StreamRefused line refusal) = 7
 number_of (NameRefused word fault) = 8
 number_of (TooLarge what) = 9
 number_of (LogRefused line) = 10
+number_of (TestFault place) = 11
 number_of ReadFault = 12
 number_of WriteFault = 13
 number_of ShelfFault = 14

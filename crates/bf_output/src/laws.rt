@@ -1,17 +1,15 @@
 //! Laws of what the program answers, each on a function that does nothing.
 ghost use Rattle.std.specs.Prelude.{◌≡◌, ℕ, List, Some};
-ghost use Rattle.bf_output.specs.Output.{IsOutput};
+ghost use Rattle.bf_output.specs.Output.{Given, IsOutput};
 ghost use Rattle.bf_output.specs.Told.{Told};
 
-/// Given words and bytes have at most one output: a status, and the text that is written.
+/// What is given with the bytes of a stream has at most one output: a status, and the text that is written.
 pub fn one_output()
-    ensures { (words : List (List ℕ)) (bytes : List ℕ) (told other : Told) →
-        IsOutput (record { words = words; stream = Some bytes }) told → IsOutput (record { words = words; stream = Some bytes }) other →
-        told ≡ other }
+    ensures { (given : Given) (bytes : List ℕ) (told other : Told) →
+        IsOutput given (Some bytes) told → IsOutput given (Some bytes) other → told ≡ other }
 {}
 
-/// All words and bytes have an output.
+/// All that may be given with the bytes of a stream has an output.
 pub fn some_output()
-    ensures { (words : List (List ℕ)) (bytes : List ℕ) →
-        (told : Told) × IsOutput (record { words = words; stream = Some bytes }) told }
+    ensures { (given : Given) (bytes : List ℕ) → (told : Told) × IsOutput given (Some bytes) told }
 {}

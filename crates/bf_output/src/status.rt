@@ -68,6 +68,11 @@ pub enum Status {
         /// The line, from 1.
         line: u32,
     },
+    /// The test of a commit could not be made.
+    TestFault {
+        /// The place of the commit.
+        place: u32,
+    },
     /// The stream could not be read.
     ReadFault,
     /// The output could not be written.
@@ -101,6 +106,7 @@ impl Status {
             Status::NameRefused { .. } => 8,
             Status::TooLarge { .. } => 9,
             Status::LogRefused { .. } => 10,
+            Status::TestFault { .. } => 11,
             Status::ReadFault => 12,
             Status::WriteFault => 13,
             Status::ShelfFault => 14,

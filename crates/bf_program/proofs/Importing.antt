@@ -7,29 +7,29 @@ use Rattle.bf_history.specs.declared.fault.ImportFault.TheVariants as faults
 use Rattle.bf_history.specs.Imports.{MayImport}
 use Rattle.bf_history.specs.Meanings.{History}
 use Rattle.bf_words.specs.declared.request.Request.{Request}
-use Rattle.bf_output.specs.Output.{IsReadOutput, over_history}
+use Rattle.bf_output.specs.Output.{Given, IsOver, IsOverStream}
 use Rattle.bf_output.specs.Refusals.{refusal}
 use Rattle.bf_output.specs.Told.{Told}
 use Rattle.bf_program.specs.declared.answer.Answer.{Answer}
 use Rattle.bf_program.specs.Answers.{IsWhole}
 use Rattle.bf_program.specs.Tellings.{told_of}
 
-pub loaded : (request : Request) (words : List (List ℕ)) (left : Option (List ℕ)) (history : History) (told : Told)
-    → MayImport left standard_limits (Ok history) → told ≡ over_history request.verb request words history
-    → IsReadOutput request (record { words = words; stream = left }) told
-loaded request words None history told may is = tt
-loaded request words (Some bytes) history told may is = (Ok history, may, is)
+pub loaded : (request : Request) (given : Given) (left : Option (List ℕ)) (history : History) (told : Told)
+    → MayImport left standard_limits (Ok history) → IsOver request.verb request given history told
+    → IsOverStream request given left told
+loaded request given None history told may is = tt
+loaded request given (Some bytes) history told may is = (Ok history, may, is)
 
-refused_of : (request : Request) (words : List (List ℕ)) (bytes : List ℕ) (fault : ImportFault) (told : Told)
+refused_of : (request : Request) (given : Given) (bytes : List ℕ) (fault : ImportFault) (told : Told)
     → MayImport (Some bytes) standard_limits (Err fault) → IsWhole told.status → told ≡ refusal fault
-    → IsReadOutput request (record { words = words; stream = Some bytes }) told
-refused_of request words bytes faults.NoMemory told may whole is = absurd (subst (λ (t : Told). IsWhole t.status) is whole)
-refused_of request words bytes (faults.Stream stream.Read) told may whole is = absurd (subst (λ (t : Told). IsWhole t.status) is whole)
-refused_of request words bytes fault told may whole is = (Err fault, may, is)
+    → IsOverStream request given (Some bytes) told
+refused_of request given bytes faults.NoMemory told may whole is = absurd (subst (λ (t : Told). IsWhole t.status) is whole)
+refused_of request given bytes (faults.Stream stream.Read) told may whole is = absurd (subst (λ (t : Told). IsWhole t.status) is whole)
+refused_of request given bytes fault told may whole is = (Err fault, may, is)
 
-pub refused : {E : Type 0} (request : Request) (words : List (List ℕ)) (left : Option (List ℕ)) (fault : ImportFault) (result : Result Answer E)
+pub refused : {E : Type 0} (request : Request) (given : Given) (left : Option (List ℕ)) (fault : ImportFault) (result : Result Answer E)
     → MayImport left standard_limits (Err fault) → IfOk result (λ answer. IsWhole answer.status) → IfOk result (λ answer. told_of answer ≡ refusal fault)
-    → IfOk result (λ answer. IsReadOutput request (record { words = words; stream = left }) (told_of answer))
-refused request words left fault (Err e) may whole is = tt
-refused request words None fault (Ok answer) may whole is = tt
-refused request words (Some bytes) fault (Ok answer) may whole is = refused_of request words bytes fault (told_of answer) may whole is
+    → IfOk result (λ answer. IsOverStream request given left (told_of answer))
+refused request given left fault (Err e) may whole is = tt
+refused request given None fault (Ok answer) may whole is = tt
+refused request given (Some bytes) fault (Ok answer) may whole is = refused_of request given bytes fault (told_of answer) may whole is

@@ -1,3 +1,5 @@
+mod Answering
+mod Asking
 mod Fronts
 mod Gathering
 mod Importing

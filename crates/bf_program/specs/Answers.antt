@@ -1,47 +1,75 @@
--- What the program may answer and write, where its source or its sink fails or memory runs out.
-use Rattle.std.specs.Prelude.{◌≡◌, ℕ, List, Option, ◌⊎◌}
+-- What the program may answer and write, where a device fails or memory runs out.
+use Rattle.std.specs.Prelude.{◌≡◌, ℕ, List, Option, IsTrue, ◌⊎◌}
+use Rattle.bf_io.specs.Causes.{Rose}
 use Rattle.bf_io.specs.Told.{Keeps, Appends, AppendsFront}
 use Rattle.bf_output.specs.declared.status.Status.{Status}
 use Rattle.bf_output.specs.declared.status.Status.TheVariants as status
-use Rattle.bf_output.specs.Output.{Given, IsOutput}
+use Rattle.bf_output.specs.Output.{Given, IsOutput, reads}
 use Rattle.bf_output.specs.Refusals.{read_fault}
+use Rattle.bf_words.specs.Words.{request}
+
+-- the faults that a device has counted before a call and after it
+pub record Counts : Type 0 where
+  pub before : ℕ
+  pub now : ℕ
+
+abbrev pub HasFailed : Counts → Type 0
+HasFailed counts = Rose counts.before counts.now
+
+-- what a call of the program met: what it was given, what its source had left and the faults of it, and what its sink held
+-- before and after
+pub record Met : Type 0 where
+  pub given : Given
+  pub left : Option (List ℕ)
+  pub stream : Counts
+  pub before : Option (List ℕ)
+  pub after : Option (List ℕ)
 
 -- a status is answered with its text
-abbrev pub OutputOf : Given → Status → List ℕ → Type 0
-OutputOf given status text = IsOutput given (record { status = status; text = text })
+abbrev pub OutputOf : Given → Option (List ℕ) → Status → List ℕ → Type 0
+OutputOf given left status text = IsOutput given left (record { status = status; text = text })
+
+-- the words ask for the stream, and its source failed
+abbrev pub IsUnread : Met → Type 0
+IsUnread met = IsTrue (reads (request met.given.words)) × HasFailed met.stream
 
 -- a text that the program may have been writing; that of a read fault where the source failed
-abbrev pub IsDue : Given → Type 0 → List ℕ → Type 0
-IsDue given Failed text = ((status : Status) × OutputOf given status text) ⊎ (Failed × (text ≡ read_fault.text))
+abbrev pub IsDue : Met → List ℕ → Type 0
+IsDue met text = ((status : Status) × OutputOf met.given met.left status text) ⊎ (IsUnread met × (text ≡ read_fault.text))
 
 -- the sink gained exactly the text of the definition, with its status
-abbrev pub IsAnswered : Given → Option (List ℕ) → Option (List ℕ) → Status → Type 0
-IsAnswered given before after status = (text : List ℕ) × OutputOf given status text × Appends before after text
+abbrev pub IsAnswered : Met → Status → Type 0
+IsAnswered met status = (text : List ℕ) × OutputOf met.given met.left status text × Appends met.before met.after text
+
+-- the source could not be read, and the sink gained the line that says so
+abbrev pub IsReadFault : Met → Type 0
+IsReadFault met = IsUnread met × Appends met.before met.after read_fault.text
 
 -- the program was cut short, and the sink gained a front of the text that was due
-abbrev pub IsCutShort : Given → Type 0 → Option (List ℕ) → Option (List ℕ) → Type 0
-IsCutShort given Failed before after = (text : List ℕ) × IsDue given Failed text × AppendsFront before after text
+abbrev pub IsCutShort : Met → Type 0
+IsCutShort met = (text : List ℕ) × IsDue met text × AppendsFront met.before met.after text
 
 -- what the sink gained, by the status
-abbrev pub Answers : Given → Type 0 → Option (List ℕ) → Option (List ℕ) → Status → Type 0
-Answers given Failed before after status.ReadFault = Appends before after read_fault.text
-Answers given Failed before after status.WriteFault = IsCutShort given Failed before after
-Answers given Failed before after status.NoMemory = Keeps before after ⊎ IsCutShort given Failed before after
-Answers given Failed before after status.ShelfFault = ⊥
-Answers given Failed before after status.Done = IsAnswered given before after status.Done
-Answers given Failed before after (status.Usage word) = IsAnswered given before after (status.Usage word)
-Answers given Failed before after status.OnlySkipped = IsAnswered given before after status.OnlySkipped
-Answers given Failed before after status.MergeBaseBad = IsAnswered given before after status.MergeBaseBad
-Answers given Failed before after status.GoodNotAncestor = IsAnswered given before after status.GoodNotAncestor
-Answers given Failed before after status.BothSides = IsAnswered given before after status.BothSides
-Answers given Failed before after status.Aborted = IsAnswered given before after status.Aborted
-Answers given Failed before after (status.StreamRefused line kind) = IsAnswered given before after (status.StreamRefused line kind)
-Answers given Failed before after (status.NameRefused word fault) = IsAnswered given before after (status.NameRefused word fault)
-Answers given Failed before after (status.TooLarge what) = IsAnswered given before after (status.TooLarge what)
-Answers given Failed before after (status.LogRefused line) = IsAnswered given before after (status.LogRefused line)
-Answers given Failed before after status.NoFile = IsAnswered given before after status.NoFile
-Answers given Failed before after status.Waiting = IsAnswered given before after status.Waiting
-Answers given Failed before after status.Unbuilt = IsAnswered given before after status.Unbuilt
+abbrev pub Answers : Met → Status → Type 0
+Answers met status.ReadFault = IsReadFault met
+Answers met status.WriteFault = IsCutShort met
+Answers met status.NoMemory = Keeps met.before met.after ⊎ IsCutShort met
+Answers met status.ShelfFault = ⊥
+Answers met status.Done = IsAnswered met status.Done
+Answers met (status.Usage word) = IsAnswered met (status.Usage word)
+Answers met status.OnlySkipped = IsAnswered met status.OnlySkipped
+Answers met status.MergeBaseBad = IsAnswered met status.MergeBaseBad
+Answers met status.GoodNotAncestor = IsAnswered met status.GoodNotAncestor
+Answers met status.BothSides = IsAnswered met status.BothSides
+Answers met status.Aborted = IsAnswered met status.Aborted
+Answers met (status.StreamRefused line kind) = IsAnswered met (status.StreamRefused line kind)
+Answers met (status.NameRefused word fault) = IsAnswered met (status.NameRefused word fault)
+Answers met (status.TooLarge what) = IsAnswered met (status.TooLarge what)
+Answers met (status.LogRefused line) = IsAnswered met (status.LogRefused line)
+Answers met (status.TestFault place) = IsAnswered met (status.TestFault place)
+Answers met status.NoFile = IsAnswered met status.NoFile
+Answers met status.Waiting = IsAnswered met status.Waiting
+Answers met status.Unbuilt = IsAnswered met status.Unbuilt
 
 -- an answer that no device cut short
 abbrev pub IsWhole : Status → Type 0
@@ -60,6 +88,7 @@ IsWhole (status.StreamRefused line kind) = Unit {0}
 IsWhole (status.NameRefused word fault) = Unit {0}
 IsWhole (status.TooLarge what) = Unit {0}
 IsWhole (status.LogRefused line) = Unit {0}
+IsWhole (status.TestFault place) = Unit {0}
 IsWhole status.NoFile = Unit {0}
 IsWhole status.Waiting = Unit {0}
 IsWhole status.Unbuilt = Unit {0}

@@ -6,6 +6,7 @@ ghost use Rattle.bf_program.specs.Steps.{IsStep};
 ghost use Rattle.bf_program.specs.Tellings.{begun_of, AreWithin};
 
 use crate::answer::Stop;
+use crate::line::Line;
 use crate::named::{all_named, named_if_given};
 use crate::refusals::waiting;
 use crate::skips::all_meant;
@@ -26,7 +27,7 @@ pub(crate) struct Beginning {
 }
 
 /// A search between ends. Of equal good places the first is kept.
-fn between_ends(
+pub(crate) fn between_ends(
     alloc: Global,
     request: &Request,
     len: u32,
@@ -87,18 +88,18 @@ fn with_ends(alloc: Global, first: Beginning) -> Result<Beginning, Stop>
 #[tactic(auto, unfolding(bf_output::specs::Beginning::begun_with_skips))]
 pub(crate) fn begin(
     alloc: Global,
-    request: &Request,
-    words: &[Word],
+    line: Line<'_>,
     history: &History,
     reach: &Reach,
 ) -> Result<Beginning, Stop>
     requires { reach.now ≡ history.now.parents }
-    ensures step { IsStep begun_of result (beginning.begun_with_skips request.now words.now history.now) }
+    ensures step { IsStep begun_of result (beginning.begun_with_skips line.entry.request.now line.entry.words.now history.now) }
     ensures len { IfOk result (λ first. first.state.len ≡ length history.now.parents) }
     ensures places { IfOk result AreWithin }
 {
-    let first = begin_by_words(alloc, request, words, history)?;
-    let places = all_meant(alloc, history, reach, words, request.skips.as_slice())?;
+    let skips = line.request.skips.as_slice();
+    let first = begin_by_words(alloc, line.request, line.words, history)?;
+    let places = all_meant(alloc, history, reach, line.words, skips)?;
     let mut whole = with_ends(alloc, first)?;
     whole.skip_all(reach, places.as_slice())?;
     Ok(whole)

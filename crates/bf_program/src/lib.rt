@@ -4,9 +4,13 @@
 
 mod answer;
 mod begin;
+mod line;
+mod made;
 mod named;
+mod next;
 mod plan;
 mod refusals;
+mod sample;
 mod simulate;
 mod skips;
 mod tell;

@@ -7,31 +7,26 @@ ghost use Rattle.bf_program.specs.Tellings.{begun_of, told_of, AreWithin};
 
 use crate::answer::{Answer, Stop};
 use crate::begin::{Beginning, begin};
+use crate::line::Line;
 use crate::plan::plan_of;
 use crate::tell::{commits_of, sides_of, status_of, write_end};
 use bf_alone::{Ending, Ran, run_plan};
 use bf_import::History;
-use bf_io::{Bytes, Word};
+use bf_io::Bytes;
 use bf_log::write_entries;
 use bf_reach::Reach;
 use bf_search::Outcome;
-use bf_words::Request;
 use std::alloc::{AllocError, Global};
 
 /// The answer of a search over a plan that the words write.
 #[tactic(auto, unfolding(bf_output::specs::Simulate::simulated))]
-pub(crate) fn simulate(
-    alloc: Global,
-    request: &Request,
-    words: &[Word],
-    history: &History,
-) -> Result<Answer, Stop>
-    ensures step { IsStep told_of result (simulate.simulated request.now words.now history.now) }
+pub(crate) fn simulate(alloc: Global, line: Line<'_>, history: &History) -> Result<Answer, Stop>
+    ensures step { IsStep told_of result (simulate.simulated line.entry.request.now line.entry.words.now history.now) }
     ensures whole { IfOk result (λ answer. IsWhole answer.status) }
 {
     let reach = Reach::build(alloc, history.graph())?;
-    let first = begin(alloc, request, words, history, &reach)?;
-    let plan = plan_of(alloc, request, words)?;
+    let first = begin(alloc, line, history, &reach)?;
+    let plan = plan_of(alloc, line.request, line.words)?;
     Ok(run(alloc, history, &reach, first, plan.as_slice())?)
 }
 

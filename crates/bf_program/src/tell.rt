@@ -69,7 +69,8 @@ pub(crate) fn status_of(end: &Ending) -> Status
     }
 }
 
-fn status_of_ask(ask: &Ask) -> Status
+/// The status of an ask that ends a command.
+pub(crate) fn status_of_ask(ask: &Ask) -> Status
     ensures status { result ≡ simulate.status_of_ask ask.now }
     ensures whole { IsWhole result }
 {

@@ -2,9 +2,14 @@
 ghost use Rattle.std.specs.Prelude.{◌<◌};
 
 use crate::{Status, bisect_main};
-use bf_io::{Bytes, MemSink, MemSource, PlainSink, Word};
+use bf_io::{Bytes, MemSink, MemSource, PlainSink, Sink, Source, Word};
+use bf_shelf::PlainShelf;
+use bf_tester::PlanTester;
 use std::alloc::{AllocError, Global};
+use std::process::{Processes, SystemProcess};
+use std::sync::Wait;
 use std::test::Fail;
+use std::thread::Threads;
 
 const FIRST: &[u8] = b"commit refs/heads/old
 mark :1
@@ -403,6 +408,93 @@ static REFUSALS: [Row; 9] = [
     },
 ];
 
+// What is asked next.
+static ASKS: [Row; 3] = [
+    Row {
+        words: &[b"next", b"main", b"main~7"],
+        stream: EIGHT,
+        status: 0,
+        text: b"# bad: [38d7eeaa2c641133c0a59de3e3515352366303d6] c7
+# good: [56b29d9c130e2ec4b506a48d4fe5a18d92d8d1e3] c0
+git bisect start '38d7eeaa2c641133c0a59de3e3515352366303d6' '56b29d9c130e2ec4b506a48d4fe5a18d92d8d1e3'
+next: 771edca49728d8c78d5b371976ec2debc7c92b35
+",
+    },
+    Row {
+        words: &[b"next", b"main^^", b"main~7"],
+        stream: EIGHT,
+        status: 0,
+        text: b"# bad: [3dff7cbfbc1ec2409d1dc7dba41ba991437e56aa] c5
+# good: [56b29d9c130e2ec4b506a48d4fe5a18d92d8d1e3] c0
+git bisect start '3dff7cbfbc1ec2409d1dc7dba41ba991437e56aa' '56b29d9c130e2ec4b506a48d4fe5a18d92d8d1e3'
+next: 2a83eb598262042db81ddad6b0c3b6c0d200c521
+",
+    },
+    Row {
+        words: &[b"next", b"main~8", b"main~7"],
+        stream: EIGHT,
+        status: 8,
+        text: b"name refused at word 1: no parent
+",
+    },
+];
+
+// Streams that numbers give, and searches over them.
+static MADE: [Row; 4] = [
+    Row {
+        words: &[b"gen", b"0", b"3"],
+        stream: EMPTY,
+        status: 0,
+        text: b"commit refs/heads/main
+mark :1
+committer gen <gen> 0 +0000
+data 3
+c0
+commit refs/heads/main
+mark :2
+committer gen <gen> 1 +0000
+data 3
+c1
+from :1
+commit refs/heads/main
+mark :3
+committer gen <gen> 2 +0000
+data 3
+c2
+from :1
+",
+    },
+    Row {
+        words: &[b"gen", b"18446744073709551615", b"1"],
+        stream: EMPTY,
+        status: 0,
+        text: b"commit refs/heads/main
+mark :1
+committer gen <gen> 0 +0000
+data 3
+c0
+",
+    },
+    Row {
+        words: &[b"sample", b"0", b"1"],
+        stream: EMPTY,
+        status: 5,
+        text: b"commits 1
+marks 0
+feddf99a2aecb29553504f1b52e2e3f09835aa16 was both good and bad
+",
+    },
+    Row {
+        words: &[b"sample", b"0", b"5"],
+        stream: EMPTY,
+        status: 0,
+        text: b"commits 5
+marks 1
+f787b661a09be3b12ce49117534de60c034a8fc3 is the first bad commit
+",
+    },
+];
+
 fn words_of(alloc: Global, texts: &[&[u8]]) -> Result<Vec<Word>, AllocError> {
     let mut words = Vec::new(alloc);
     for text in texts {
@@ -411,22 +503,49 @@ fn words_of(alloc: Global, texts: &[&[u8]]) -> Result<Vec<Word>, AllocError> {
     Ok(words)
 }
 
+/// The status of the program, over no files and with a tester that is not to be asked.
+fn run<R, S: Source, K: Sink>(
+    rt: &R,
+    alloc: Global,
+    words: &[&[u8]],
+    stream: &mut S,
+    out: &mut K,
+) -> Result<Status, AllocError>
+where
+    R: Threads + Wait + Processes<Started = SystemProcess> + Eprint + Sync,
+{
+    let words = words_of(alloc, words)?;
+    let mut shelf = PlainShelf::new(Vec::new(alloc));
+    let mut tester = PlanTester::new(alloc, b"")?;
+    let status = bisect_main(
+        rt,
+        alloc,
+        words.as_slice(),
+        stream,
+        &mut shelf,
+        &mut tester,
+        out,
+    );
+    Ok(status)
+}
+
 /// Whether the row holds, with the stream in pieces of so many bytes.
-fn holds(alloc: Global, row: &Row, piece: usize) -> Result<bool, AllocError>
+fn holds<R>(rt: &R, alloc: Global, row: &Row, piece: usize) -> Result<bool, AllocError>
+where
+    R: Threads + Wait + Processes<Started = SystemProcess> + Eprint + Sync,
     requires { 0 < piece }
 {
-    let words = words_of(alloc, row.words)?;
     let bytes = Bytes::from_slice(alloc, row.stream)?;
     let mut stream = MemSource::new(bytes, piece, Vec::new(alloc));
     let mut out = PlainSink::new(alloc);
-    let status = bisect_main(&(), alloc, words.as_slice(), &mut stream, &mut out);
+    let status = run(rt, alloc, row.words, &mut stream, &mut out)?;
     Ok(status.number() == row.status && out.bytes() == row.text)
 }
 
 #[test]
 fn searches_and_their_ends(rt: HostRuntime) -> Result<(), Fail> {
     for row in &SEARCHES {
-        assert!(rt; holds(rt.alloc(), row, 65_536)?, "{:?}", row.words);
+        assert!(rt; holds(&rt, rt.alloc(), row, 65_536)?, "{:?}", row.words);
     }
     Ok(())
 }
@@ -434,7 +553,18 @@ fn searches_and_their_ends(rt: HostRuntime) -> Result<(), Fail> {
 #[test]
 fn words_streams_and_names_that_are_refused(rt: HostRuntime) -> Result<(), Fail> {
     for row in &REFUSALS {
-        assert!(rt; holds(rt.alloc(), row, 7)?, "{:?}", row.words);
+        assert!(rt; holds(&rt, rt.alloc(), row, 7)?, "{:?}", row.words);
+    }
+    Ok(())
+}
+
+#[test]
+fn asks_and_made_streams(rt: HostRuntime) -> Result<(), Fail> {
+    for row in &ASKS {
+        assert!(rt; holds(&rt, rt.alloc(), row, 65_536)?, "{:?}", row.words);
+    }
+    for row in &MADE {
+        assert!(rt; holds(&rt, rt.alloc(), row, 65_536)?, "{:?}", row.words);
     }
     Ok(())
 }
@@ -443,16 +573,16 @@ fn words_streams_and_names_that_are_refused(rt: HostRuntime) -> Result<(), Fail>
 #[test]
 fn devices_that_fail(rt: HostRuntime) -> Result<(), Fail> {
     let alloc = rt.alloc();
-    let words = words_of(alloc, SEARCHES[0].words)?;
+    let words = SEARCHES[0].words;
     let fails = [2].to_vec(alloc)?;
     let mut stream = MemSource::new(Bytes::from_slice(alloc, FIRST)?, 16, fails);
     let mut out = PlainSink::new(alloc);
-    let status = bisect_main(&(), alloc, words.as_slice(), &mut stream, &mut out);
+    let status = run(&rt, alloc, words, &mut stream, &mut out)?;
     assert_eq!(rt; status, Status::ReadFault);
     assert_eq!(rt; out.bytes(), b"read fault\n".as_slice());
     let mut stream = MemSource::new(Bytes::from_slice(alloc, FIRST)?, 16, Vec::new(alloc));
     let mut out = MemSink::new(alloc, 64, [1].to_vec(alloc)?);
-    let status = bisect_main(&(), alloc, words.as_slice(), &mut stream, &mut out);
+    let status = run(&rt, alloc, words, &mut stream, &mut out)?;
     assert_eq!(rt; status, Status::WriteFault);
     assert_eq!(rt; out.bytes(), b"".as_slice());
     Ok(())
@@ -464,7 +594,7 @@ fn answers_are_flushed(rt: HostRuntime) -> Result<(), Fail> {
     let alloc = rt.alloc();
     let mut stream = MemSource::new(Bytes::new(alloc), 16, Vec::new(alloc));
     let mut out = MemSink::new(alloc, 65_536, [2].to_vec(alloc)?);
-    let status = bisect_main(&(), alloc, &[], &mut stream, &mut out);
+    let status = run(&rt, alloc, &[], &mut stream, &mut out)?;
     assert_eq!(rt; status, Status::WriteFault);
     assert_eq!(rt; out.bytes(), b"usage fault at word 0\n".as_slice());
     Ok(())

@@ -1,42 +1,69 @@
-//! The top call.
-ghost use Rattle.std.specs.Prelude.{◌≡◌, ◌⊎◌, Result, Ok, IfOk, OnOk, OnErr, IsErrOf};
+//! The top call: the order of its refusals.
+ghost use Rattle.std.specs.Prelude.{◌≡◌, ◌⊎◌, [], false, Result, Ok, IfOk, OnOk, OnErr, IsErrOf, IsTrue, IsFalse};
 ghost use Rattle.bf_io.specs.Causes.{FailsOnlyAt, Rose};
 ghost use Rattle.bf_io.specs.Told.{Appends, AppendsFront};
+ghost use Rattle.bf_words.specs.Words as asked;
+ghost use Rattle.bf_output.specs.Gen.{made_stream};
 ghost use Rattle.bf_output.specs.Output as output;
 ghost use Rattle.bf_output.specs.Told.{Told, told_by};
 ghost use Rattle.bf_program.specs.Answers.{Answers, OutputOf, IsWhole};
 ghost use Rattle.bf_program.specs.Steps.{IsStep};
 ghost use Rattle.bf_program.specs.Tellings.{told_of};
-ghost use Rattle.bf_program.specs.Writes.{IsWritten};
+ghost use Rattle.bf_program.specs.Writes.{IsTold, IsWritten};
 
 use crate::answer::{Answer, Cut, Stop};
+use crate::line::Line;
+use crate::made::{generate, made_stream};
+use crate::next::next;
 use crate::refusals::{refusal, unbuilt, usage};
+use crate::sample::sample;
 use crate::simulate::simulate;
 use bf_grammar::Limits;
 use bf_import::{History, import};
-use bf_io::{Sink, SinkFault, Source, Word, write_whole};
+use bf_io::{PlainSource, Sink, SinkFault, Source, Word, write_whole};
 use bf_output::Status;
+use bf_shelf::Shelf;
+use bf_tester::{Host, Tester};
 use bf_words::{Request, Verb, WordFault, read_words};
 use std::alloc::{AllocError, Global};
 
-/// The program: reads the words and then the stream to its end, and writes the log and the answer.
+/// The program: reads the words and then, where they ask for it, the stream to its end, and writes the log
+/// and the answer.
 ///
 /// The status says how the search ended, or what is refused. It is `ReadFault` only where the count of
 /// faults of the stream rose, and `WriteFault` only where that of the sink did. Want of memory may be
 /// answered at any point. After `WriteFault` and `NoMemory` the sink gained some front of the text that
-/// was due.
-pub fn bisect_main<R, S: Source, K: Sink>(
+/// was due. The tester is left as it was.
+pub fn bisect_main<R: Host, S: Source, F: Shelf, T: Tester, K: Sink>(
     _rt: &R,
     alloc: Global,
     words: &[Word],
     stream: &mut S,
+    _shelf: &mut F,
+    tester: &mut T,
     out: &mut K,
 ) -> Status
-    ensures answers { Answers (record { words = words.now; stream = S.left stream.old }) (Rose (S.faults stream.old) (S.faults stream.new)) (K.held out.old) (K.held out.new) result }
+    requires fresh { T.answers tester.old ≡ [] }
+    requires whole { T.is_split tester.old ≡ false }
+    ensures answers { Answers (record { given = record { words = words.now }; left = S.left stream.old; stream = record { before = S.faults stream.old; now = S.faults stream.new }; before = K.held out.old; after = K.held out.new }) result }
     ensures read { result ≡ Status.ReadFault → Rose (S.faults stream.old) (S.faults stream.new) }
     ensures write { result ≡ Status.WriteFault → Rose (K.faults out.old) (K.faults out.new) }
+    ensures is_split { T.is_split tester.new ≡ false }
+    ensures unasked { T.answers tester.new ≡ [] }
+    ensures unfailed { T.faults tester.new ≡ T.faults tester.old }
+    ensures uncommanded { T.command tester.new ≡ T.command tester.old }
 {
-    match answer_to(alloc, words, stream) {
+    let answer = answer_to(alloc, words, stream);
+    tell(out, &answer)
+}
+
+/// Writes an answer, or the line of what stood in its way, and gives its status.
+fn tell<K: Sink>(out: &mut K, answer: &Result<Answer, Cut>) -> Status
+    requires whole { IfOk answer.now (λ answer. IsWhole answer.status) }
+    ensures told { IsTold (K.held out.old) (K.held out.new) answer.now result }
+    ensures write { result ≡ Status.WriteFault → Rose (K.faults out.old) (K.faults out.new) }
+{
+    match answer {
         Ok(answer) => say(out, answer.text.as_slice(), answer.status),
         Err(Cut::Read) => say(out, b"read fault\n", Status::ReadFault),
         Err(Cut::NoMemory) => Status::NoMemory,
@@ -67,12 +94,19 @@ fn write_and_flush<K: Sink>(out: &mut K, text: &[u8]) -> Result<(), SinkFault>
 
 // The whole answer, before any of it is written.
 fn answer_to<S: Source>(alloc: Global, words: &[Word], stream: &mut S) -> Result<Answer, Cut>
-    ensures output { IfOk result (λ answer. OutputOf (record { words = words.now; stream = S.left stream.old }) answer.status answer.text) }
+    ensures output { IfOk result (λ answer. OutputOf (record { words = words.now }) (S.left stream.old) answer.status answer.text) }
     ensures whole { IfOk result (λ answer. IsWhole answer.status) }
+    ensures reads { IsErrOf result Cut.Read → IsTrue (output.reads (asked.request words.now)) }
     ensures cause { FailsOnlyAt Cut.Read (S.faults stream.old) (S.faults stream.new) result }
 {
     match read_words(alloc, words) {
-        Ok(request) => answer_request(alloc, &request, words, stream),
+        Ok(request) => {
+            let line = Line {
+                request: &request,
+                words,
+            };
+            answer_request(alloc, line, stream)
+        }
         Err(WordFault::At { word }) => Ok(usage(alloc, word)?),
         Err(WordFault::NoMemory) => Err(Cut::NoMemory),
     }
@@ -93,60 +127,75 @@ fn is_built_verb(verb: Verb) -> bool
     ensures { result ≡ output.is_built_verb verb }
 {
     match verb {
-        Verb::Simulate => true,
-        Verb::Run | Verb::Next | Verb::Replay | Verb::Gen | Verb::Sample => false,
+        Verb::Simulate | Verb::Next | Verb::Gen | Verb::Sample => true,
+        Verb::Run | Verb::Replay => false,
     }
 }
 
 // The answer for words that ask for something.
-fn answer_request<S: Source>(
-    alloc: Global,
-    request: &Request,
-    words: &[Word],
-    stream: &mut S,
-) -> Result<Answer, Cut>
-    ensures output { IfOk result (λ answer. output.IsOutputFor (Ok request.now) (record { words = words.now; stream = S.left stream.old }) (told_of answer)) }
+fn answer_request<S: Source>(alloc: Global, line: Line<'_>, stream: &mut S) -> Result<Answer, Cut>
+    ensures output { IfOk result (λ answer. output.IsOutputFor (Ok line.entry.request.now) (record { words = line.entry.words.now }) (S.left stream.old) (told_of answer)) }
     ensures whole { IfOk result (λ answer. IsWhole answer.status) }
+    ensures reads { IsErrOf result Cut.Read → IsTrue (output.reads_stream line.entry.request.now.verb) }
     ensures cause { FailsOnlyAt Cut.Read (S.faults stream.old) (S.faults stream.new) result }
 {
-    if is_built(request) {
-        answer_stream(alloc, request, words, stream)
+    if is_built(line.request) {
+        answer_verb(alloc, line, stream)
     } else {
         Ok(unbuilt(alloc)?)
     }
 }
 
+// The answer of a command that is built.
+fn answer_verb<S: Source>(alloc: Global, line: Line<'_>, stream: &mut S) -> Result<Answer, Cut>
+    ensures output { IfOk result (λ answer. output.IsOutputOf line.entry.request.now.verb line.entry.request.now (record { words = line.entry.words.now }) (S.left stream.old) (told_of answer)) }
+    ensures whole { IfOk result (λ answer. IsWhole answer.status) }
+    ensures reads { IsErrOf result Cut.Read → IsTrue (output.reads_stream line.entry.request.now.verb) }
+    ensures cause { FailsOnlyAt Cut.Read (S.faults stream.old) (S.faults stream.new) result }
+{
+    match line.request.verb {
+        Verb::Simulate | Verb::Run | Verb::Next | Verb::Replay => {
+            answer_stream(alloc, line, stream)
+        }
+        Verb::Gen => Ok(generate(alloc, line.request)?),
+        Verb::Sample => answer_made(alloc, line),
+    }
+}
+
+// The answer over the stream that a number gives. It is read from memory, so no read fails.
+fn answer_made(alloc: Global, line: Line<'_>) -> Result<Answer, Cut>
+    ensures output { IfOk result (λ answer. output.IsOverBytes line.entry.request.now (record { words = line.entry.words.now }) (made_stream line.entry.request.now) (told_of answer)) }
+    ensures whole { IfOk result (λ answer. IsWhole answer.status) }
+    ensures no_read { IsErrOf result Cut.Read → ⊥ }
+{
+    let mut made = PlainSource::new(made_stream(alloc, line.request)?);
+    answer_stream(alloc, line, &mut made)
+}
+
 // The answer over the stream, which is read to its end first.
-fn answer_stream<S: Source>(
-    alloc: Global,
-    request: &Request,
-    words: &[Word],
-    stream: &mut S,
-) -> Result<Answer, Cut>
-    ensures output { IfOk result (λ answer. output.IsReadOutput request.now (record { words = words.now; stream = S.left stream.old }) (told_of answer)) }
+fn answer_stream<S: Source>(alloc: Global, line: Line<'_>, stream: &mut S) -> Result<Answer, Cut>
+    ensures output { IfOk result (λ answer. output.IsOverStream line.entry.request.now (record { words = line.entry.words.now }) (S.left stream.old) (told_of answer)) }
     ensures whole { IfOk result (λ answer. IsWhole answer.status) }
     ensures cause { FailsOnlyAt Cut.Read (S.faults stream.old) (S.faults stream.new) result }
 {
     match import(alloc, stream, Limits::standard()) {
-        Ok(history) => Ok(answer_over(alloc, request, words, &history)?),
+        Ok(history) => Ok(answer_over(alloc, line, &history)?),
         Err(fault) => refusal(alloc, fault),
     }
 }
 
 // The answer over a history.
-fn answer_over(
-    alloc: Global,
-    request: &Request,
-    words: &[Word],
-    history: &History,
-) -> Result<Answer, Cut>
-    ensures tells { IfOk result (λ answer. told_of answer ≡ output.over_history request.now.verb request.now words.now history.now) }
+fn answer_over(alloc: Global, line: Line<'_>, history: &History) -> Result<Answer, Cut>
+    ensures tells { IfOk result (λ answer. output.IsOver line.entry.request.now.verb line.entry.request.now (record { words = line.entry.words.now }) history.now (told_of answer)) }
     ensures whole { IfOk result (λ answer. IsWhole answer.status) }
     ensures no_read { IsErrOf result Cut.Read → ⊥ }
 {
-    match request.verb {
-        Verb::Simulate => or_refused(simulate(alloc, request, words, history)),
-        Verb::Run | Verb::Next | Verb::Replay | Verb::Gen | Verb::Sample => Ok(unbuilt(alloc)?),
+    match line.request.verb {
+        Verb::Simulate => or_refused(simulate(alloc, line, history)),
+        Verb::Next => or_refused(next(alloc, line, history)),
+        Verb::Gen => Ok(generate(alloc, line.request)?),
+        Verb::Sample => Ok(sample(alloc, line.request, history)?),
+        Verb::Run | Verb::Replay => Ok(unbuilt(alloc)?),
     }
 }
 

@@ -2,18 +2,30 @@
 //! standard input as a git fast-import stream; the log of the search and its answer go to standard output.
 #![tactic(auto)]
 
+ghost use Rattle.std.specs.Prelude.{◌≡◌, [], false};
+
 mod args;
 
-use bf_io::{StdSink, StdSource};
+use bf_io::{Sink, Source, StdSink, StdSource, Word};
 use bf_program::{Status, bisect_main, say};
+use bf_shelf::{DirShelf, Shelf};
+use bf_tester::{ProcessTester, Tester};
+use std::alloc::Global;
 use std::io;
-use std::process::ExitCode;
+use std::process::{ExitCode, Processes, SystemProcess};
+use std::sync::Wait;
+use std::thread::Threads;
 
 const HELP: &[u8] = b"\
 farmdawn simulate [OPTION..] BAD GOOD.. PLAN < STREAM
+farmdawn next [OPTION..] BAD GOOD.. < STREAM
+farmdawn gen NUMBER COUNT
+farmdawn sample NUMBER COUNT
 
-Searches the history of a git fast-import stream for the first bad commit, as git bisect does,
-and prints the log and the answer. No test is run: PLAN says how each would end.
+simulate searches the history of a git fast-import stream for the first bad commit, as git bisect
+does, and prints the log and the answer. No test is run: PLAN says how each would end. next prints
+the log so far and the commit that a search would test next. gen prints a stream of COUNT commits
+that NUMBER gives, and sample searches such a stream and prints a summary.
 
   BAD, GOOD         names of commits, as gitrevisions(7) has them: main, v1.0, main~3, 1a2b3c4
   PLAN              a letter for each commit in the order of the stream: g good, b bad, s skip,
@@ -23,15 +35,32 @@ and prints the log and the answer. No test is run: PLAN says how each would end.
   --skip REV        a commit, or a range A..B, that is not to be tested; any number of times
   --lenient-exit    take the statuses 126 and 127 of a test as bad
 
-The status is 0 where the first bad commit was found, 1 where a word is wrong, 2 where only
-skipped commits are left, 3 where a merge base is bad, 4 where a good commit is no ancestor of
-the bad one, 5 where one commit is both, 6 where a test aborts the search, 7 to 9 where the
-stream or a name is refused or a limit is passed, 12 where the stream cannot be read, 13 where
-the output cannot be written, 15 where memory runs out, 17 where no good commit is named, and
-18 for what is not built yet.
+The status is 0 where the first bad commit was found or the command did what it was asked, 1 where
+a word is wrong, 2 where only skipped commits are left, 3 where a merge base is bad, 4 where a good
+commit is no ancestor of the bad one, 5 where one commit is both, 6 where a test aborts the search,
+7 to 9 where the stream or a name is refused or a limit is passed, 12 where the stream cannot be
+read, 13 where the output cannot be written, 15 where memory runs out, 17 where no good commit is
+named, and 18 for what is not built yet.
 ";
 
 const VERSION: &[u8] = b"farmdawn 0.1.0\n";
+
+// Runs the program over its devices. The bounds of `Host` are written out here.
+fn run<R, S: Source, F: Shelf, T: Tester, K: Sink>(
+    rt: &R,
+    words: &[Word],
+    stream: &mut S,
+    shelf: &mut F,
+    tester: &mut T,
+    out: &mut K,
+) -> Status
+where
+    R: Threads + Wait + Processes<Started = SystemProcess> + Eprint + Sync + Alloc<A = Global>,
+    requires fresh { T.answers tester.old ≡ [] }
+    requires whole { T.is_split tester.old ≡ false }
+{
+    bisect_main(rt, rt.alloc(), words, stream, shelf, tester, out)
+}
 
 fn main(rt: HostRuntime) -> ExitCode {
     let mut out = StdSink::new(io::writer(&rt));
@@ -43,7 +72,9 @@ fn main(rt: HostRuntime) -> ExitCode {
             }
             words => {
                 let mut stream = StdSource::new(rt.reader());
-                bisect_main(&rt, rt.alloc(), words, &mut stream, &mut out)
+                let mut shelf = DirShelf::new(rt, rt.alloc());
+                let mut tester = ProcessTester::new(rt.alloc());
+                run(&rt, words, &mut stream, &mut shelf, &mut tester, &mut out)
             }
         },
         Err(_) => Status::NoMemory,

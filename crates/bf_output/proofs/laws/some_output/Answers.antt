@@ -3,4 +3,4 @@ use Rattle.bf_output.proofs.Outputs.{some_for}
 use Rattle.bf_output.proofs.laws.some_output.Goals as goal
 
 pub returns : goal.returns
-returns c = λ words. some_for (request words) words
+returns c = λ given. some_for (request given.words) given

@@ -1,0 +1,85 @@
+//! The command `next`.
+ghost use Rattle.std.specs.Prelude.{◌≡◌, ◌++◌, length, IfOk, OnOk};
+ghost use Rattle.bf_search.specs.State as searches;
+ghost use Rattle.bf_output.specs.Next as next;
+ghost use Rattle.bf_program.specs.Answers.{IsWhole};
+ghost use Rattle.bf_program.specs.Steps.{IsStep};
+ghost use Rattle.bf_program.specs.Tellings.{begun_of, told_of, AreWithin};
+
+use crate::answer::{Answer, Stop};
+use crate::begin::{Beginning, begin};
+use crate::line::Line;
+use crate::tell::{commits_of, sides_of, status_of_ask};
+use bf_import::History;
+use bf_io::Bytes;
+use bf_log::{write_ask, write_entries};
+use bf_reach::Reach;
+use bf_search::{Ask, Entry, Step};
+use std::alloc::{AllocError, Global};
+
+/// The answer of one ask.
+#[tactic(auto, unfolding(bf_output::specs::Next::next_told))]
+pub(crate) fn next(alloc: Global, line: Line<'_>, history: &History) -> Result<Answer, Stop>
+    ensures step { IsStep told_of result (next.next_told line.entry.request.now line.entry.words.now history.now) }
+    ensures whole { IfOk result (λ answer. IsWhole answer.status) }
+{
+    let reach = Reach::build(alloc, history.graph())?;
+    let first = begin(alloc, line, history, &reach)?;
+    Ok(ask_once(alloc, history, &reach, first)?)
+}
+
+/// Adds the entries of an ask: the skipped merge bases that it passes over, and its end.
+fn push_asked(entries: &mut Vec<Entry>, step: &Step) -> Result<(), AllocError>
+    ensures { OnOk result (entries.new.items ≡ entries.old.items ++ next.asked_entries step.now) }
+{
+    for base in step.warned.as_slice() {
+        entries.push(Entry::SkippedBase { place: *base })?;
+    }
+    push_end(entries, &step.ask)
+}
+
+/// Adds the entry of an ask that ends the search.
+fn push_end(entries: &mut Vec<Entry>, ask: &Ask) -> Result<(), AllocError>
+    ensures { OnOk result (entries.new.items ≡ entries.old.items ++ next.end_entries ask.now) }
+{
+    match ask {
+        Ask::FirstBad(place) => entries.push(Entry::FirstBadFound { place: *place })?,
+        Ask::OnlySkipped(places) => entries.push(Entry::OnlySkippedLeft {
+            places: places.try_clone()?,
+        })?,
+        Ask::WaitBoth | Ask::WaitBad | Ask::WaitGood => {}
+        Ask::Test(_) | Ask::MergeBaseBad(_) | Ask::GoodNotAncestor(_) | Ask::BothSides(_) => {}
+    }
+    Ok(())
+}
+
+/// The answer of a search that has begun, and asks once.
+fn ask_once(
+    alloc: Global,
+    history: &History,
+    reach: &Reach,
+    first: Beginning,
+) -> Result<Answer, AllocError>
+    requires reach { reach.now ≡ history.now.parents }
+    requires len { first.state.len ≡ length history.now.parents }
+    requires places { AreWithin first }
+    ensures tells { IfOk result (λ answer. told_of answer ≡ next.asked_once history.now (begun_of first) (searches.ask history.now.parents first.state.search).step) }
+    ensures whole { IfOk result (λ answer. IsWhole answer.status) }
+{
+    let Beginning {
+        mut state,
+        mut entries,
+    } = first;
+    prove!(reach.len() == state.len);
+    let step = state.advance(reach)?;
+    push_asked(&mut entries, &step)?;
+    let commits = commits_of(history);
+    let sides = sides_of(&state.terms);
+    let mut text = Bytes::new(alloc);
+    write_entries(alloc, commits, sides, entries.as_slice(), &mut text)?;
+    write_ask(commits, sides, &step.ask, &mut text)?;
+    Ok(Answer {
+        status: status_of_ask(&step.ask),
+        text,
+    })
+}

@@ -1,0 +1,126 @@
+//! The command `sample`.
+ghost use Rattle.std.specs.Prelude.{◌≡◌, ◌<◌, ◌++◌, length, count_by, codes, All, IfOk, OnOk};
+ghost use Rattle.std.specs.Option.{ForSome};
+ghost use Rattle.bf_output.specs.Sample as sample;
+ghost use Rattle.bf_output.specs.Simulate.{run_over};
+ghost use Rattle.bf_program.specs.Answers.{IsWhole};
+ghost use Rattle.bf_program.specs.Tellings.{begun_of, told_of};
+
+use crate::answer::Answer;
+use crate::begin::{Beginning, between_ends};
+use crate::tell::{commits_of, sides_of, status_of, write_end};
+use bf_alone::{Ran, run_plan};
+use bf_import::History;
+use bf_io::{Bytes, put_decimal};
+use bf_reach::Reach;
+use bf_search::{Entry, Outcome};
+use bf_words::Request;
+use std::alloc::{AllocError, Global};
+
+/// The answer of `sample` over the history of its stream.
+#[tactic(auto, unfolding(bf_output::specs::Sample::sampled))]
+pub(crate) fn sample(
+    alloc: Global,
+    request: &Request,
+    history: &History,
+) -> Result<Answer, AllocError>
+    ensures tells { IfOk result (λ answer. told_of answer ≡ sample.sampled request.now history.now) }
+    ensures whole { IfOk result (λ answer. IsWhole answer.status) }
+{
+    let reach = Reach::build(alloc, history.graph())?;
+    let first = whole_search(alloc, request, history.len())?;
+    run(alloc, request, history, &reach, first)
+}
+
+/// The last place, where there is one.
+fn last_place(len: u32) -> Option<u32>
+    ensures value { result ≡ sample.last_place len }
+    ensures within { ForSome result (λ p. p < len) }
+{
+    if len == 0 { None } else { Some(len - 1) }
+}
+
+/// The first place, where there is one.
+fn first_places(len: u32) -> &'static [u32]
+    ensures value { result.now ≡ sample.first_places len }
+    ensures within { All (λ p. p < len) result.now }
+{
+    if len == 0 { &[] } else { &[0] }
+}
+
+/// The search between the first commit and the last one.
+fn whole_search(alloc: Global, request: &Request, len: u32) -> Result<Beginning, AllocError>
+    ensures begun { IfOk result (λ first. begun_of first ≡ sample.whole_search request.now len) }
+    ensures len { IfOk result (λ first. first.state.len ≡ len) }
+{
+    between_ends(alloc, request, len, last_place(len), first_places(len))
+}
+
+/// The outcomes by place: the commits below the half of so many are good, and the others bad.
+fn plan_of_sample(alloc: Global, count: u32) -> Result<Vec<Outcome>, AllocError>
+    ensures { IfOk result (λ plan. plan.items ≡ sample.plan_of_sample count) }
+{
+    let half = count as usize / 2;
+    let mut plan = vec![in alloc; Outcome::Exit(0); half]?;
+    let mut others = vec![in alloc; Outcome::Exit(1); count as usize - half]?;
+    plan.append(&mut others)?;
+    Ok(plan)
+}
+
+/// Whether an entry marks a commit.
+fn is_mark(entry: &Entry) -> bool
+    ensures { result ≡ sample.is_mark entry.now }
+{
+    match entry {
+        Entry::Marked { .. } => true,
+        Entry::Start { .. } | Entry::SkippedBase { .. } => false,
+        Entry::FirstBadFound { .. } | Entry::OnlySkippedLeft { .. } => false,
+    }
+}
+
+/// How many entries mark a commit.
+fn marks_in(entries: &[Entry]) -> u64
+    ensures { result ≡ count_by sample.is_mark entries.now }
+{
+    let mut marks = 0u64;
+    for entry in entries {
+        marks += is_mark(entry) as u64;
+    }
+    marks
+}
+
+/// Adds the line of a number of things.
+fn put_number_line(out: &mut Bytes, what: &[u8], number: u64) -> Result<(), AllocError>
+    ensures { OnOk result (out.new ≡ out.old ++ sample.number_line what.now number) }
+{
+    out.append(what)?;
+    out.append(b" ")?;
+    put_decimal(out, number)?;
+    out.append(b"\n")
+}
+
+/// The summary of a search that has begun, over the plan of the sample.
+fn run(
+    alloc: Global,
+    request: &Request,
+    history: &History,
+    reach: &Reach,
+    first: Beginning,
+) -> Result<Answer, AllocError>
+    requires reach { reach.now ≡ history.now.parents }
+    requires len { first.state.len ≡ length history.now.parents }
+    ensures tells { IfOk result (λ answer. told_of answer ≡ sample.summed_up request.now history.now (begun_of first) (run_over history.now (begun_of first) (sample.plan_of_sample request.now.count))) }
+    ensures whole { IfOk result (λ answer. IsWhole answer.status) }
+{
+    let Beginning { mut state, .. } = first;
+    let plan = plan_of_sample(alloc, request.count)?;
+    let Ran { entries, end } = run_plan(alloc, reach, &mut state, plan.as_slice())?;
+    let mut text = Bytes::new(alloc);
+    put_number_line(&mut text, b"commits", u64::from(request.count))?;
+    put_number_line(&mut text, b"marks", marks_in(entries.as_slice()))?;
+    write_end(commits_of(history), sides_of(&state.terms), &end, &mut text)?;
+    Ok(Answer {
+        status: status_of(&end),
+        text,
+    })
+}
