@@ -10,6 +10,8 @@ mod claims;
 mod consuming;
 mod machine;
 #[cfg(test)]
+mod schedules;
+#[cfg(test)]
 mod tests;
 
 pub use answers::{ApplyFault, CoreParts, Pick, Withdrawn};
