@@ -4,12 +4,14 @@
 
 mod answer;
 mod begin;
+mod file;
 mod line;
 mod made;
 mod named;
 mod next;
 mod plan;
 mod refusals;
+mod replay;
 mod sample;
 mod simulate;
 mod skips;
