@@ -23,4 +23,6 @@ pub use bf_output::{Status, StreamKind};
 pub use top::{bisect_main, say};
 
 #[cfg(test)]
+mod log_tests;
+#[cfg(test)]
 mod tests;
