@@ -7,7 +7,7 @@ ghost use Rattle.bf_output.specs.Gen.{made_stream};
 ghost use Rattle.bf_output.specs.Output as output;
 ghost use Rattle.bf_output.specs.Told.{Told, told_by};
 ghost use Rattle.bf_program.specs.Answers.{Answers, OutputOf, IsWhole};
-ghost use Rattle.bf_program.specs.Steps.{IsStep};
+ghost use Rattle.bf_program.specs.Steps.{IsStep, HasPlan};
 ghost use Rattle.bf_program.specs.Tellings.{told_of};
 ghost use Rattle.bf_program.specs.Writes.{IsTold, IsWritten};
 
@@ -35,7 +35,7 @@ use std::alloc::{AllocError, Global};
 /// answered at any point. After `WriteFault` and `NoMemory` the sink gained some front of the text that
 /// was due. The tester is left as it was.
 pub fn bisect_main<R: Host, S: Source, F: Shelf, T: Tester, K: Sink>(
-    _rt: &R,
+    rt: &R,
     alloc: Global,
     words: &[Word],
     stream: &mut S,
@@ -53,7 +53,7 @@ pub fn bisect_main<R: Host, S: Source, F: Shelf, T: Tester, K: Sink>(
     ensures unfailed { T.faults tester.new ≡ T.faults tester.old }
     ensures uncommanded { T.command tester.new ≡ T.command tester.old }
 {
-    let answer = answer_to(alloc, words, stream);
+    let answer = answer_to(rt, alloc, words, stream);
     tell(out, &answer)
 }
 
@@ -93,7 +93,12 @@ fn write_and_flush<K: Sink>(out: &mut K, text: &[u8]) -> Result<(), SinkFault>
 }
 
 // The whole answer, before any of it is written.
-fn answer_to<S: Source>(alloc: Global, words: &[Word], stream: &mut S) -> Result<Answer, Cut>
+fn answer_to<R: Host, S: Source>(
+    rt: &R,
+    alloc: Global,
+    words: &[Word],
+    stream: &mut S,
+) -> Result<Answer, Cut>
     ensures output { IfOk result (λ answer. OutputOf (record { words = words.now }) (S.left stream.old) answer.status answer.text) }
     ensures whole { IfOk result (λ answer. IsWhole answer.status) }
     ensures reads { IsErrOf result Cut.Read → IsTrue (output.reads (asked.request words.now)) }
@@ -105,7 +110,7 @@ fn answer_to<S: Source>(alloc: Global, words: &[Word], stream: &mut S) -> Result
                 request: &request,
                 words,
             };
-            answer_request(alloc, line, stream)
+            answer_request(rt, alloc, line, stream)
         }
         Err(WordFault::At { word }) => Ok(usage(alloc, word)?),
         Err(WordFault::NoMemory) => Err(Cut::NoMemory),
@@ -116,11 +121,7 @@ fn answer_to<S: Source>(alloc: Global, words: &[Word], stream: &mut S) -> Result
 fn is_built(request: &Request) -> bool
     ensures { result ≡ output.is_built request.now }
 {
-    is_built_verb(request.verb)
-        && request.replay.is_none()
-        && request.leg == 0
-        && !request.trace
-        && request.workers == 1
+    is_built_verb(request.verb) && request.replay.is_none() && request.leg == 0 && !request.trace
 }
 
 fn is_built_verb(verb: Verb) -> bool
@@ -133,21 +134,33 @@ fn is_built_verb(verb: Verb) -> bool
 }
 
 // The answer for words that ask for something.
-fn answer_request<S: Source>(alloc: Global, line: Line<'_>, stream: &mut S) -> Result<Answer, Cut>
+fn answer_request<R: Host, S: Source>(
+    rt: &R,
+    alloc: Global,
+    line: Line<'_>,
+    stream: &mut S,
+) -> Result<Answer, Cut>
+    requires plan { HasPlan line.request.now line.words.now }
     ensures output { IfOk result (λ answer. output.IsOutputFor (Ok line.entry.request.now) (record { words = line.entry.words.now }) (S.left stream.old) (told_of answer)) }
     ensures whole { IfOk result (λ answer. IsWhole answer.status) }
     ensures reads { IsErrOf result Cut.Read → IsTrue (output.reads_stream line.entry.request.now.verb) }
     ensures cause { FailsOnlyAt Cut.Read (S.faults stream.old) (S.faults stream.new) result }
 {
     if is_built(line.request) {
-        answer_verb(alloc, line, stream)
+        answer_verb(rt, alloc, line, stream)
     } else {
         Ok(unbuilt(alloc)?)
     }
 }
 
 // The answer of a command that is built.
-fn answer_verb<S: Source>(alloc: Global, line: Line<'_>, stream: &mut S) -> Result<Answer, Cut>
+fn answer_verb<R: Host, S: Source>(
+    rt: &R,
+    alloc: Global,
+    line: Line<'_>,
+    stream: &mut S,
+) -> Result<Answer, Cut>
+    requires plan { HasPlan line.request.now line.words.now }
     ensures output { IfOk result (λ answer. output.IsOutputOf line.entry.request.now.verb line.entry.request.now (record { words = line.entry.words.now }) (S.left stream.old) (told_of answer)) }
     ensures whole { IfOk result (λ answer. IsWhole answer.status) }
     ensures reads { IsErrOf result Cut.Read → IsTrue (output.reads_stream line.entry.request.now.verb) }
@@ -155,43 +168,56 @@ fn answer_verb<S: Source>(alloc: Global, line: Line<'_>, stream: &mut S) -> Resu
 {
     match line.request.verb {
         Verb::Simulate | Verb::Run | Verb::Next | Verb::Replay => {
-            answer_stream(alloc, line, stream)
+            answer_stream(rt, alloc, line, stream)
         }
         Verb::Gen => Ok(generate(alloc, line.request)?),
-        Verb::Sample => answer_made(alloc, line),
+        Verb::Sample => answer_made(rt, alloc, line),
     }
 }
 
 // The answer over the stream that a number gives. It is read from memory, so no read fails.
-fn answer_made(alloc: Global, line: Line<'_>) -> Result<Answer, Cut>
+fn answer_made<R: Host>(rt: &R, alloc: Global, line: Line<'_>) -> Result<Answer, Cut>
+    requires plan { HasPlan line.request.now line.words.now }
     ensures output { IfOk result (λ answer. output.IsOverBytes line.entry.request.now (record { words = line.entry.words.now }) (made_stream line.entry.request.now) (told_of answer)) }
     ensures whole { IfOk result (λ answer. IsWhole answer.status) }
     ensures no_read { IsErrOf result Cut.Read → ⊥ }
 {
     let mut made = PlainSource::new(made_stream(alloc, line.request)?);
-    answer_stream(alloc, line, &mut made)
+    answer_stream(rt, alloc, line, &mut made)
 }
 
 // The answer over the stream, which is read to its end first.
-fn answer_stream<S: Source>(alloc: Global, line: Line<'_>, stream: &mut S) -> Result<Answer, Cut>
+fn answer_stream<R: Host, S: Source>(
+    rt: &R,
+    alloc: Global,
+    line: Line<'_>,
+    stream: &mut S,
+) -> Result<Answer, Cut>
+    requires plan { HasPlan line.request.now line.words.now }
     ensures output { IfOk result (λ answer. output.IsOverStream line.entry.request.now (record { words = line.entry.words.now }) (S.left stream.old) (told_of answer)) }
     ensures whole { IfOk result (λ answer. IsWhole answer.status) }
     ensures cause { FailsOnlyAt Cut.Read (S.faults stream.old) (S.faults stream.new) result }
 {
     match import(alloc, stream, Limits::standard()) {
-        Ok(history) => Ok(answer_over(alloc, line, &history)?),
+        Ok(history) => Ok(answer_over(rt, alloc, line, &history)?),
         Err(fault) => refusal(alloc, fault),
     }
 }
 
 // The answer over a history.
-fn answer_over(alloc: Global, line: Line<'_>, history: &History) -> Result<Answer, Cut>
+fn answer_over<R: Host>(
+    rt: &R,
+    alloc: Global,
+    line: Line<'_>,
+    history: &History,
+) -> Result<Answer, Cut>
+    requires plan { HasPlan line.request.now line.words.now }
     ensures tells { IfOk result (λ answer. output.IsOver line.entry.request.now.verb line.entry.request.now (record { words = line.entry.words.now }) history.now (told_of answer)) }
     ensures whole { IfOk result (λ answer. IsWhole answer.status) }
     ensures no_read { IsErrOf result Cut.Read → ⊥ }
 {
     match line.request.verb {
-        Verb::Simulate => or_refused(simulate(alloc, line, history)),
+        Verb::Simulate => or_refused(simulate(rt, alloc, line, history)),
         Verb::Next => or_refused(next(alloc, line, history)),
         Verb::Gen => Ok(generate(alloc, line.request)?),
         Verb::Sample => Ok(sample(alloc, line.request, history)?),
