@@ -32,7 +32,7 @@ is_built_verb Sample = true
 
 abbrev pub is_built : Request → Bool
 is_built request =
-    is_built_verb request.verb && (request.leg == 0) && not request.trace && (request.workers == 1)
+    is_built_verb request.verb && (request.leg == 0) && not request.trace
 
 -- what the program is given beside its stream
 pub record Given : Type 0 where

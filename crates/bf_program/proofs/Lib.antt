@@ -1,6 +1,9 @@
 mod Answering
 mod Asking
+mod Ended
 mod Fronts
 mod Gathering
 mod Importing
+mod Planning
+mod Running
 mod Skipping

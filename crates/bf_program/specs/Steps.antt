@@ -1,5 +1,5 @@
 -- What the steps of a command give.
-use Rattle.std.specs.Prelude.{◌≡◌, ◌≢◌, ℕ, Result, Ok, Err}
+use Rattle.std.specs.Prelude.{◌≡◌, ◌≢◌, ℕ, List, [], IsTrue, Result, Ok, Err}
 use Rattle.bf_names.specs.declared.fault.NameFault.{NameFault}
 use Rattle.bf_names.specs.declared.fault.NameFault.TheVariants as names
 use Rattle.bf_output.specs.Refusals.{name_refused}
@@ -7,6 +7,8 @@ use Rattle.bf_output.specs.Told.{Told}
 use Rattle.bf_program.specs.declared.answer.Stop.{Stop}
 use Rattle.bf_program.specs.declared.answer.Stop.TheVariants.{Refused, NoMemory}
 use Rattle.bf_program.specs.Answers.{IsWhole}
+use Rattle.bf_words.specs.declared.request.Request.{Request}
+use Rattle.bf_words.specs.Words.{is_plan, word_or}
 use Rattle.bf_program.specs.Tellings.{told_of}
 
 -- a step is refused with this answer, or memory ran out
@@ -25,3 +27,7 @@ abbrev pub RefusesName : {X : Type 0} → ℕ → Result X NameFault → Stop �
 RefusesName word (Ok x) (Refused answer) = ⊥
 RefusesName word (Err fault) (Refused answer) = (fault ≢ names.NoMemory) × (told_of answer ≡ name_refused word fault) × IsWhole answer.status
 RefusesName word given NoMemory = Unit {0}
+
+-- the word of the plan, where there is one, has letters of outcomes alone
+abbrev pub HasPlan : Request → List (List ℕ) → Type 0
+HasPlan request words = IsTrue (is_plan (word_or [] words request.plan))

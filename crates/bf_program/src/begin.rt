@@ -1,6 +1,7 @@
 //! How a search begins.
 ghost use Rattle.std.specs.Prelude.{◌≡◌, ◌<◌, length, All, IfOk};
 ghost use Rattle.std.specs.Option.{ForSome};
+ghost use Rattle.bf_guesses.specs.Ends.{HasEnds};
 ghost use Rattle.bf_output.specs.Beginning as beginning;
 ghost use Rattle.bf_program.specs.Files.{file_given, given_of};
 ghost use Rattle.bf_program.specs.Steps.{IsStep};
@@ -150,6 +151,7 @@ pub(crate) fn begin(
     ensures step { IsStep begun_of result (beginning.begun_with_skips line.entry.request.now line.entry.words.now (file_given file.entry) history.now) }
     ensures len { IfOk result (λ first. first.state.len ≡ length history.now.parents) }
     ensures places { IfOk result AreWithin }
+    ensures ends { IfOk result (λ first. HasEnds first.state.search) }
 {
     let skips = line.request.skips.as_slice();
     let first = begin_first(alloc, line, file, history, reach)?;

@@ -1,26 +1,14 @@
 //! The plan of outcomes that a word writes.
-ghost use Rattle.std.specs.Prelude.{◌≡◌, [], IfOk};
+ghost use Rattle.std.specs.Prelude.{◌≡◌, false, [], Some, IfOk};
 ghost use Rattle.bf_words.specs.Words.{word_or};
 ghost use Rattle.bf_output.specs.Simulate as simulate;
+ghost use Rattle.bf_program.specs.Steps.{HasPlan};
 
+use crate::line::Line;
 use crate::named::word_at;
 use bf_io::Word;
-use bf_search::Outcome;
-use bf_terms::outcome_of_letter;
-use bf_words::Request;
+use bf_tester::{PlanTester, Tester};
 use std::alloc::{AllocError, Global};
-
-/// The outcome that a letter of a plan stands for, as `--lenient-exit` has it read.
-fn outcome_of(letter: u8, is_lenient: bool) -> Outcome
-    ensures { result ≡ simulate.outcome_by_letter is_lenient letter }
-{
-    let outcome = outcome_of_letter(letter).unwrap_or(Outcome::Exit(125));
-    if is_lenient {
-        bf_terms::lenient(outcome)
-    } else {
-        outcome
-    }
-}
 
 /// The letters of the plan, where there is one.
 fn letters_of(words: &[Word], index: Option<u32>) -> &[u8]
@@ -32,18 +20,14 @@ fn letters_of(words: &[Word], index: Option<u32>) -> &[u8]
     }
 }
 
-/// The outcomes of a plan, by place.
-pub(crate) fn plan_of(
-    alloc: Global,
-    request: &Request,
-    words: &[Word],
-) -> Result<Vec<Outcome>, AllocError>
-    ensures { IfOk result (λ plan. plan.items ≡ simulate.plan_of request.now words.now) }
+/// A tester of the plan that the words write, read as `--lenient-exit` has it.
+pub(crate) fn tester_of(alloc: Global, line: Line<'_>) -> Result<PlanTester, AllocError>
+    requires plan { HasPlan line.request.now line.words.now }
+    ensures told { IfOk result (λ tester. ⟦<PlanTester as Tester>⟧.told tester ≡ Some (simulate.plan_of line.entry.request.now line.entry.words.now)) }
+    ensures is_split { IfOk result (λ tester. ⟦<PlanTester as Tester>⟧.is_split tester ≡ false) }
 {
-    let letters = letters_of(words, request.plan);
-    let mut plan = Vec::with_capacity(alloc, letters.len())?;
-    for letter in letters {
-        plan.push(outcome_of(*letter, request.lenient))?;
-    }
-    Ok(plan)
+    let letters = letters_of(line.words, line.request.plan);
+    let mut tester = PlanTester::new(alloc, letters)?;
+    tester.prepare(&[], line.request.lenient)?;
+    Ok(tester)
 }

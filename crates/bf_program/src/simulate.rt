@@ -1,66 +1,107 @@
 //! The command `simulate`.
-ghost use Rattle.std.specs.Prelude.{◌≡◌, length, IfOk};
+ghost use Rattle.std.specs.Prelude.{◌≡◌, ◌++◌, false, length, All, List, Some, IfOk};
+ghost use Rattle.bf_alone.specs.Rest.{ending_of};
+ghost use Rattle.bf_alone.specs.Within.{IsEndingWithin};
+ghost use Rattle.bf_guesses.specs.Ends.{HasEnds};
+ghost use Rattle.bf_log.specs.Labels.{IsEntryWithin};
+ghost use Rattle.bf_output.specs.Beginning as beginning;
 ghost use Rattle.bf_output.specs.Simulate as simulate;
 ghost use Rattle.bf_program.specs.Answers.{IsWhole};
 ghost use Rattle.bf_program.specs.Files.{file_given};
-ghost use Rattle.bf_program.specs.Steps.{IsStep};
+ghost use Rattle.bf_program.specs.Steps.{IsStep, HasPlan};
 ghost use Rattle.bf_program.specs.Tellings.{begun_of, told_of, AreWithin};
+ghost use Rattle.bf_search.specs.declared.outcomes.Outcome.{Outcome};
+ghost use Rattle.bf_texts.specs.Texts as texts;
 
 use crate::answer::{Answer, Stop};
 use crate::begin::{Beginning, begin};
 use crate::file::LogFile;
 use crate::line::Line;
-use crate::plan::plan_of;
+use crate::plan::tester_of;
 use crate::tell::{commits_of, sides_of, status_of, write_end};
-use bf_alone::{Ending, Ran, run_plan};
 use bf_import::History;
 use bf_io::Bytes;
-use bf_log::write_more;
+use bf_log::{Known, write_more};
 use bf_reach::Reach;
-use bf_search::Outcome;
+use bf_runs::{Planned, Search, run_planned};
+use bf_search::Entry;
+use bf_tester::{Host, PlanTester, Tester};
 use std::alloc::{AllocError, Global};
 
-/// The answer of a search over a plan that the words write.
+/// The answer of a search over a plan that the words write, whatever the number of workers.
 #[tactic(auto, unfolding(bf_output::specs::Simulate::simulated))]
-pub(crate) fn simulate(
+pub(crate) fn simulate<R: Host>(
+    rt: &R,
     alloc: Global,
     line: Line<'_>,
     file: Option<&LogFile>,
     history: &History,
 ) -> Result<Answer, Stop>
+    requires plan { HasPlan line.request.now line.words.now }
     ensures step { IsStep told_of result (simulate.simulated line.entry.request.now line.entry.words.now (file_given file.entry) history.now) }
     ensures whole { IfOk result (λ answer. IsWhole answer.status) }
 {
     let reach = Reach::build(alloc, history.graph())?;
     let first = begin(alloc, line, file, history, &reach)?;
-    let plan = plan_of(alloc, line.request, line.words)?;
-    Ok(run(alloc, history, &reach, first, plan.as_slice())?)
+    let mut tester = tester_of(alloc, line)?;
+    let search = Search {
+        history,
+        reach: &reach,
+        workers: line.request.workers,
+        leg: 0,
+    };
+    Ok(run(rt, alloc, search, first, &mut tester)?)
 }
 
-/// The answer of a search that has begun, over a plan.
-fn run(
+/// The answer of a search that has begun, over the plan of a tester.
+fn run<R: Host>(
+    rt: &R,
     alloc: Global,
-    history: &History,
-    reach: &Reach,
+    search: Search<'_>,
     first: Beginning,
-    plan: &[Outcome],
+    tester: &mut PlanTester,
 ) -> Result<Answer, AllocError>
-    requires reach { reach.now ≡ history.now.parents }
-    requires len { first.state.len ≡ length history.now.parents }
+    requires reach { search.reach.now ≡ search.history.now.parents }
+    requires len { first.state.len ≡ length search.history.now.parents }
     requires places { AreWithin first }
-    ensures tells { IfOk result (λ answer. told_of answer ≡ simulate.ran history.now (begun_of first) (simulate.run_over history.now (begun_of first) plan.now)) }
+    requires ends { HasEnds first.state.search }
+    requires leg { search.leg ≡ 0 }
+    requires is_split { ⟦<PlanTester as Tester>⟧.is_split tester.old ≡ false }
+    ensures tells { IfOk result (λ answer. (plan : List Outcome) → ⟦<PlanTester as Tester>⟧.told tester.old ≡ Some plan → told_of answer ≡ simulate.ran search.entry.history.now (begun_of first) (simulate.run_over search.entry.history.now (begun_of first) plan)) }
     ensures whole { IfOk result (λ answer. IsWhole answer.status) }
 {
     let Beginning {
-        mut state,
-        mut known,
-        mut entries,
+        state,
+        known,
+        entries,
     } = first;
-    let Ran {
-        entries: later,
+    let ran = run_planned(rt, alloc, search, state, tester)?;
+    let answer = answer_of(alloc, search.history, known, entries, ran)?;
+    Ok(answer)
+}
+
+/// The answer of a run that has ended: the lines of the entries before it and of its own, behind the log
+/// that stands already, and how it ended.
+fn answer_of(
+    alloc: Global,
+    history: &History,
+    known: Known,
+    before: Vec<Entry>,
+    ran: Planned,
+) -> Result<Answer, AllocError>
+    requires before { All (IsEntryWithin (length history.now.parents)) before.items }
+    requires places { All (IsEntryWithin (length history.now.parents)) ran.entries.items }
+    requires end { IsEndingWithin (length history.now.parents) ran.end }
+    ensures tells { IfOk result (λ answer. told_of answer ≡ record { status = simulate.status_of_end (ending_of ran.end); text = texts.log_from (beginning.commits_of history.now) ran.state.terms known (before.items ++ ran.entries.items) ++ texts.answer_lines (beginning.commits_of history.now) ran.state.terms (ending_of ran.end) }) }
+    ensures whole { IfOk result (λ answer. IsWhole answer.status) }
+{
+    let Planned {
+        entries: mut later,
         end,
-    } = run_plan(alloc, reach, &mut state, plan)?;
-    entries.append(&mut later.into_vec())?;
+        state,
+    } = ran;
+    let (mut known, mut entries) = (known, before);
+    entries.append(&mut later)?;
     let commits = commits_of(history);
     let sides = sides_of(&state.terms);
     let mut text = Bytes::new(alloc);

@@ -166,7 +166,7 @@ struct Row {
     text: &'static [u8],
 }
 
-// Searches, each with its end. Past the end of the plan a test is skipped.
+// Searches, each with its end. Past the end of the plan a test is skipped. Some are made by several workers.
 static SEARCHES: [Row; 10] = [
     Row {
         words: &[b"simulate", b"refs/heads/main", b"refs/heads/old", b"ggbb"],
@@ -184,7 +184,7 @@ git bisect bad 2a83eb598262042db81ddad6b0c3b6c0d200c521
 ",
     },
     Row {
-        words: &[b"simulate", b"main", b"side", b"bbg"],
+        words: &[b"simulate", b"--workers", b"2", b"main", b"side", b"bbg"],
         stream: FORK,
         status: 3,
         text: b"# bad: [f570778fec974dd2b05ee862e235ff38a61118d3] c1
@@ -197,7 +197,7 @@ The change was undone between it and one of the good commits.
 ",
     },
     Row {
-        words: &[b"simulate", b"main", b"side", b"sbg"],
+        words: &[b"simulate", b"main", b"--workers", b"4", b"side", b"sbg"],
         stream: FORK,
         status: 0,
         text: b"# bad: [f570778fec974dd2b05ee862e235ff38a61118d3] c1
@@ -211,7 +211,15 @@ f570778fec974dd2b05ee862e235ff38a61118d3 is the first bad commit
 ",
     },
     Row {
-        words: &[b"simulate", b"--first-parent", b"main", b"main~2", b"gggb"],
+        words: &[
+            b"simulate",
+            b"--first-parent",
+            b"--workers",
+            b"64",
+            b"main",
+            b"main~2",
+            b"gggb",
+        ],
         stream: DIAMOND,
         status: 0,
         text: b"# bad: [5cd6ff3c76dd421bcbf1c51e84af82d13c982912] c3

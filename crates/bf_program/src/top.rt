@@ -8,7 +8,7 @@ ghost use Rattle.bf_output.specs.Output as output;
 ghost use Rattle.bf_output.specs.Told.{Told, told_by};
 ghost use Rattle.bf_program.specs.Answers.{Answers, OutputOf, IsWhole};
 ghost use Rattle.bf_program.specs.Files.{file_given};
-ghost use Rattle.bf_program.specs.Steps.{IsStep};
+ghost use Rattle.bf_program.specs.Steps.{IsStep, HasPlan};
 ghost use Rattle.bf_program.specs.Tellings.{told_of};
 ghost use Rattle.bf_program.specs.Writes.{IsTold, IsWritten};
 
@@ -38,7 +38,7 @@ use std::alloc::{AllocError, Global};
 /// answered at any point. After `WriteFault` and `NoMemory` the sink gained some front of the text that
 /// was due. The tester is left as it was.
 pub fn bisect_main<R: Host, S: Source, F: Shelf, T: Tester, K: Sink>(
-    _rt: &R,
+    rt: &R,
     alloc: Global,
     words: &[Word],
     stream: &mut S,
@@ -57,7 +57,7 @@ pub fn bisect_main<R: Host, S: Source, F: Shelf, T: Tester, K: Sink>(
     ensures unfailed { T.faults tester.new ≡ T.faults tester.old }
     ensures uncommanded { T.command tester.new ≡ T.command tester.old }
 {
-    let answer = answer_to(alloc, words, stream, shelf);
+    let answer = answer_to(rt, alloc, words, stream, shelf);
     tell(out, &answer)
 }
 
@@ -98,7 +98,8 @@ fn write_and_flush<K: Sink>(out: &mut K, text: &[u8]) -> Result<(), SinkFault>
 }
 
 // The whole answer, before any of it is written.
-fn answer_to<S: Source, F: Shelf>(
+fn answer_to<R: Host, S: Source, F: Shelf>(
+    rt: &R,
     alloc: Global,
     words: &[Word],
     stream: &mut S,
@@ -117,7 +118,7 @@ fn answer_to<S: Source, F: Shelf>(
                 request: &request,
                 words,
             };
-            answer_request(alloc, line, stream, shelf)
+            answer_request(rt, alloc, line, stream, shelf)
         }
         Err(WordFault::At { word }) => Ok(usage(alloc, word)?),
         Err(WordFault::NoMemory) => Err(Cut::NoMemory),
@@ -128,7 +129,7 @@ fn answer_to<S: Source, F: Shelf>(
 fn is_built(request: &Request) -> bool
     ensures { result ≡ output.is_built request.now }
 {
-    is_built_verb(request.verb) && request.leg == 0 && !request.trace && request.workers == 1
+    is_built_verb(request.verb) && request.leg == 0 && !request.trace
 }
 
 fn is_built_verb(verb: Verb) -> bool
@@ -141,12 +142,14 @@ fn is_built_verb(verb: Verb) -> bool
 }
 
 // The answer for words that ask for something.
-fn answer_request<S: Source, F: Shelf>(
+fn answer_request<R: Host, S: Source, F: Shelf>(
+    rt: &R,
     alloc: Global,
     line: Line<'_>,
     stream: &mut S,
     shelf: &mut F,
 ) -> Result<Answer, Cut>
+    requires plan { HasPlan line.request.now line.words.now }
     ensures output { IfOk result (λ answer. output.IsOutputFor (Ok line.entry.request.now) (record { words = line.entry.words.now; files = F.files shelf.old }) (S.left stream.old) (told_of answer)) }
     ensures whole { IfOk result (λ answer. IsWhole answer.status) }
     ensures reads { IsErrOf result Cut.Read → IsTrue (output.reads_stream line.entry.request.now.verb) }
@@ -155,19 +158,21 @@ fn answer_request<S: Source, F: Shelf>(
     ensures file { FailsOnlyAt Cut.Shelf (F.faults shelf.old) (F.faults shelf.new) result }
 {
     if is_built(line.request) {
-        answer_verb(alloc, line, stream, shelf)
+        answer_verb(rt, alloc, line, stream, shelf)
     } else {
         Ok(unbuilt(alloc)?)
     }
 }
 
 // The answer of a command that is built.
-fn answer_verb<S: Source, F: Shelf>(
+fn answer_verb<R: Host, S: Source, F: Shelf>(
+    rt: &R,
     alloc: Global,
     line: Line<'_>,
     stream: &mut S,
     shelf: &mut F,
 ) -> Result<Answer, Cut>
+    requires plan { HasPlan line.request.now line.words.now }
     ensures output { IfOk result (λ answer. output.IsOutputOf line.entry.request.now.verb line.entry.request.now (record { words = line.entry.words.now; files = F.files shelf.old }) (S.left stream.old) (told_of answer)) }
     ensures whole { IfOk result (λ answer. IsWhole answer.status) }
     ensures reads { IsErrOf result Cut.Read → IsTrue (output.reads_stream line.entry.request.now.verb) }
@@ -177,15 +182,21 @@ fn answer_verb<S: Source, F: Shelf>(
 {
     match line.request.verb {
         Verb::Simulate | Verb::Run | Verb::Next | Verb::Replay => {
-            answer_stream(alloc, line, stream, shelf)
+            answer_stream(rt, alloc, line, stream, shelf)
         }
         Verb::Gen => Ok(generate(alloc, line.request)?),
-        Verb::Sample => answer_made(alloc, line, shelf),
+        Verb::Sample => answer_made(rt, alloc, line, shelf),
     }
 }
 
 // The answer over the stream that a number gives. It is read from memory, so no read fails.
-fn answer_made<F: Shelf>(alloc: Global, line: Line<'_>, shelf: &mut F) -> Result<Answer, Cut>
+fn answer_made<R: Host, F: Shelf>(
+    rt: &R,
+    alloc: Global,
+    line: Line<'_>,
+    shelf: &mut F,
+) -> Result<Answer, Cut>
+    requires plan { HasPlan line.request.now line.words.now }
     ensures output { IfOk result (λ answer. output.IsOverBytes line.entry.request.now (record { words = line.entry.words.now; files = F.files shelf.old }) (made_stream line.entry.request.now) (told_of answer)) }
     ensures whole { IfOk result (λ answer. IsWhole answer.status) }
     ensures no_read { IsErrOf result Cut.Read → ⊥ }
@@ -193,16 +204,18 @@ fn answer_made<F: Shelf>(alloc: Global, line: Line<'_>, shelf: &mut F) -> Result
     ensures file { FailsOnlyAt Cut.Shelf (F.faults shelf.old) (F.faults shelf.new) result }
 {
     let mut made = PlainSource::new(made_stream(alloc, line.request)?);
-    answer_stream(alloc, line, &mut made, shelf)
+    answer_stream(rt, alloc, line, &mut made, shelf)
 }
 
 // The answer over the stream, which is read to its end first.
-fn answer_stream<S: Source, F: Shelf>(
+fn answer_stream<R: Host, S: Source, F: Shelf>(
+    rt: &R,
     alloc: Global,
     line: Line<'_>,
     stream: &mut S,
     shelf: &mut F,
 ) -> Result<Answer, Cut>
+    requires plan { HasPlan line.request.now line.words.now }
     ensures output { IfOk result (λ answer. output.IsOverStream line.entry.request.now (record { words = line.entry.words.now; files = F.files shelf.old }) (S.left stream.old) (told_of answer)) }
     ensures whole { IfOk result (λ answer. IsWhole answer.status) }
     ensures cause { FailsOnlyAt Cut.Read (S.faults stream.old) (S.faults stream.new) result }
@@ -210,18 +223,20 @@ fn answer_stream<S: Source, F: Shelf>(
     ensures asks { IsErrOf result Cut.Shelf → IsTrue (is_some line.entry.request.now.replay) }
 {
     match import(alloc, stream, Limits::standard()) {
-        Ok(history) => Ok(answer_over(alloc, line, &history, shelf)?),
+        Ok(history) => Ok(answer_over(rt, alloc, line, &history, shelf)?),
         Err(fault) => refusal(alloc, fault),
     }
 }
 
 // The answer over a history: the file that the words name is loaded first.
-fn answer_over<F: Shelf>(
+fn answer_over<R: Host, F: Shelf>(
+    rt: &R,
     alloc: Global,
     line: Line<'_>,
     history: &History,
     shelf: &mut F,
 ) -> Result<Answer, Cut>
+    requires plan { HasPlan line.request.now line.words.now }
     ensures tells { IfOk result (λ answer. output.IsOver line.entry.request.now (record { words = line.entry.words.now; files = F.files shelf.old }) history.now (told_of answer)) }
     ensures whole { IfOk result (λ answer. IsWhole answer.status) }
     ensures no_read { IsErrOf result Cut.Read → ⊥ }
@@ -229,23 +244,25 @@ fn answer_over<F: Shelf>(
     ensures file { FailsOnlyAt Cut.Shelf (F.faults shelf.old) (F.faults shelf.new) result }
 {
     let file = load_file(line.words, line.request.replay, shelf)?;
-    answer_command(alloc, line, lent(&file), history)
+    answer_command(rt, alloc, line, lent(&file), history)
 }
 
 // The answer of a command over a history and the file that its words name.
-fn answer_command(
+fn answer_command<R: Host>(
+    rt: &R,
     alloc: Global,
     line: Line<'_>,
     file: Option<&LogFile>,
     history: &History,
 ) -> Result<Answer, Cut>
+    requires plan { HasPlan line.request.now line.words.now }
     ensures tells { IfOk result (λ answer. output.IsOverFile line.entry.request.now.verb line.entry.request.now line.entry.words.now (file_given file.entry) history.now (told_of answer)) }
     ensures whole { IfOk result (λ answer. IsWhole answer.status) }
     ensures no_read { IsErrOf result Cut.Read → ⊥ }
     ensures no_shelf { IsErrOf result Cut.Shelf → ⊥ }
 {
     match line.request.verb {
-        Verb::Simulate => or_refused(simulate(alloc, line, file, history)),
+        Verb::Simulate => or_refused(simulate(rt, alloc, line, file, history)),
         Verb::Next => or_refused(next(alloc, line, file, history)),
         Verb::Replay => or_refused(replay_log(alloc, file, history)),
         Verb::Gen => Ok(generate(alloc, line.request)?),

@@ -1,12 +1,18 @@
-use Rattle.std.proofs.Common.{List, ◌++◌, length, sym, ap, ◌∙◌}
-use Rattle.bf_search.specs.declared.entries.Entry.{Entry}
-use Rattle.bf_program.proofs.Skipping.{both_within}
+use Rattle.std.proofs.Common.{ℕ, All, refl, subst, ◌∙◌}
+use Rattle.bf_log.specs.Labels.{IsEntryWithin}
+use Rattle.bf_program.proofs.Running.{ran_over}
 use Rattle.bf_program.proofs.simulate.run.Goals as goal
 
-pub write_more-requires-clause-places : goal.write_more-requires-clause-places
-write_more-requires-clause-places c =
-    both_within c.args.first.state.len (length c.args.reach.now) (length c.commits_of-commits.result.names.now) c.args.first.entries.items _
-    c.as_slice.result.now
-    (c.as_slice.ensures.value ∙ c.in_ok-append.ensures.items ∙ ap (λ (es : List Entry). c.args.first.entries.items ++ es) c.into_vec.ensures)
-    (c.requires.len ∙ sym c.commits_of-commits.ensures.len) (ap length c.requires.reach ∙ sym c.commits_of-commits.ensures.len)
-    c.requires.places c.in_ok-later.ensures.places
+pub answer_of-requires-clause-before : goal.answer_of-requires-clause-before
+answer_of-requires-clause-before g c = subst (λ (n : ℕ). All (IsEntryWithin n) c.args.first.entries.items) c.requires.len c.requires.places
+
+pub answer_of-requires-clause-places : goal.answer_of-requires-clause-places
+answer_of-requires-clause-places g c = (c.in_ok-ran.ensures _ refl).places
+
+pub answer_of-requires-clause-end : goal.answer_of-requires-clause-end
+answer_of-requires-clause-end g c = (c.in_ok-ran.ensures _ refl).end_places
+
+pub returns-clause-tells : goal.returns-clause-tells
+returns-clause-tells g c = λ plan told.
+    c.in_ok-answer.ensures.tells
+    ∙ ran_over c.args.search.history.now c.args.first plan c.args.search.leg c.in_ok-ran.ran (c.in_ok-ran.ensures plan told) c.requires.leg
