@@ -27,8 +27,8 @@ farmdawn sample NUMBER COUNT
 simulate searches the history of a git fast-import stream for the first bad commit, as git bisect
 does, and prints the log and the answer. No test is run: PLAN says how each would end. next prints
 the log so far and the commit that a search would test next. With --replay they go on from a log,
-and replay prints such a log in its normal form, and the commits that it knows. gen prints a stream of COUNT commits
-that NUMBER gives, and sample searches such a stream and prints a summary.
+and replay prints such a log in its normal form, and the commits that it knows. gen prints a stream
+of COUNT commits that NUMBER gives, and sample searches such a stream and prints a summary.
 
   BAD, GOOD         names of commits, as gitrevisions(7) has them: main, v1.0, main~3, 1a2b3c4
   PLAN              a letter for each commit in the order of the stream: g good, b bad, s skip,
@@ -38,13 +38,15 @@ that NUMBER gives, and sample searches such a stream and prints a summary.
   --skip REV        a commit, or a range A..B, that is not to be tested; any number of times
   --lenient-exit    take the statuses 126 and 127 of a test as bad
   --replay FILE     go on from the log in a file, as git bisect log prints it
+  --workers N       test up to N commits at once, 1 to 64; what is printed is the same for every N
 
 The status is 0 where the first bad commit was found or the command did what it was asked, 1 where
 a word is wrong, 2 where only skipped commits are left, 3 where a merge base is bad, 4 where a good
 commit is no ancestor of the bad one, 5 where one commit is both, 6 where a test aborts the search,
 7 to 9 where the stream or a name is refused or a limit is passed, 10 where a log is refused, 12
 where the stream cannot be read, 13 where the output cannot be written, 14 where the file of a log
-cannot be read, 15 where memory runs out, 16 where it is missing, 17 where an end is not known, and 18 for what is not built yet.
+cannot be read, 15 where memory runs out, 16 where it is missing, 17 where an end is not known, and
+18 for what is not built yet.
 ";
 
 const VERSION: &[u8] = b"farmdawn 0.1.0\n";
