@@ -24,13 +24,17 @@ install: install-scripts
 install-scripts:
 	for script in $(SCRIPTS); do install -D -m 755 tools/$$script $(BIN)/$$script || exit 1; done
 	for page in farmdawn $(SCRIPTS); do install -D -m 644 man/$$page.1 $(MAN)/$$page.1 || exit 1; done
-	install -D -m 644 completions/farmdawn.bash $(BASH_COMPLETIONS)/farmdawn
-	install -D -m 644 completions/_farmdawn $(ZSH_COMPLETIONS)/_farmdawn
-	install -D -m 644 completions/farmdawn.fish $(FISH_COMPLETIONS)/farmdawn.fish
+	for name in farmdawn git-farmdawn; do \
+		install -D -m 644 completions/farmdawn.bash $(BASH_COMPLETIONS)/$$name && \
+		install -D -m 644 completions/_$$name $(ZSH_COMPLETIONS)/_$$name && \
+		install -D -m 644 completions/$$name.fish $(FISH_COMPLETIONS)/$$name.fish || exit 1; \
+	done
 
 uninstall:
 	for name in farmdawn $(SCRIPTS); do rm -f $(BIN)/$$name $(MAN)/$$name.1; done
-	rm -f $(BASH_COMPLETIONS)/farmdawn $(ZSH_COMPLETIONS)/_farmdawn $(FISH_COMPLETIONS)/farmdawn.fish
+	for name in farmdawn git-farmdawn; do \
+		rm -f $(BASH_COMPLETIONS)/$$name $(ZSH_COMPLETIONS)/_$$name $(FISH_COMPLETIONS)/$$name.fish; \
+	done
 
 test:
 	bash .ci/run

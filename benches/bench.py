@@ -8,11 +8,13 @@ Usage: benches/bench.py SUBJECT [NUMBER ..]    (the numbers behind a subject are
   forest 40 50 25 20000        single edits of a tree of many files     beside git fast-import
   import 100000 10000 500      short commits, a folder, MB of contents  beside git fast-import
   run 20000 100000             whole searches; 1,000 skips in a row     beside git rev-list --bisect
-  hostile                      streams made to cost much, at a size and at twice the size; a small stack
+  hostile 1                    streams and logs made to cost much, at a size and at twice the size; a small stack;
+                               the sizes are divided by the number
+  wall 300 40 3                commits, files of C, runs: wall time of 1, 2, 4 and 8 workers  beside git bisect run
   real [--seed N] [--pairs N] [REPOSITORY]    a repository: the answers of farmdawn and of git bisect run must agree
 
 Ratios say how many times as fast as git a program is; they are of processor time, where nothing else is said. The
-programs are built first, with their proofs, by `rt run` in their crates.
+programs are built first, with their proofs, by `rt run` in their crates; the one that FARMDAWN names stands for farmdawn.
 """
 import os
 import shutil
@@ -23,6 +25,7 @@ import tempfile
 import hostile
 import real
 import streams
+import wall
 from measure import measure
 
 TOP = os.path.dirname(os.path.dirname(os.path.abspath(__file__)))
@@ -31,6 +34,8 @@ HAS_GIT = shutil.which("git") is not None
 
 def program(name):
     """The path of a program of this checkout, built anew where it has to be."""
+    if name == "farmdawn" and "FARMDAWN" in os.environ:
+        return os.path.abspath(os.environ["FARMDAWN"])
     crate = os.path.join(TOP, "crates", name)
     built = os.path.join(crate, "out", name)
     done = subprocess.run(["rt", "run"], cwd=crate, stdin=subprocess.DEVNULL, stdout=subprocess.PIPE, stderr=subprocess.STDOUT)
@@ -176,16 +181,35 @@ def run(bench, *sizes):
     print(f"line 20000 with skips: {tests} tests; farmdawn {ours:.3f} s for all their asks")
 
 
-def hostile_(bench):
-    command = ["sh", "-c", 'ulimit -s 1024; exec "$@"', "sh", program("farmdawn"), "simulate", "refs/heads/main", "refs/heads/main", ""]
-    for make, size in hostile.KINDS.items():
-        costs = []
-        for times in (1, 2):
-            count = bench.write(make, size * times)
-            cost = measure(command, bench.stream, limit=120)
-            costs.append(cost)
-            print(f"{make.__name__} {size * times}: {count} bytes; farmdawn {cost.processor:.2f} s, {cost.peak} KiB, status {cost.status}")
-        print(f"{make.__name__}: {costs[1].processor / max(costs[0].processor, 0.01):.1f} times as long at twice the size")
+def hostile_costs(bench, label, make, size, words, given):
+    """The costs at a size and at twice the size; whether they grow as they may, and the program ended by itself."""
+    command = ["sh", "-c", 'ulimit -s 1024; cd "$1"; shift; exec "$@"', "sh", bench.work, *words]
+    costs, counts = [], []
+    for times in (1, 2):
+        with open(given, "wb", buffering=1 << 20) as out:
+            make(out, size * times)
+        counts.append(os.path.getsize(given))
+        costs.append(measure(command, bench.stream, limit=120))
+    first, second = costs
+    slower = second.processor / max(first.processor, 0.02)
+    right = slower <= 2.5 and first.status in range(18) and second.status in range(18)
+    print(f"{label} {size}: {counts[0]} and {counts[1]} bytes; {first.processor:.2f} and {second.processor:.2f} s, {slower:.1f} times; "
+          f"{first.peak} and {second.peak} KiB, {max(second.peak - first.peak, 0) * 1024 / (counts[1] - counts[0]):.1f} bytes a byte; "
+          f"status {first.status} and {second.status}{'' if right else '; NOT AS IT MAY BE'}", flush=True)
+    return right
+
+
+def hostile_(bench, divisor=1):
+    farmdawn, log = program("farmdawn"), os.path.join(bench.work, "log")
+    question = [farmdawn, "simulate", "refs/heads/main", "refs/heads/main", ""]
+    wrong = [make.__name__ for make, size in hostile.KINDS.items()
+             if not hostile_costs(bench, make.__name__, make, size // divisor, question, bench.stream)]
+    bench.write(hostile.history)
+    wrong += [make.__name__ for make, size in hostile.LOGS.items()
+              if not hostile_costs(bench, f"log of {make.__name__}", make, size // divisor,
+                                [farmdawn, "replay", "--replay", log], log)]
+    print(f"{len(hostile.KINDS) + len(hostile.LOGS)} kinds, not as they may be: {' '.join(wrong) or 'none'}")
+    sys.exit(1 if wrong else 0)
 
 
 SUBJECTS = {"weights": weights, "stream": stream, "forest": forest, "import": import_, "run": run, "hostile": hostile_}
@@ -195,6 +219,8 @@ def main():
     subject, *words = sys.argv[1:] or ["--help"]
     if subject == "real":
         real.main(words, program("farmdawn"))
+    elif subject == "wall":
+        wall.main(words, program("farmdawn"))
     elif subject in SUBJECTS:
         with tempfile.TemporaryDirectory() as work:
             SUBJECTS[subject](Bench(work), *map(int, words))

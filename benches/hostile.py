@@ -1,5 +1,6 @@
 """Streams that were made to cost much. Each kind writes one of a size; what is linear costs twice as much at twice the
 size, and nothing ends the program but its own refusals."""
+import hashlib
 
 
 def commit(out, place, changes=(), parents=()):
@@ -80,6 +81,107 @@ def swaps(out, size):
     commit(out, 0, [change(b"one" if number % 2 else b"one/file", number) for number in range(size)])
 
 
+def again_deep(out, size):
+    """So many commits that each change a file below 200 folders."""
+    for place in range(size):
+        commit(out, place, [change(b"d/" * 200 + b"f%d" % (place % 10), place)], [place - 1] if place else [])
+
+
+def alike(out, size):
+    """So many files, each in a folder of its own, whose tree's name begins with the byte 0."""
+    changes, number = [], 0
+    while len(changes) < size:
+        number += 1
+        tree = b"tree 29\x00160000 f\x00" + number.to_bytes(20, "big")
+        if hashlib.sha1(tree).digest()[0] == 0:
+            changes.append(b"M 160000 %040x d%d/f\n" % (number, len(changes)))
+    commit(out, 0, changes)
+
+
+def parents(out, size):
+    """One commit that names its parent so many times."""
+    commit(out, 0)
+    commit(out, 1, (), [0] * size)
+
+
+def merged(out, size):
+    """So many commits that merge one and the same."""
+    commit(out, 0)
+    for place in range(1, size):
+        commit(out, place, (), [place - 1] + [0] * (place > 1))
+
+
+def tags(out, size):
+    """So many tags of one commit."""
+    commit(out, 0)
+    for number in range(size):
+        out.write(b"tag t%d\nfrom :1\ntagger <> 0 +0000\ndata 0\n" % number)
+
+
+def fronts(out, size):
+    """So many refs, by the hundred each a front of the next."""
+    commit(out, 0)
+    for number in range(size):
+        out.write(b"reset refs/heads/%d/%b\nfrom :1\n\n" % (number // 100, b"x" * (number % 100 + 1)))
+
+
+def aligned(out, size):
+    """So many marks, all multiples of one power of two."""
+    for number in range(size):
+        out.write(b"blob\nmark :%d\ndata 0\n\n" % ((number + 1) << 40))
+    commit(out, 0)
+
+
+def moved(out, size):
+    """One mark, set so many times."""
+    for _ in range(size):
+        out.write(b"blob\nmark :7\ndata 0\n\n")
+    commit(out, 0)
+
+
+def comments(out, size):
+    """So many comments and empty lines."""
+    out.write(b"# a comment\n\n" * size)
+    commit(out, 0)
+
+
 # each kind with the smaller of its two sizes
-KINDS = {deep: 16000, paths: 2000, wide: 50000, again: 2000, refs: 50000, marks: 50000, merges: 20000, names: 2000,
-         quoted: 50000, edits: 50000, swaps: 50000}
+KINDS = {deep: 10000, again_deep: 500, paths: 2000, wide: 100000, again: 2000, refs: 50000, fronts: 50000, marks: 50000, aligned: 50000,
+         moved: 50000, merges: 20000, merged: 10000, parents: 10000, names: 2000, alike: 2000, quoted: 50000, edits: 50000, swaps: 50000,
+         tags: 1000000, comments: 500000}
+
+
+# Logs over a history of ten commits in a line, named main.
+
+
+def history(out):
+    for place in range(10):
+        commit(out, place, (), [place - 1] if place else [])
+
+
+def goods(out, size):
+    """A start line of so many names."""
+    out.write(b"git bisect start main" + b" main~5" * size + b"\n")
+
+
+def skips(out, size):
+    """So many marks of one commit."""
+    out.write(b"git bisect start main main~9\n" + b"git bisect skip main~4\n" * size)
+
+
+def starts(out, size):
+    """So many start lines."""
+    out.write(b"git bisect start main main~9\n" * size)
+
+
+def quotes(out, size):
+    """A name in so many pieces, each in quotes."""
+    out.write(b"git bisect start " + b"''" * size + b"main main~9\n")
+
+
+def strokes(out, size):
+    """A name with so many steps of no length."""
+    out.write(b"git bisect start main" + b"~0" * size + b" main~9\n")
+
+
+LOGS = {goods: 100000, skips: 50000, starts: 50000, quotes: 1000000, strokes: 500000}

@@ -36,7 +36,7 @@ _farmdawn() {
 
 _git_farmdawn() {
     case $cur in
-    -*) __gitcomp '--workers --first-parent --term-new --term-old --skip --check-ends --timeout --copy --submodules --log-dir --fresh' ;;
+    -*) __gitcomp '--help --workers --first-parent --term-new --term-old --skip --check-ends --timeout --copy --submodules --log-dir --fresh' ;;
     *) __git_complete_refs ;;
     esac
 }

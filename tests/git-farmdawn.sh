@@ -4,7 +4,7 @@
 FARMDAWN=$farmdawn
 export FARMDAWN
 
-needs_all() { command -v git >/dev/null && command -v flock >/dev/null && has_run; }
+needs_all() { has git flock setsid && has_run; }
 
 # The first bad commit by git bisect run, over the same words.
 git_answer() {
@@ -82,18 +82,35 @@ test_encodings() {
     agree main main~10
 }
 
-needs_signed() { needs_all && command -v ssh-keygen >/dev/null; }
-test_signed() {
-    make_line 3 9
-    ssh-keygen -q -t ed25519 -N '' -f ../key || exit 1
-    git config gpg.format ssh && git config user.signingkey "$PWD/../key" && git config commit.gpgsign true
-    git config log.showSignature true
+# Six signed commits behind three others, of which the fourth is the first bad one.
+sign_and_search() {
+    git config commit.gpgsign true && git config log.showSignature true || exit 1
     for number in 3 4 5 6 7 8; do
         echo $number >content
         [ $number -lt 6 ] || echo bug >bug
         git add -A && git commit -q -m "signed $number" || exit 1
     done
+    expect 'the commits are signed' sh -c "git cat-file commit HEAD | grep -q '^gpgsig '"
     agree main main~8
+}
+
+needs_signed() { needs_all && has ssh-keygen; }
+test_signed() {
+    make_line 3 9
+    ssh-keygen -q -t ed25519 -N '' -f ../key || exit 1
+    git config gpg.format ssh && git config user.signingkey "$PWD/../key" || exit 1
+    sign_and_search
+}
+
+needs_signed_by_gpg() { needs_all && has gpg gpgconf; }
+test_signed_by_gpg() {
+    make_line 3 9
+    GNUPGHOME=$(mktemp -d)
+    export GNUPGHOME
+    trap 'gpgconf --kill all; rm -rf "$GNUPGHOME"' EXIT
+    gpg --batch --quiet --passphrase '' --quick-generate-key bo@example.org ed25519 sign never || exit 1
+    git config user.signingkey bo@example.org || exit 1
+    sign_and_search
 }
 
 needs_sha256() { needs_all && git init -q --object-format=sha256 "$work/sha256" 2>/dev/null; }
@@ -146,9 +163,52 @@ test_folders_and_scripts() {
     done
     printf '#!/bin/sh\ntest -e deep/file && test ! -e bug\n' >check.sh && chmod +x check.sh
     expect 'a script that is not tracked' [ "$(git farmdawn main main~4 -- ./check.sh | tail -n 1)" = "$(git rev-parse main~1) is the first bad commit" ]
+    printf '#!/bin/sh\ntest "$(cat deep/file)" != 4\n' >check.sh
+    expect 'another text of it is another test' [ "$(git farmdawn main main~4 -- ./check.sh | tail -n 1)" = "$(git rev-parse main) is the first bad commit" ]
+    cp check.sh ../outside.sh
+    expect 'a script outside' [ "$(git farmdawn main main~4 -- sh ../outside.sh | tail -n 1)" = "$(git rev-parse main) is the first bad commit" ]
+    echo 'exit 255' >../outside.sh
+    expect 'and another text of that' sh -c '! git farmdawn main main~4 -- sh ../outside.sh'
     cd deep || exit 1
     expect 'from a folder inside' [ "$(git farmdawn main main~4 -- sh -c 'test -e file && test ! -e ../bug' | tail -n 1)" = "$(git rev-parse main~1) is the first bad commit" ]
     cd .. && nothing_left
+}
+
+# In a folder with an odd name, in a linked worktree, from outside, and beside another search in the same repository.
+needs_places() { needs_all; }
+test_places() {
+    mkdir "a 'b\" \$c" && cd "a 'b\" \$c" || exit 1
+    make_line 12 7
+    answer="$(git rev-parse main~4) is the first bad commit"
+    ask() { "$@" main main~11 -- sh -c "$command" 2>/dev/null | tail -n 1; }
+    expect 'an odd name' [ "$(ask git farmdawn)" = "$answer" ]
+    git worktree add -q ../linked main~11 && cd ../linked || exit 1
+    expect 'a linked worktree' [ "$(ask git farmdawn --fresh)" = "$answer" ]
+    cd / || exit 1
+    expect 'from outside' [ "$(ask git -C "$OLDPWD" farmdawn --fresh)" = "$answer" ]
+    cd "$OLDPWD" && git -C . worktree list >before || exit 1
+    for number in 1 2 3; do
+        ask git farmdawn --fresh --workers 3 --log-dir "../logs$number" >"../answer$number" &
+    done
+    wait
+    for number in 1 2 3; do expect 'three at once' [ "$(cat ../answer$number)" = "$answer" ]; done
+    git worktree list >after
+    expect 'the worktrees are as before' cmp before after
+}
+
+needs_words() { needs_all && has make; }
+test_words() {
+    make_line 2 9
+    for number in 2 3 4 5; do
+        printf 'test:\n\ttest %s -lt 4\n' $number >Makefile
+        git add -A && git commit -q -m "make $number" || exit 1
+    done
+    expect 'the command gets its own words alone' [ "$(git farmdawn main main~3 -- make test | tail -n 1)" = "$(git rev-parse main~1) is the first bad commit" ]
+    # shellcheck disable=SC2016
+    expect 'and the name in the environment' git farmdawn --workers 1 main main~3 -- sh -c '
+        test "$#|$1|$2" = "2|a b|" && test "$(git rev-parse HEAD)" = "$FARMDAWN_COMMIT" || exit 255
+        make -s test' sh 'a b' ''
+    nothing_left
 }
 
 needs_going_on() { needs_all; }
@@ -162,6 +222,41 @@ test_going_on() {
     git farmdawn --workers 2 main main~19 -- sh -c 'echo x >>../../../../tested; sleep 0.3; test ! -e bug' >log
     expect 'the answer' [ "$(tail -n 1 log)" = "$(git rev-parse main~10) is the first bad commit" ]
     expect 'nothing is tested again' sh -c "! git farmdawn main main~19 -- sh -c 'echo x >>../../../../tested; sleep 0.3; test ! -e bug' 2>&1 | grep testing"
+    nothing_left
+}
+
+# What a test printed is kept by commit, and one that takes too long is a skip.
+needs_logs_and_limits() { needs_all && has timeout; }
+test_logs_and_limits() {
+    make_line 6 4
+    hangs=$(git rev-parse main~3)
+    # shellcheck disable=SC2016
+    expect 'a search' git farmdawn --timeout 2 --log-dir ../logs main main~5 -- sh -c '
+        echo "this is $FARMDAWN_COMMIT"; cat content >&2
+        [ "$FARMDAWN_COMMIT" != "$0" ] || sleep 77.25
+        test ! -e bug' "$hangs" >log
+    expect 'the answer' [ "$(tail -n 1 log)" = "$(git rev-parse main~1) is the first bad commit" ]
+    expect 'the one that hangs is skipped' grep -q "^git bisect skip $hangs$" log
+    expect 'and does not run on' [ -z "$(pgrep -f 'sleep 77.25')" ]
+    for tested in $(sed -n 's/^git bisect [a-z]* \([0-9a-f]\{40\}\)$/\1/p' log); do
+        expect 'what was printed is kept' grep -qx "this is $tested" "../logs/$tested.log"
+    done
+    nothing_left
+}
+
+# Words that are wrong are told before anything is run, and leave nothing.
+needs_wrong_words() { needs_all; }
+test_wrong_words() {
+    make_line 3 1
+    for words in '--workers 0' '--workers 65' '--workers x' '--workers 01' '--timeout 0' '--timeout -1' '--nothing' '--skip nowhere' '--copy nowhere' '--term-new nowhere --term-old nowhere'; do
+        # shellcheck disable=SC2086
+        expect "a fault: $words" sh -c '! git farmdawn "$@" main main~2 -- touch ../tested >out 2>err' sh $words
+        expect 'nothing on standard output' [ ! -s out ]
+        expect 'a line on standard error' [ "$(grep -vc 'commits to search' err)" -eq 1 ]
+    done
+    expect 'no such commit' sh -c '! git farmdawn main nowhere -- touch ../tested'
+    expect 'no command' sh -c '! git farmdawn main main~2 --'
+    expect 'no test was run' [ -z "$(find .. -name tested)" ]
     nothing_left
 }
 
@@ -187,6 +282,6 @@ test_interrupts() {
     expect 'no process is left' [ -z "$(pgrep -f 'sleep 44.5')" ]
 }
 
-[ $# -gt 0 ] || set -- line merges unrelated_good terms encodings signed sha256 shallow part_of_many submodules \
-    folders_and_scripts going_on check_ends interrupts
+[ $# -gt 0 ] || set -- line merges unrelated_good terms encodings signed signed_by_gpg sha256 shallow part_of_many submodules \
+    places words folders_and_scripts logs_and_limits wrong_words going_on check_ends interrupts
 run_tests "$@"

@@ -1,10 +1,12 @@
 # What the tests of the scripts share. Each test is a function named test_..; it runs in a folder of its own, and what
-# it prints is shown where it fails. A tool that is not installed passes a test over by name.
+# it prints is shown where it fails. A function needs_.. with the same name says whether the test can run here; what is
+# missing passes the test over, and is told by its name.
 set -u
 top=$(cd "$(dirname "$0")/.." && pwd)
 PATH=$top/tools:$PATH
 farmdawn=${FARMDAWN:-$top/crates/farmdawn/out/farmdawn}
 export PATH
+unset MAKEFLAGS MAKELEVEL MFLAGS # a make within a test is not one of make check
 export GIT_AUTHOR_NAME='Ann Lee' GIT_AUTHOR_EMAIL=ann@example.org GIT_COMMITTER_NAME=Bo GIT_COMMITTER_EMAIL=bo@example.org
 export GIT_CONFIG_GLOBAL=/dev/null GIT_CONFIG_SYSTEM=/dev/null GIT_CONFIG_NOSYSTEM=1 LC_ALL=C
 
@@ -21,20 +23,40 @@ expect() {
     exit 1
 }
 
+# Whether these commands are installed; the first that is not is told.
+has() {
+    for tool; do
+        command -v "$tool" >/dev/null || { missing=$tool && return 1; }
+    done
+}
+
+# The program was built.
+has_program() {
+    missing='a built farmdawn'
+    [ -x "$farmdawn" ]
+}
+
 # The built program tests commits by commands.
 has_run() {
-    [ -x "$farmdawn" ] || return 1
+    has_program || return 1
+    missing='a farmdawn that runs tests'
     [ "$("$farmdawn" run a b -- true </dev/null 2>/dev/null)" != 'not built yet' ]
 }
 
-# Runs the tests that are named, each in a new folder, with a limit of time.
+# A Slurm is at hand.
+has_slurm() {
+    has srun sinfo || return 1
+    missing='a Slurm that answers'
+    [ -n "${SLURM_CONF-}" ] && [ -n "$(sinfo -h -t idle,mixed,allocated -o %N 2>/dev/null)" ]
+}
+
+# Runs the tests that are named, each in a new folder, and counts; the counts are added to the file FARMDAWN_COUNTS, too.
 run_tests() {
     for test; do
         mkdir "$work/$test"
-        missing=''
-        needs_"$test" 2>/dev/null || missing=1
-        if [ -n "$missing" ]; then
-            echo "skipped: $test"
+        missing='what it needs'
+        if ! needs_"$test" 2>/dev/null; then
+            echo "skipped: $test ($missing is not here)"
             skipped=$((skipped + 1))
         elif (cd "$work/$test" && "test_$test") >"$work/$test.out" 2>&1; then
             echo "ok: $test"
@@ -48,6 +70,7 @@ run_tests() {
         rm -rf "${work:?}/$test"
     done
     echo "$(basename "$0"): $passed passed, $failed failed, $skipped skipped"
+    [ -z "${FARMDAWN_COUNTS-}" ] || echo "$passed $failed $skipped" >>"$FARMDAWN_COUNTS"
     [ "$failed" -eq 0 ]
 }
 

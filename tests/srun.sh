@@ -3,8 +3,6 @@
 # number of one slurmd, a node is lost while tests run.
 . "$(dirname "$0")/helpers.sh"
 
-has_slurm() { command -v srun >/dev/null && [ -n "${SLURM_CONF-}" ] && [ -n "$(sinfo -h -t idle,mixed,allocated -o %N 2>/dev/null)" ]; }
-
 status_of() {
     farmdawn-srun --tries 1 "$@" >>output 2>&1
     echo $?
@@ -63,7 +61,11 @@ test_many() {
     expect 'each verdict is right' [ ! -e wrong ]
 }
 
-needs_a_lost_node() { has_slurm && [ -s "${SLURM_NODE_PID-/dev/null}" ]; }
+needs_a_lost_node() {
+    has_slurm || return 1
+    missing='SLURM_NODE_PID'
+    [ -s "${SLURM_NODE_PID-/dev/null}" ]
+}
 test_a_lost_node() {
     many_tests
     sleep 1

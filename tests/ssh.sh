@@ -2,7 +2,11 @@
 # Tests of farmdawn-ssh, with a server of their own on the loopback address.
 . "$(dirname "$0")/helpers.sh"
 
-has_ssh() { command -v ssh >/dev/null && command -v ssh-keygen >/dev/null && [ -x "$(command -v sshd || echo /usr/sbin/sshd)" ]; }
+has_ssh() {
+    has ssh ssh-keygen flock || return 1
+    missing=sshd
+    [ -x "$(command -v sshd || echo /usr/sbin/sshd)" ]
+}
 
 port=$((20000 + $$ % 20000))
 

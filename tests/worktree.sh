@@ -2,7 +2,7 @@
 # Tests of farmdawn-worktree.
 . "$(dirname "$0")/helpers.sh"
 
-has_git() { command -v git >/dev/null && command -v flock >/dev/null; }
+has_git() { has git flock setsid; }
 
 # The status of a test of a commit, by a command of words.
 status_of() {
@@ -45,7 +45,7 @@ test_modes() {
     expect 'the pool is gone' [ "$(git worktree list | wc -l)" -eq 1 ]
 }
 
-needs_limits() { has_git && command -v timeout >/dev/null; }
+needs_limits() { has_git && has timeout; }
 test_limits() {
     make_line 1 9
     commit=$(git rev-parse HEAD)

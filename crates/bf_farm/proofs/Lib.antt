@@ -5,10 +5,11 @@ pub mod History
 pub mod Listed
 pub mod Marking
 pub mod Planned
-pub mod Reporting
 pub mod Promised
+pub mod Reporting
 pub mod Rests
 pub mod Seen
 pub mod Soundness
-pub mod Telling
 pub mod Teams
+pub mod Telling
+pub mod Untold

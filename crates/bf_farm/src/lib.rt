@@ -12,6 +12,8 @@ mod plans;
 mod replay;
 mod report;
 mod share;
+#[cfg(test)]
+mod tests;
 mod worker;
 
 pub use alone::run_alone;

@@ -70,9 +70,6 @@ is_tree-beneath n (file ∷ files) p h =
 pub path_cons : (a : List ℕ) (ar : List (List ℕ)) → is_component a ≡ true → list_all is_component ar ≡ true → is_path (a ∷ ar) ≡ true
 path_cons a ar h k = and_from _ _ (lt-ltb 0 (length (a ∷ ar)) (omega arith)) (and_from (is_component a) (list_all is_component ar) h k)
 
-pub path_under : (n : List ℕ) (p : List (List ℕ)) → is_component n ≡ true → is_path p ≡ true → is_path (n ∷ p) ≡ true
-path_under n p h k = path_cons n p h (and_parts _ (list_all is_component p) k).1
-
 path_beneath : (n : List ℕ) (p : List (List ℕ)) → is_component n ≡ true → is_path p ≡ true → (is_same (key_for (n ∷ p)) (directory_key n) && is_path (n ∷ p)) ≡ true
 path_beneath n [] c h = absurd (false≢true h)
 path_beneath n (a ∷ ar) c h =

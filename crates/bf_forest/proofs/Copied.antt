@@ -1,70 +1,26 @@
 -- Loops over entries.
-use Rattle.std.proofs.Common.{◌≡◌, ℕ, zero, suc, ◌+◌, ◌<◌, ◌≤◌, Bool, true, List, [], ◌∷◌, ◌++◌, length, take, get_or, refl, sym, ap, ◌∙◌, arith}
-use Rattle.std.specs.Ordering.{nat_cmp, is_lt, match_ordering, ordering_reverse}
+use Rattle.std.proofs.Common.{◌≡◌, ℕ, zero, suc, ◌<◌, Bool, true, List, [], ◌∷◌, length, get_or, refl, ap, ◌∙◌, arith}
+use Rattle.std.specs.Ordering.{nat_cmp, is_lt, ordering_reverse}
 use Rattle.std.specs.declared.cmp.Ordering.TheVariants.{Greater}
 use Rattle.std.specs.Cmp.Lexicographic.{slice_cmp, nat_list_cmp_total}
 use Rattle.std.specs.List.{list_all}
-use Rattle.std.proofs.lemmas.Bool.{and_parts, and_from, ltb-true, lt-ltb}
-use Rattle.std.proofs.lemmas.List.{take_more, map-append}
+use Rattle.std.proofs.lemmas.Bool.{and_parts, and_from, lt-ltb}
 use Rattle.bf_paths.specs.Components.{is_component}
 use Rattle.bf_forest.specs.declared.nodes.Entry.{Entry}
 use Rattle.bf_forest.specs.declared.nodes.EntryKind.{EntryKind}
 use Rattle.bf_forest.specs.declared.nodes.EntryKind.TheVariants as kind
-use Rattle.bf_forest.specs.declared.slots.Slot.{Slot}
 use Rattle.bf_forest.specs.Files.{Files, edited}
 use Rattle.bf_forest.specs.Listing.{name_in, Listing, is_listing, stands_before}
-use Rattle.bf_forest.specs.Nodes.{kind_files, listed, is_earlier, is_good, kind_reach, reach}
-use Rattle.bf_forest.specs.Slots.{put, slot_of, slots_of, are_in_order, contents, slot_files, is_slot}
+use Rattle.bf_forest.specs.Nodes.{kind_files, listed, is_earlier, is_good}
+use Rattle.bf_forest.specs.Slots.{slot_of, slots_of, are_in_order, contents, slot_files, is_slot}
 use Rattle.bf_forest.proofs.Listed.{listing-first, listing-rest}
 use Rattle.bf_forest.proofs.Ordered.{less}
 
 -- what holds of each holds of the one at a place
-pub all_at : {X : Type 0} (p : X → Bool) (xs : List X) (i : ℕ) (x : X) → list_all p xs ≡ true → i < length xs → x ≡ get_or xs i x → p x ≡ true
-all_at p [] i x h l e = absurd (omega arith)
-all_at p (y ∷ xs) zero x h l e = ap p e ∙ (and_parts _ _ h).0
-all_at p (y ∷ xs) (suc i) x h l e = all_at p xs i x (and_parts (p y) _ h).1 (omega arith) e
-
-pub reach_at : (entries : List Entry) (i : ℕ) (entry : Entry) → i < length entries → entry ≡ get_or entries i entry → kind_reach entry.kind ≤ reach entries
-reach_at [] i entry l e = absurd (omega arith)
-reach_at (first ∷ entries) zero entry l e = let same = ap (λ (v : Entry). kind_reach v.kind) e in omega (arith, same)
-reach_at (first ∷ entries) (suc i) entry l e = let more = reach_at entries i entry (omega arith) e in omega (arith, more)
-
-pub reach_within : (count : ℕ) (entries : List Entry) → list_all (is_good count) entries ≡ true → reach entries ≤ count
-reach_within count [] h = omega arith
-reach_within count (entry ∷ entries) h =
-    let more = reach_within count entries (and_parts (is_good count entry) _ h).1 in
-    let here : kind_reach entry.kind ≤ count = go entry.kind (and_parts (is_component (name_in entry.key)) _ (and_parts _ _ h).0).1 in
-    omega (arith, more, here)
-  where
-    go : (kind : EntryKind) → is_earlier count (record entry { kind = kind }) ≡ true → kind_reach kind ≤ count
-    go (kind.File mode oid) k = omega arith
-    go (kind.Directory number) k = let l = ltb-true number count k in omega (arith, l)
-
 -- ---- entries that are copied in order
 
 lt_of : (a b : List ℕ) → is_lt (slice_cmp nat_cmp a b) ≡ true → slice_cmp nat_cmp b a ≡ Greater
 lt_of a b h = nat_list_cmp_total.antisymm b a ∙ ap ordering_reverse (less _ h)
-
-put_last : {X : Type 0} (es : List (List ℕ × X)) (key : List ℕ) (x : X) → list_all (λ e. is_lt (slice_cmp nat_cmp e.0 key)) es ≡ true → put es key x ≡ es ++ (key, x) ∷ []
-put_last [] key x h = refl
-put_last (e ∷ es) key x h =
-    ap (λ o. match_ordering o ((key, x) ∷ e ∷ es) ((e.0, x) ∷ es) (e ∷ put es key x)) (lt_of e.0 key (and_parts _ _ h).0)
-    ∙ ap (λ v. e ∷ v) (put_last es key x (and_parts (is_lt (slice_cmp nat_cmp e.0 key)) _ h).1)
-
-before_place : (entries : List Entry) (i : ℕ) (x : Entry) → are_in_order entries ≡ true → i < length entries → x ≡ get_or entries i x
-    → list_all (λ slot. is_lt (slice_cmp nat_cmp slot.0 x.key)) (slots_of (take i entries)) ≡ true
-before_place [] i x h l e = absurd (omega arith)
-before_place (first ∷ entries) zero x h l e = refl
-before_place (first ∷ entries) (suc i) x h l e =
-    let parts = and_parts (list_all (λ other. is_lt (slice_cmp nat_cmp first.key other.key)) entries) (are_in_order entries) h in
-    and_from _ _ (all_at (λ other. is_lt (slice_cmp nat_cmp first.key other.key)) entries i x parts.0 (omega arith) e) (before_place entries i x parts.1 (omega arith) e)
-
--- the slots so far, with the next
-pub slots_next : (entries : List Entry) (i : ℕ) (x : Entry) → are_in_order entries ≡ true → i < length entries → x ≡ get_or entries i x
-    → put (slots_of (take i entries)) x.key (slot_of x.kind) ≡ slots_of (take (i + 1) entries)
-slots_next entries i x h l e =
-    put_last (slots_of (take i entries)) x.key (slot_of x.kind) (before_place entries i x h l e)
-    ∙ sym (ap slots_of (take_more entries i x l ∙ ap (λ v. take i entries ++ v ∷ []) (sym e)) ∙ map-append {A = Entry} {B = List ℕ × Slot} (λ entry. (entry.key, slot_of entry.kind)) (take i entries) (x ∷ []))
 
 keys_ascend : (trees : List Files) (key : List ℕ) (entries : List Entry) → list_all (λ o. stands_before key o.0) (listed trees entries) ≡ true
     → list_all (λ other. is_lt (slice_cmp nat_cmp key other.key)) entries ≡ true

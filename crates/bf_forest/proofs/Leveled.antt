@@ -1,7 +1,7 @@
 -- A walk through the files of a tree, by the directories that are open.
 use Rattle.std.proofs.Common.{◌≡◌, ℕ, suc, ◌+◌, ◌-◌, ◌*◌, ◌<◌, ◌≤◌, true, List, [], ◌∷◌, ◌++◌, length, take, refl, sym, ap, ◌∙◌, subst, length-append, arith}
 use Rattle.std.specs.List.{list_all}
-use Rattle.std.proofs.lemmas.Bool.{false≢true, and_parts}
+use Rattle.std.proofs.lemmas.Bool.{false≢true, and_parts, ltb-true}
 use Rattle.std.proofs.lemmas.List.{append_assoc}
 use Rattle.std.proofs.lemmas.List.Folds.{list_all-append}
 use Rattle.bf_grammar.specs.declared.object.Mode.{Mode}
@@ -106,7 +106,7 @@ some_length : (files : Files) → has_some files ≡ true → 1 ≤ length files
 some_length [] h = absurd (false≢true h)
 some_length (file ∷ files) h = omega arith
 
-some_beneath : (name : List ℕ) (files : Files) → has_some (beneath name files) ≡ true → has_some files ≡ true
+pub some_beneath : (name : List ℕ) (files : Files) → has_some (beneath name files) ≡ true → has_some files ≡ true
 some_beneath name [] h = h
 some_beneath name (file ∷ files) h = refl
 
@@ -177,3 +177,15 @@ falls_push trees rest others inner entry number first is level files =
     let P : List Entry → Type 0 = λ v. list_all is_filled (listed trees v) ≡ true in
     let Q : List Entry → Type 0 = λ v. length_of (files_in trees inner) + length_of (files_in trees others) + 2 ≤ length_of (files_in trees v) in
     subst Q (sym same) (length_push trees entry.key number others inner (subst P same level.1) files)
+
+pub falls_file : (trees : List Files) (rest others : List Entry) (entry : Entry) (mode : Mode) (oid : Oid) → rest ≡ entry ∷ others → entry.kind ≡ File mode oid
+    → length_of (files_in trees others) + 2 ≤ length_of (files_in trees rest)
+falls_file trees rest others entry mode oid first is =
+    let same = ap (λ v. length_of (files_in trees v)) (first ∙ ap (λ (v : Entry). v ∷ others) (entry_as entry (File mode oid) is)) in
+    omega (arith, same, length_file trees entry.key mode oid others)
+
+pub directory_earlier : (count : ℕ) (entry : Entry) (number : ℕ) → is_good count entry ≡ true → entry.kind ≡ Directory number → number < count
+directory_earlier count entry number good is =
+    let P : Entry → Type 0 = λ v. is_good count v ≡ true in
+    let whole = subst P (entry_as entry (Directory number) is) good in
+    ltb-true number count (and_parts (is_component (name_in entry.key)) _ whole).1

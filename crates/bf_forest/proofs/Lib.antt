@@ -14,8 +14,13 @@ pub mod Making
 pub mod Members
 pub mod Named
 pub mod Ordered
+pub mod Overlaid
+pub mod Placed
 pub mod Pooled
+pub mod Resting
 pub mod Sameness
 pub mod Settling
 pub mod Slotted
+pub mod Storing
+pub mod Tabled
 pub mod Walking

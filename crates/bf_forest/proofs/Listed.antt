@@ -57,10 +57,6 @@ pub listing-cons : (e : List ℕ × Files) (es : Listing) → is_entry e.0 e.1 �
 unfolding is_listing
 listing-cons e es h k l = and_from _ _ h (and_from _ _ k l)
 
-pub listing-nil : is_listing [] ≡ true
-unfolding is_listing
-listing-nil = refl
-
 -- ---- look-ups
 
 not_before_itself : (key : List ℕ) → stands_before key key ≡ true → ⊥

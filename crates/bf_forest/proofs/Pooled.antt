@@ -12,10 +12,9 @@ use Rattle.bf_paths.specs.Components.{is_component, is_path}
 use Rattle.bf_forest.specs.declared.nodes.Entry.{Entry}
 use Rattle.bf_forest.specs.declared.nodes.EntryKind.{EntryKind}
 use Rattle.bf_forest.specs.declared.nodes.EntryKind.TheVariants.{File, Directory}
-use Rattle.bf_forest.specs.declared.pool.Node.{Node}
 use Rattle.bf_forest.specs.Files.{Files, is_tree}
 use Rattle.bf_forest.specs.Listing.{name_in, Listing, is_listing, shown, beneath}
-use Rattle.bf_forest.specs.Nodes.{kind_files, listed, files_in, has_some, is_filled, is_node, is_earlier, is_good, kind_bytes, body_of, trees_from, AreNodes, IsSound, IsPosition}
+use Rattle.bf_forest.specs.Nodes.{Node, kind_files, listed, files_in, has_some, is_filled, is_node, is_earlier, is_good, kind_bytes, body_of, trees_from, AreNodes, IsSound, IsPosition}
 use Rattle.bf_forest.specs.Trees.{names, below, file_below, file_bytes, entry_with, where_some, or_none, tree_name, directories, are_same, with_tree, files_at}
 use Rattle.bf_forest.proofs.Indexed.{files_at-front}
 use Rattle.bf_forest.proofs.Joining.{at_push, kept_refl, kept_trans, take_front, with_tree-there}

@@ -1,15 +1,11 @@
 -- Files that are the same by their parts are equal.
 use Rattle.std.proofs.Common.{◌≡◌, ℕ, true, List, [], ◌∷◌, refl, ap, ◌∙◌}
 use Rattle.std.specs.Cmp.Lexicographic.{pointwise}
-use Rattle.std.proofs.lemmas.Bool.{false≢true, and_parts, eqb-true}
+use Rattle.std.proofs.lemmas.Bool.{false≢true, and_parts}
 use Rattle.std.proofs.lemmas.Slice.Eq.{bytes_eq-Decides}
 use Rattle.bf_grammar.specs.declared.object.Mode.{Mode}
 use Rattle.bf_grammar.specs.declared.object.Mode.TheVariants.{Plain, Exec, Link, Module}
 use Rattle.bf_forest.specs.declared.entries.FileEntry.{FileEntry}
-use Rattle.bf_forest.specs.declared.nodes.Entry.{Entry}
-use Rattle.bf_forest.specs.declared.nodes.EntryKind.{EntryKind}
-use Rattle.bf_forest.specs.declared.nodes.EntryKind.TheVariants as kind
-use Rattle.bf_forest.specs.Nodes.{is_same_kind, is_same_entry, are_same_entries}
 use Rattle.bf_forest.specs.Files.{Files, is_same}
 use Rattle.bf_forest.specs.Trees.{mode_text, is_same_file, are_same}
 
@@ -57,32 +53,4 @@ same_files (x ∷ xs) [] h = absurd (false≢true h)
 same_files (x ∷ xs) (y ∷ ys) h =
     let first = same_file x y (and_parts _ _ h).0 in
     let rest = same_files xs ys (and_parts _ _ h).1 in
-    ap (λ f. f ∷ xs) first ∙ ap (λ fs. y ∷ fs) rest
-
--- ---- two lists, file by file
-
--- ---- entries
-
-same_kind : (a b : EntryKind) → is_same_kind a b ≡ true → a ≡ b
-same_kind (kind.File mode oid) (kind.File other_mode other_oid) h =
-    let modes = same_mode mode other_mode (and_parts _ _ h).0 in
-    let oids = same_name oid.0 other_oid.0 (and_parts (is_same (mode_text mode) (mode_text other_mode)) _ h).1 in
-    λ i. kind.File (modes i) (record { 0 = oids i })
-same_kind (kind.File mode oid) (kind.Directory other) h = absurd (false≢true h)
-same_kind (kind.Directory number) (kind.File mode oid) h = absurd (false≢true h)
-same_kind (kind.Directory number) (kind.Directory other) h = ap kind.Directory (eqb-true number other h)
-
-same_entry : (a b : Entry) → is_same_entry a b ≡ true → a ≡ b
-same_entry a b h =
-    let keys = same_name a.key b.key (and_parts _ _ h).0 in
-    let kinds = same_kind a.kind b.kind (and_parts (is_same a.key b.key) _ h).1 in
-    λ i. record { key = keys i; kind = kinds i }
-
-pub same_entries : (a b : List Entry) → are_same_entries a b ≡ true → a ≡ b
-same_entries [] [] h = refl
-same_entries [] (y ∷ ys) h = absurd (false≢true h)
-same_entries (x ∷ xs) [] h = absurd (false≢true h)
-same_entries (x ∷ xs) (y ∷ ys) h =
-    let first = same_entry x y (and_parts _ _ h).0 in
-    let rest = same_entries xs ys (and_parts (is_same_entry x y) _ h).1 in
     ap (λ f. f ∷ xs) first ∙ ap (λ fs. y ∷ fs) rest

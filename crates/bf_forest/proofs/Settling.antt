@@ -1,5 +1,5 @@
 -- Slots that become entries, and the trees of the directories in them.
-use Rattle.std.proofs.Common.{◌≡◌, ℕ, ◌<◌, ◌≤◌, Bool, true, false, ◌==◌, cond, List, [], ◌∷◌, ◌++◌, length, take, Option, Some, None, refl, sym, ap, ◌∙◌, subst, arith}
+use Rattle.std.proofs.Common.{◌≡◌, ℕ, ◌≤◌, Bool, true, false, ◌==◌, cond, List, [], ◌∷◌, ◌++◌, length, take, Option, Some, None, refl, sym, ap, ◌∙◌, arith}
 use Rattle.std.specs.List.{list_all, filter, flat_map, fold}
 use Rattle.std.proofs.lemmas.Bool.{false≢true, and_parts, and_from, ltb-true, lt-ltb, eqb-true}
 use Rattle.std.proofs.lemmas.List.{append_assoc, map-append, length-take, nil_from_length}
@@ -200,20 +200,6 @@ directory_added trees next old entries key base pending number h kept settled e 
     some_kept : (list : Listing) (k : List ℕ) (files : Files) → has_some files ≡ true → list ++ (k, beneath (name_in k) files) ∷ [] ≡ list ++ filter is_filled ((k, beneath (name_in k) files) ∷ [])
     some_kept list k [] s = absurd (false≢true s)
     some_kept list k (file ∷ files) s = refl
-
-pub directory_settled : (trees next : List Files) (old entries : List Entry) (key : List ℕ) (slot : Slot) (base : Option ℕ) (pending edits : List Edit) (o : Option ℕ) (number : ℕ)
-    → slot ≡ Directory base pending → edits ≡ pending → o ≡ Some number → list_all (is_earlier (length trees)) old ≡ true
-    → take (length trees) next ≡ trees → IsSettled next (edited (base_files trees base) edits) o
-    → entries ≡ old ++ record { key = key; kind = kind.Directory number } ∷ [] → IsAdded trees next old key slot entries
-directory_settled trees next old entries key slot base pending edits o number same list found h kept settled e =
-    let P : List Edit → Type 0 = λ v. IsSettled next (edited (base_files trees base) v) (Some number) in
-    let Q : Option ℕ → Type 0 = λ v. IsSettled next (edited (base_files trees base) edits) v in
-    let R : Slot → Type 0 = λ v. IsAdded trees next old key v entries in
-    subst R (sym same) (directory_added trees next old entries key base pending number h kept (subst P list (subst Q found settled)) e)
-
-pub some_edits : (edits : List Edit) (empty : Bool) → empty ≡ (length edits == 0) → empty ≡ false → 0 < length edits
-some_edits [] empty e f = absurd (false≢true (sym f ∙ e))
-some_edits (edit ∷ edits) empty e f = omega arith
 
 pub no_edits : (edits : List Edit) (empty : Bool) → empty ≡ (length edits == 0) → empty ≡ true → edits ≡ []
 no_edits edits empty e t = nil_from_length edits (eqb-true (length edits) 0 (sym e ∙ t))

@@ -4,5 +4,8 @@ pub mod Index
 pub mod Listing
 pub mod Nodes
 pub mod Opened
+pub mod Overlays
+pub mod Rests
 pub mod Slots
+pub mod Stored
 pub mod Trees

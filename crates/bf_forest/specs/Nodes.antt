@@ -1,15 +1,20 @@
 -- Trees as entries that name other trees by their numbers: a directory inside is a tree with a smaller number.
-use Rattle.std.specs.Prelude.{◌≡◌, ℕ, suc, max, Bool, true, false, ◌==◌, ◌&&◌, nat_lt, ◌<◌, List, [], ◌∷◌, ◌++◌, map, length, codes, Option, Some, None}
-use Rattle.std.specs.Cmp.Lexicographic.{pointwise}
-use Rattle.std.specs.List.{list_all, flat_map, list_any}
+use Rattle.std.specs.Prelude.{◌≡◌, ℕ, Bool, true, false, ◌&&◌, nat_lt, ◌<◌, List, [], ◌∷◌, ◌++◌, map, length, take, codes, Option, Some, None}
+use Rattle.std.specs.List.{list_all, flat_map, list_any, slice_index_or}
 use Rattle.bf_paths.specs.Components.{is_component, is_path}
 use Rattle.bf_forest.specs.declared.nodes.EntryKind.{EntryKind}
 use Rattle.bf_forest.specs.declared.nodes.EntryKind.TheVariants.{File, Directory}
 use Rattle.bf_forest.specs.declared.nodes.Entry.{Entry}
-use Rattle.bf_forest.specs.declared.pool.Node.{Node}
-use Rattle.bf_forest.specs.Files.{Files, is_same, is_tree}
+use Rattle.bf_forest.specs.declared.pool.Kept.{Kept}
+use Rattle.bf_grammar.specs.declared.object.Oid.{Oid}
+use Rattle.bf_forest.specs.Files.{Files, is_tree}
 use Rattle.bf_forest.specs.Listing.{name_in, Listing, is_listing, shown, beneath}
 use Rattle.bf_forest.specs.Trees.{tree_name, files_at, mode_text, entry_bytes, are_same}
+
+-- a tree: its entries and its name
+pub record Node : Type 0 where
+  pub entries : List Entry
+  pub name : Oid
 
 -- the files of an entry
 abbrev pub kind_files : List Files → List ℕ → EntryKind → Files
@@ -53,8 +58,11 @@ abbrev pub kind_bytes : List Files → List ℕ → EntryKind → List ℕ
 kind_bytes trees key (File mode oid) = entry_bytes (mode_text mode) (name_in key) oid.0
 kind_bytes trees key (Directory number) = entry_bytes (codes "40000") (name_in key) (tree_name (files_at trees number))
 
+abbrev pub entry_body : List Files → Entry → List ℕ
+entry_body trees entry = kind_bytes trees entry.key entry.kind
+
 abbrev pub body_of : List Files → List Entry → List ℕ
-body_of trees entries = flat_map (λ entry. kind_bytes trees entry.key entry.kind) entries
+body_of trees entries = flat_map (entry_body trees) entries
 
 -- the trees, one after another, each by those before it
 abbrev pub trees_from : List Files → List Node → List Files
@@ -65,19 +73,6 @@ trees_from trees (node ∷ nodes) = trees_from (trees ++ files_in trees node.ent
 abbrev pub AreNodes : List Files → List Node → Type 0
 AreNodes trees [] = Unit {0}
 AreNodes trees (node ∷ nodes) = (is_node trees node.entries ≡ true) × (node.name.0 ≡ tree_name (files_in trees node.entries)) × AreNodes (trees ++ files_in trees node.entries ∷ []) nodes
-
--- two entries are the same
-abbrev pub is_same_kind : EntryKind → EntryKind → Bool
-is_same_kind (File mode oid) (File other_mode other_oid) = is_same (mode_text mode) (mode_text other_mode) && is_same oid.0 other_oid.0
-is_same_kind (File mode oid) (Directory other) = false
-is_same_kind (Directory number) (File mode oid) = false
-is_same_kind (Directory number) (Directory other) = number == other
-
-abbrev pub is_same_entry : Entry → Entry → Bool
-is_same_entry a b = is_same a.key b.key && is_same_kind a.kind b.kind
-
-abbrev pub are_same_entries : List Entry → List Entry → Bool
-are_same_entries a b = pointwise is_same_entry a b
 
 -- each tree has its files in order, with paths
 abbrev pub IsSound : List Files → Type 0
@@ -95,13 +90,37 @@ abbrev pub IsSettled : List Files → Files → Option ℕ → Type 0
 IsSettled trees files None = files ≡ []
 IsSettled trees files (Some number) = (number < length trees) × (files_at trees number ≡ files) × (has_some files ≡ true)
 
--- ---- how far the numbers of entries reach
+-- ---- entries by their numbers
 
-abbrev pub kind_reach : EntryKind → ℕ
-kind_reach (File mode oid) = 0
-kind_reach (Directory number) = suc number
+abbrev pub no_entry : Entry
+no_entry = record { key = []; kind = Directory 0 }
 
--- one more than the largest number
-abbrev pub reach : List Entry → ℕ
-reach [] = 0
-reach (entry ∷ entries) = max (kind_reach entry.kind) (reach entries)
+abbrev pub entry_at : List Entry → ℕ → Entry
+entry_at table number = slice_index_or table number no_entry
+
+-- the entries that numbers stand for
+abbrev pub stood : List Entry → List ℕ → List Entry
+stood table numbers = map (entry_at table) numbers
+
+-- all numbers have an entry
+abbrev pub are_within : ℕ → List ℕ → Bool
+are_within count numbers = list_all (λ number. nat_lt number count) numbers
+
+abbrev pub node_of : List Entry → Kept → Node
+node_of table kept = record { entries = stood table kept.numbers; name = kept.name }
+
+abbrev pub nodes_of : List Entry → List Kept → List Node
+nodes_of table kept = map (node_of table) kept
+
+-- all numbers of trees have an entry
+abbrev pub are_kept_within : ℕ → List Kept → Bool
+are_kept_within count kept = list_all (λ tree. are_within count tree.numbers) kept
+
+-- the entries of all trees, and the trees
+pub record World : Type 0 where
+  pub table : List Entry
+  pub trees : List Files
+
+-- entries and trees that are there stay
+abbrev pub StaysIn : World → World → Type 0
+StaysIn before after = (take (length before.table) after.table ≡ before.table) × (take (length before.trees) after.trees ≡ before.trees)

@@ -9,7 +9,9 @@ use Rattle.bf_forest.specs.declared.slots.Slot.{Slot}
 use Rattle.bf_forest.specs.declared.slots.Slot.TheVariants.{File, Directory}
 use Rattle.bf_forest.specs.Files.{Files}
 use Rattle.bf_forest.specs.Listing.{is_listing, shown}
-use Rattle.bf_forest.specs.Nodes.{listed, files_in, is_filled, is_node, is_earlier, IsSound}
+use Rattle.bf_forest.specs.Nodes.{listed, files_in, is_filled, is_node, is_earlier, stood, are_within, World, IsSound}
+use Rattle.bf_forest.specs.Overlays.{is_below}
+use Rattle.bf_forest.specs.Rests.{IsOld, slots_in, slots_with}
 use Rattle.bf_forest.specs.Slots.{contents, slot_directories, edit_length, is_based, is_slot}
 use Rattle.bf_forest.specs.Trees.{with_tree, with_directories, files_at}
 
@@ -49,6 +51,26 @@ abbrev pub heft : List (List ℕ × Slot) → ℕ
 heft [] = 0
 heft (slot ∷ slots) = slot_heft slot.1 + heft slots
 
+-- ---- what is known of a directory that is being made
+
+-- numbers of old entries: each is there, they are in order, and no directory among them is empty
+abbrev pub IsBase : List Files → List Entry → List ℕ → Type 0
+IsBase trees table numbers = IsOld table numbers × (list_all is_filled (listed trees (stood table numbers)) ≡ true)
+
+abbrev pub IsFrame : World → Opened → Type 0
+IsFrame world top =
+    IsBase world.trees world.table top.rest.base
+    × (are_within (length world.table) top.numbers ≡ true)
+    × (list_all (λ slot. is_based (length world.trees) slot.1) (slots_in world.table top.rest) ≡ true)
+
+-- what is known where a change is to be taken
+abbrev pub IsTurn : World → Opened → List ℕ → Option Slot → Type 0
+IsTurn world top key change =
+    IsBase world.trees world.table top.rest.base
+    × (are_within (length world.table) top.numbers ≡ true)
+    × (is_below key top.rest.changes.entries ≡ true)
+    × (list_all (λ slot. is_based (length world.trees) slot.1) (slots_with world.table top.rest key change) ≡ true)
+
 -- ---- what calls answer
 
 -- entries with one more, for a directory with files
@@ -56,12 +78,31 @@ abbrev pub with_directory : List Entry → List ℕ → Option ℕ → List Entr
 with_directory entries key None = entries
 with_directory entries key (Some number) = entries ++ record { key = key; kind = kind.Directory number } ∷ []
 
--- all is taken up to a directory that is to be made first, if there is one
-abbrev pub IsAdvanced : List Files → List (List ℕ × Slot) → List Files → Opened → Option (Option ℕ × List Edit) → Type 0
-IsAdvanced trees slots now opened None = IsSettling trees slots now opened.entries []
-IsAdvanced trees slots now opened (Some (base, pending)) = IsSettling trees slots now opened.entries ((opened.inside, Directory base pending) ∷ opened.rest.entries)
+-- what a directory is made of lies in front of what is left
+abbrev pub slots_before : Option (Option ℕ × List Edit) → List ℕ → List (List ℕ × Slot) → List (List ℕ × Slot)
+slots_before None key slots = slots
+slots_before (Some (base, pending)) key slots = (key, Directory base pending) ∷ slots
 
--- what it is made of has such a weight, and there is some of it
+-- all is taken up to a directory that is to be made first, if there is one
+abbrev pub Advances : World → World → Opened → Opened → Option (Option ℕ × List Edit) → Type 0
+Advances before after old top inner =
+    (trees : List Files) (slots : List (List ℕ × Slot))
+    → IsSettling trees slots before.trees (stood before.table old.numbers) (slots_in before.table old.rest)
+    → IsSettling trees slots after.trees (stood after.table top.numbers) (slots_before inner top.inside (slots_in after.table top.rest))
+
+-- a change is taken
+abbrev pub Turns : World → World → Opened → List ℕ → Option Slot → Opened → Option (Option ℕ × List Edit) → Type 0
+Turns before after old key change top inner =
+    (trees : List Files) (slots : List (List ℕ × Slot))
+    → IsSettling trees slots before.trees (stood before.table old.numbers) (slots_with before.table old.rest key change)
+    → IsSettling trees slots after.trees (stood after.table top.numbers) (slots_before inner top.inside (slots_in after.table top.rest))
+
+-- nothing is left where there is no directory to be made
+abbrev pub IsSpent : List (List ℕ × Slot) → Option (Option ℕ × List Edit) → Type 0
+IsSpent slots None = slots ≡ []
+IsSpent slots (Some inner) = Unit {0}
+
+-- what a directory is made of has such a weight, and there is some of it
 abbrev pub inner_weight : Option (Option ℕ × List Edit) → ℕ
 inner_weight None = 0
 inner_weight (Some (base, pending)) = weight pending

@@ -1,34 +1,32 @@
 //! A directory in a walk through the files of a tree.
 ghost use Rattle.std.specs.Prelude.{◌≡◌};
 
-use crate::nodes::Entry;
 use std::marker::Model;
 
-/// The entries of a directory that are still to be walked, while one in it is walked.
+/// The numbers of the entries of a directory that are still to be walked, while one in it is walked.
 #[derive(Debug, Drop)]
 pub(crate) struct Level<'a> {
-    entries: &'a [Entry],
+    numbers: &'a [u32],
 }
 
 impl<'a> Model for Level<'a> {
-    ghost use Rattle.std.specs.Prelude.{List};
-    ghost use Rattle.bf_forest.specs.declared.nodes.Entry.{Entry};
+    ghost use Rattle.std.specs.Prelude.{List, ℕ};
 
-    ghost Value = { List Entry };
+    ghost Value = { List ℕ };
 
-    ghost view = { λ l. l.entries.now };
+    ghost view = { λ l. l.numbers.now };
 }
 
 impl<'a> Level<'a> {
-    pub(crate) fn new(entries: &'a [Entry]) -> Level<'a>
-        ensures { result ≡ entries.now }
+    pub(crate) fn new(numbers: &'a [u32]) -> Level<'a>
+        ensures { result ≡ numbers.now }
     {
-        Level { entries }
+        Level { numbers }
     }
 
-    pub(crate) fn entries(&self) -> &'a [Entry]
+    pub(crate) fn numbers(&self) -> &'a [u32]
         ensures { result.now ≡ self.now }
     {
-        self.entries
+        self.numbers
     }
 }

@@ -10,11 +10,15 @@ mod nodes;
 mod opened;
 mod pool;
 mod slots;
+mod table;
+mod tail;
 mod trees;
 
 pub use edits::Edit;
 pub use entries::FileEntry;
 pub use trees::{Forest, ForestFault};
 
+#[cfg(test)]
+mod plain;
 #[cfg(test)]
 mod tests;

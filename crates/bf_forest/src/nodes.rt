@@ -1,8 +1,7 @@
 //! The entries of a directory.
-ghost use Rattle.std.specs.Prelude.{◌≡◌, ◌↔◌, [], ◌∷◌, ◌++◌, IsTrue, OnOk};
+ghost use Rattle.std.specs.Prelude.{◌≡◌, ◌↔◌, [], ◌∷◌, ◌++◌, IsTrue, IfOk, OnOk};
 ghost use Rattle.bf_forest.specs.Listing.{name_in};
 ghost use Rattle.bf_forest.specs.Trees.{mode_text, entry_bytes};
-ghost use Rattle.bf_forest.specs.Nodes.{is_same_kind, is_same_entry, are_same_entries};
 
 use bf_grammar::{Mode, Oid};
 use bf_io::Bytes;
@@ -23,32 +22,40 @@ pub(crate) struct Entry {
     pub(crate) kind: EntryKind,
 }
 
-/// The entries of a directory, in order of their keys.
+/// The numbers of the entries of a directory, in order of their keys.
 #[derive(Debug, Drop)]
-pub(crate) struct Entries {
-    items: Vec<Entry>,
+pub(crate) struct Numbers {
+    items: Vec<u32>,
 }
 
-impl Model for Entries {
-    ghost use Rattle.std.specs.Prelude.{List};
-    ghost use Rattle.bf_forest.specs.declared.nodes.Entry.{Entry};
+impl Model for Numbers {
+    ghost use Rattle.std.specs.Prelude.{List, ℕ};
 
-    ghost Value = { List Entry };
+    ghost Value = { List ℕ };
 
-    ghost view = { λ e. e.items.items };
+    ghost view = { λ n. n.items.items };
 }
 
-impl Entries {
-    /// No entry. It takes no memory.
-    pub(crate) fn new(alloc: Global) -> Entries
+impl Numbers {
+    /// No number. It takes no memory.
+    pub(crate) fn new(alloc: Global) -> Numbers
         ensures { result ≡ [] }
     {
-        Entries {
+        Numbers {
             items: Vec::new(alloc),
         }
     }
 
-    pub(crate) fn as_slice(&self) -> &[Entry]
+    /// No number, with room for so many.
+    pub(crate) fn with_room(alloc: Global, count: usize) -> Result<Numbers, AllocError>
+        ensures { IfOk result (λ numbers. numbers ≡ []) }
+    {
+        Ok(Numbers {
+            items: Vec::with_capacity(alloc, count)?,
+        })
+    }
+
+    pub(crate) fn as_slice(&self) -> &[u32]
         ensures { result.now ≡ self.now }
     {
         self.items.as_slice()
@@ -60,13 +67,28 @@ impl Entries {
         self.items.is_empty()
     }
 
-    /// Adds an entry at the end.
-    pub(crate) fn push(&mut self, entry: Entry) -> Result<(), AllocError>
-        ensures { OnOk result (self.new ≡ self.old ++ entry ∷ []) }
+    /// Adds a number at the end.
+    pub(crate) fn push(&mut self, number: u32) -> Result<(), AllocError>
+        ensures { OnOk result (self.new ≡ self.old ++ number ∷ []) }
     {
-        self.items.push(entry)?;
+        self.items.push(number)?;
         Ok(())
     }
+
+    /// Adds numbers at the end.
+    pub(crate) fn append(&mut self, numbers: &[u32]) -> Result<(), AllocError>
+        ensures { OnOk result (self.new ≡ self.old ++ numbers.now) }
+    {
+        self.items.extend_from_slice(numbers)
+    }
+}
+
+/// No bytes, with room for what these entries usually take in the body of a tree: 40 bytes each.
+pub(crate) fn empty_body(alloc: Global, numbers: &Numbers) -> Result<Bytes, AllocError>
+    ensures { IfOk result (λ body. body ≡ []) }
+{
+    let room = numbers.as_slice().len().saturating_mul(40);
+    Ok(Bytes::from_vec(alloc, Vec::with_capacity(alloc, room)?))
 }
 
 /// The name in a key.
@@ -105,37 +127,4 @@ pub(crate) fn add_entry(
     body.append(name)?;
     body.push(0)?;
     body.append(&oid.0)
-}
-
-fn is_same_kind(a: EntryKind, b: EntryKind) -> bool
-    ensures { result ≡ is_same_kind a b }
-{
-    match (a, b) {
-        (EntryKind::File(mode, oid), EntryKind::File(other_mode, other_oid)) => {
-            mode_text(mode) == mode_text(other_mode) && oid.0.as_slice() == other_oid.0.as_slice()
-        }
-        (EntryKind::Directory(number), EntryKind::Directory(other)) => number == other,
-        _ => false,
-    }
-}
-
-fn is_same_entry(a: &Entry, b: &Entry) -> bool
-    ensures { result ≡ is_same_entry a.now b.now }
-{
-    a.key == b.key && is_same_kind(a.kind, b.kind)
-}
-
-/// Whether two directories have the same entries.
-pub(crate) fn are_same_entries(a: &[Entry], b: &[Entry]) -> bool
-    ensures { result ≡ are_same_entries a.now b.now }
-{
-    if a.len() != b.len() {
-        return false;
-    }
-    for i in 0..a.len() {
-        if !is_same_entry(&a[i], &b[i]) {
-            return false;
-        }
-    }
-    true
 }

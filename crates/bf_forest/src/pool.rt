@@ -1,79 +1,75 @@
-//! The trees of a pool, each once, with their names. A tree is kept as its entries, which name the trees
-//! of its directories by their numbers.
+//! The trees of a pool, each once, with their names. A tree is kept as the numbers of its entries, which
+//! name the trees of its directories by their numbers.
 ghost use Rattle.std.specs.Prelude.{◌≡◌, ℕ, List, ◌+◌, ◌*◌, ◌<◌, ◌≤◌, [], ◌∷◌, ◌++◌, length, take, fold, IsTrue, IfOk, OnOk, OnErr};
-ghost use Rattle.std.specs.List.{list_all, filter, flat_map};
-ghost use Rattle.bf_forest.specs.Files.{Files, is_tree, edited};
-ghost use Rattle.bf_forest.specs.Index.{key_of};
-ghost use Rattle.bf_forest.specs.Listing.{is_listing, shown};
-ghost use Rattle.bf_forest.specs.Nodes.{kind_files, listed, files_in, is_filled, is_node, is_earlier, is_good, kind_bytes, IsSound, IsPosition, IsSettled};
-ghost use Rattle.bf_forest.specs.Opened.{IsOpened, IsSettling, IsMade, IsAdvanced, IsClosed, HasSome, inner_weight, heft, weight};
-ghost use Rattle.bf_forest.specs.declared.slots.Slot.{Slot};
-ghost use Rattle.bf_forest.specs.Slots.{base_files, slot_files, contents, slot_directories, is_base, is_based, is_slot};
+ghost use Rattle.bf_forest.specs.Files.{is_tree, edited};
+ghost use Rattle.bf_forest.specs.Nodes.{files_in, is_node, is_good, entry_body, entry_at, stood, are_within, StaysIn, IsSound, IsPosition, IsSettled};
+ghost use Rattle.bf_forest.specs.Opened.{IsOpened, IsBase, IsFrame, IsTurn, IsMade, Turns, Advances, IsClosed, HasSome, IsSpent, inner_weight, heft, weight, with_directory};
+ghost use Rattle.bf_forest.specs.Rests.{slots_in, slots_with};
+ghost use Rattle.bf_forest.specs.Slots.{base_files, is_base};
 ghost use Rattle.bf_forest.specs.Trees.{tree_name, directories, where_some, or_none, are_same, with_tree, with_directories, entries_of, files_at};
 
 use crate::cuts::{Cut, Pending};
 use crate::edits::Edit;
 use crate::entries::{FileEntry, add_file, are_same};
 use crate::levels::Level;
-use crate::nodes::{Entries, Entry, EntryKind, add_entry, are_same_entries, mode_text, name_in};
-use crate::opened::{Opened, add_directory, wait_over};
-use crate::slots::{Slot, Slots, edit_all, slots_of};
+use crate::nodes::{Entry, EntryKind, Numbers, add_entry, empty_body, mode_text, name_in};
+use crate::opened::Opened;
+use crate::slots::{Rest, Slot, edit_all};
+use crate::table::Table;
+use crate::tail::{Tail, take_below};
 use bf_grammar::{Kind, Oid};
 use bf_io::Bytes;
 use bf_oid::object_name;
 use std::alloc::{AllocError, Global};
 use std::collections::BTreeMap;
 use std::marker::Model;
+use std::mem;
 
-/// A tree with its name.
+/// A tree: the numbers of its entries, and its name.
 #[derive(Debug, Drop)]
-pub(crate) struct Node {
-    entries: Entries,
+pub(crate) struct Kept {
+    numbers: Numbers,
     name: Oid,
 }
 
-/// Trees by their numbers. The index has a number for the front of each tree's name: that of a tree
-/// with such a name, or of one that was taken back.
+/// Trees by their numbers. The index has a number for each tree's name: that of a tree with
+/// this name, or of one that was taken back.
 #[derive(Debug, Drop)]
 pub(crate) struct Trees {
     alloc: Global,
-    nodes: Vec<Node>,
-    index: BTreeMap<u64, usize>,
+    table: Table,
+    nodes: Vec<Kept>,
+    index: BTreeMap<[u8; 20], usize>,
     entries: u64,
 }
 
 impl Model for Trees {
-    ghost use Rattle.std.specs.Prelude.{◌≡◌, List, []};
-    ghost use Rattle.bf_forest.specs.declared.entries.FileEntry.{FileEntry};
+    ghost use Rattle.bf_forest.specs.Nodes.{World};
+
+    ghost Value = { World };
+
+    ghost use Rattle.std.specs.Prelude.{◌≡◌, [], true, length};
     ghost use Rattle.bf_forest.specs.Trees.{entries_of};
-    ghost use Rattle.bf_forest.specs.Nodes.{trees_from, AreNodes};
-
-    ghost Value = { List (List FileEntry) };
-
-    ghost view = { λ t. trees_from [] t.nodes.items };
-
     ghost use Rattle.bf_forest.specs.Index.{IsIndexed};
+    ghost use Rattle.bf_forest.specs.Nodes.{trees_from, AreNodes, nodes_of, are_kept_within};
 
-    ghost invariant = { λ t. (t.entries ≡ entries_of (trees_from [] t.nodes.items)) × IsIndexed t.index (trees_from [] t.nodes.items) × AreNodes [] t.nodes.items };
-}
+    ghost view = { λ t. record { table = t.table; trees = trees_from [] (nodes_of t.table t.nodes.items) } };
 
-/// The first eight bytes of a name.
-#[tactic(auto, unfolding(crate::specs::Index::key_of))]
-fn key_of(name: Oid) -> u64
-    ensures { result ≡ key_of name.0 }
-{
-    let [a, b, c, d, e, f, g, h, ..] = name.0;
-    u64::from_be_bytes([a, b, c, d, e, f, g, h])
+    ghost invariant = { λ t. (t.entries ≡ entries_of (trees_from [] (nodes_of t.table t.nodes.items)))
+        × IsIndexed t.index (trees_from [] (nodes_of t.table t.nodes.items))
+        × AreNodes [] (nodes_of t.table t.nodes.items)
+        × (are_kept_within (length t.table) t.nodes.items ≡ true) };
 }
 
 impl Trees {
     /// No tree. It takes no memory.
     #[tactic(auto, unfolding(crate::specs::Trees::entries_of))]
     pub(crate) fn new(alloc: Global) -> Trees
-        ensures { result ≡ [] }
+        ensures { result.trees ≡ [] }
     {
         Trees {
             alloc,
+            table: Table::new(alloc),
             nodes: Vec::new(alloc),
             index: BTreeMap::new(alloc),
             entries: 0,
@@ -82,57 +78,58 @@ impl Trees {
 
     /// The number of trees.
     pub(crate) fn len(&self) -> usize
-        ensures { result ≡ length self.now }
+        ensures { result ≡ length self.now.trees }
     {
         self.nodes.len()
     }
 
     /// The entries of all trees together.
     pub(crate) fn entries(&self) -> u64
-        ensures { result ≡ entries_of self.now }
+        ensures { result ≡ entries_of self.now.trees }
     {
         self.entries
     }
 
     /// The name of a tree.
     pub(crate) fn name(&self, number: usize) -> Oid
-        requires { number < length self.now }
-        ensures { result.0 ≡ tree_name (files_at self.now number) }
+        requires { number < length self.now.trees }
+        ensures { result.0 ≡ tree_name (files_at self.now.trees number) }
     {
         self.nodes[number].name
     }
 
-    /// The entries of a tree.
-    fn node(&self, number: usize) -> &Entries
-        requires { number < length self.now }
-        ensures files { files_in self.now result.now ≡ files_at self.now number }
-        ensures node { IsTrue (is_node self.now result.now) }
-        ensures good { IsTrue (list_all (is_good number) result.now) }
+    /// The numbers of the entries of a tree.
+    fn node(&self, number: usize) -> &Numbers
+        requires { number < length self.now.trees }
+        ensures files { files_in self.now.trees (stood self.now.table result.now) ≡ files_at self.now.trees number }
+        ensures node { IsTrue (is_node self.now.trees (stood self.now.table result.now)) }
+        ensures within { IsTrue (are_within (length self.now.table) result.now) }
     {
-        &self.nodes[number].entries
+        &self.nodes[number].numbers
     }
 
     /// The files of a directory with these entries.
-    pub(crate) fn files(&self, entries: &Entries) -> Result<Vec<FileEntry>, AllocError>
-        requires { IsTrue (is_node self.now entries.now) }
-        ensures { IfOk result (λ files. files.items ≡ files_in self.now entries.now) }
+    pub(crate) fn files(&self, numbers: &Numbers) -> Result<Vec<FileEntry>, AllocError>
+        requires node { IsTrue (is_node self.now.trees (stood self.now.table numbers.now)) }
+        requires within { IsTrue (are_within (length self.now.table) numbers.now) }
+        ensures { IfOk result (λ files. files.items ≡ files_in self.now.trees (stood self.now.table numbers.now)) }
     {
         let mut files = Vec::new(self.alloc);
         let mut names = Vec::new(self.alloc);
         let mut below = Vec::new(self.alloc);
-        let mut rest = entries.as_slice();
+        let mut rest = numbers.as_slice();
         loop {
             let Some((entry, others)) = rest.split_first() else {
                 let Some(level) = below.pop() else {
                     return Ok(files);
                 };
                 let _ = names.pop();
-                rest = Level::entries(&level);
+                rest = Level::numbers(&level);
                 continue;
             };
-            let name = name_in(entry.key.as_slice());
+            let name = name_in(self.table.key(*entry));
             rest = others;
-            match entry.kind {
+            match self.table.kind(*entry) {
                 EntryKind::File(mode, oid) => {
                     add_file(self.alloc, &mut files, names.as_slice(), name, mode, oid)?
                 }
@@ -147,50 +144,52 @@ impl Trees {
 
     /// The files of a tree.
     pub(crate) fn files_of(&self, number: usize) -> Result<Vec<FileEntry>, AllocError>
-        requires { number < length self.now }
-        ensures value { IfOk result (λ files. files.items ≡ files_at self.now number) }
-        ensures tree { IsTrue (is_tree (files_at self.now number)) }
+        requires { number < length self.now.trees }
+        ensures value { IfOk result (λ files. files.items ≡ files_at self.now.trees number) }
+        ensures tree { IsTrue (is_tree (files_at self.now.trees number)) }
     {
         self.files(self.node(number))
     }
 
     /// Adds an entry to the body of a tree.
-    fn add_body(&self, body: &mut Bytes, entry: &Entry) -> Result<(), AllocError>
-        requires { IsTrue (is_good (length self.now) entry.now) }
-        ensures { OnOk result (body.new ≡ body.old ++ kind_bytes self.now entry.now.key entry.now.kind) }
+    fn add_body(&self, body: &mut Bytes, number: u32) -> Result<(), AllocError>
+        requires within { number < length self.now.table }
+        requires good { IsTrue (is_good (length self.now.trees) (entry_at self.now.table number)) }
+        ensures { OnOk result (body.new ≡ body.old ++ entry_body self.now.trees (entry_at self.now.table number)) }
     {
-        let name = name_in(entry.key.as_slice());
-        match entry.kind {
+        let name = name_in(self.table.key(number));
+        match self.table.kind(number) {
             EntryKind::File(mode, oid) => add_entry(body, mode_text(mode), name, oid),
             EntryKind::Directory(number) => add_entry(body, b"40000", name, self.name(number)),
         }
     }
 
     /// The name of the tree with these entries.
-    fn name_of(&self, entries: &Entries) -> Result<Oid, AllocError>
-        requires { IsTrue (is_node self.now entries.now) }
-        ensures { IfOk result (λ name. name.0 ≡ tree_name (files_in self.now entries.now)) }
+    fn name_of(&self, numbers: &Numbers) -> Result<Oid, AllocError>
+        requires node { IsTrue (is_node self.now.trees (stood self.now.table numbers.now)) }
+        requires within { IsTrue (are_within (length self.now.table) numbers.now) }
+        ensures { IfOk result (λ name. name.0 ≡ tree_name (files_in self.now.trees (stood self.now.table numbers.now))) }
     {
-        let mut body = Bytes::new(self.alloc);
-        for entry in entries.as_slice() {
-            self.add_body(&mut body, entry)?;
+        let mut body = empty_body(self.alloc, numbers)?;
+        for number in numbers.as_slice() {
+            self.add_body(&mut body, *number)?;
         }
         Ok(object_name(Kind::Tree, body.as_slice()))
     }
 
     /// Whether the tree with a number has these entries.
-    fn is_at(&self, number: usize, entries: &Entries) -> bool
-        ensures number { IsTrue result → number < length self.now }
-        ensures same { IsTrue result → files_at self.now number ≡ files_in self.now entries.now }
+    fn is_at(&self, number: usize, numbers: &Numbers) -> bool
+        ensures number { IsTrue result → number < length self.now.trees }
+        ensures same { IsTrue result → files_at self.now.trees number ≡ files_in self.now.trees (stood self.now.table numbers.now) }
     {
-        number < self.len() && are_same_entries(self.node(number).as_slice(), entries.as_slice())
+        number < self.len() && self.node(number).as_slice() == numbers.as_slice()
     }
 
     /// Whether the tree with a number has these files, which have this name.
     fn has_files(&self, number: usize, files: &[FileEntry], name: Oid) -> Result<bool, AllocError>
-        requires number { number < length self.now }
+        requires number { number < length self.now.trees }
         requires named { name.0 ≡ tree_name files.now }
-        ensures { IfOk result (λ answer. answer ≡ are_same (files_at self.now number) files.now) }
+        ensures { IfOk result (λ answer. answer ≡ are_same (files_at self.now.trees number) files.now) }
     {
         if self.name(number).0.as_slice() != name.0.as_slice() {
             return Ok(false);
@@ -202,7 +201,7 @@ impl Trees {
     /// The number of the tree with these files, which have this name, if there is one, of all trees in order.
     fn search(&self, files: &[FileEntry], name: Oid) -> Result<Option<usize>, AllocError>
         requires { name.0 ≡ tree_name files.now }
-        ensures { IfOk result (IsPosition self.now files.now) }
+        ensures { IfOk result (IsPosition self.now.trees files.now) }
     {
         for number in 0..self.len() {
             if self.has_files(number, files, name)? {
@@ -213,153 +212,236 @@ impl Trees {
     }
 
     /// The number of the tree with these entries, which have this name, if there is one.
-    fn position(&self, entries: &Entries, name: Oid) -> Result<Option<usize>, AllocError>
-        requires named { name.0 ≡ tree_name (files_in self.now entries.now) }
-        requires node { IsTrue (is_node self.now entries.now) }
-        ensures { IfOk result (IsPosition self.now (files_in self.now entries.now)) }
+    fn position(&self, numbers: &Numbers, name: Oid) -> Result<Option<usize>, AllocError>
+        requires named { name.0 ≡ tree_name (files_in self.now.trees (stood self.now.table numbers.now)) }
+        requires node { IsTrue (is_node self.now.trees (stood self.now.table numbers.now)) }
+        requires within { IsTrue (are_within (length self.now.table) numbers.now) }
+        ensures { IfOk result (IsPosition self.now.trees (files_in self.now.trees (stood self.now.table numbers.now))) }
     {
-        let Some(number) = self.index.get(&key_of(name)) else {
+        let Some(number) = self.index.get(&name.0) else {
             return Ok(None);
         };
-        if self.is_at(*number, entries) {
+        if self.is_at(*number, numbers) {
             return Ok(Some(*number));
         }
-        let files = self.files(entries)?;
+        let files = self.files(numbers)?;
         self.search(files.as_slice(), name)
     }
 
     /// Adds the tree with these entries where it is not there, and answers its number. After an error
     /// all is as before.
-    pub(crate) fn add(&mut self, entries: Entries) -> Result<usize, AllocError>
-        requires { IsTrue (is_node self.old entries) }
-        ensures ok { OnOk result (self.new ≡ with_tree self.old (files_in self.old entries)) }
-        ensures number { IfOk result (λ number. number < length self.new) }
-        ensures files { IfOk result (λ number. files_at self.new number ≡ files_in self.old entries) }
-        ensures kept { take (length self.old) self.new ≡ self.old }
+    pub(crate) fn add(&mut self, numbers: Numbers) -> Result<usize, AllocError>
+        requires node { IsTrue (is_node self.old.trees (stood self.old.table numbers)) }
+        requires within { IsTrue (are_within (length self.old.table) numbers) }
+        ensures ok { OnOk result (self.new.trees ≡ with_tree self.old.trees (files_in self.old.trees (stood self.old.table numbers))) }
+        ensures number { IfOk result (λ number. number < length self.new.trees) }
+        ensures files { IfOk result (λ number. files_at self.new.trees number ≡ files_in self.old.trees (stood self.old.table numbers)) }
+        ensures kept { take (length self.old.trees) self.new.trees ≡ self.old.trees }
+        ensures table { self.new.table ≡ self.old.table }
         ensures err { OnErr result (self.new ≡ self.old) }
     {
-        let name = self.name_of(&entries)?;
-        if let Some(number) = self.position(&entries, name)? {
+        let name = self.name_of(&numbers)?;
+        if let Some(number) = self.position(&numbers, name)? {
             return Ok(number);
         }
         let number = self.nodes.len();
-        let count = entries.as_slice().len();
+        let count = numbers.as_slice().len();
         let total = self.entries.checked_add(count as u64).ok_or(AllocError)?;
-        self.index.insert(key_of(name), number)?;
-        self.nodes.push(Node { entries, name })?;
+        self.index.insert(name.0, number)?;
+        self.nodes.push(Kept { numbers, name })?;
         self.entries = total;
         Ok(number)
     }
 
-    /// The entries of a tree, or of an empty directory, which are to be edited.
-    fn slots<'a>(&self, base: Option<usize>) -> Result<Slots<'a>, AllocError>
-        requires { IsTrue (is_base (length self.now) base) }
-        ensures listing { IfOk result (λ slots. IsTrue (is_listing (contents self.now slots.entries))) }
-        ensures files { IfOk result (λ slots. shown (contents self.now slots.entries) ≡ base_files self.now base) }
-        ensures bases { IfOk result (λ slots. IsTrue (list_all (λ slot. is_slot (length self.now) 1 slot.1) slots.entries)) }
-        ensures heft { IfOk result (λ slots. heft slots.entries ≡ 0) }
-        ensures sound { IsSound self.now }
+    /// Adds an entry to those of a directory.
+    fn enter(
+        &mut self,
+        numbers: &mut Numbers,
+        key: Bytes,
+        kind: EntryKind,
+    ) -> Result<(), AllocError>
+        requires { IsTrue (are_within (length self.old.table) numbers.old) }
+        ensures entry { OnOk result (stood self.new.table numbers.new ≡ stood self.old.table numbers.old ++ record { key = key; kind = kind } ∷ []) }
+        ensures within { OnOk result (IsTrue (are_within (length self.new.table) numbers.new)) }
+        ensures kept { StaysIn self.old self.new }
+        ensures trees { self.new.trees ≡ self.old.trees }
     {
-        match base {
-            None => Ok(BTreeMap::new(self.alloc)),
-            Some(number) => slots_of(self.alloc, self.node(number).as_slice()),
+        let number = self.table.add(Entry { key, kind })?;
+        numbers.push(number)
+    }
+
+    /// Adds the entry of a directory to those of another one, if it has files.
+    fn enter_directory(
+        &mut self,
+        numbers: &mut Numbers,
+        key: Bytes,
+        number: Option<usize>,
+    ) -> Result<(), AllocError>
+        requires { IsTrue (are_within (length self.old.table) numbers.old) }
+        ensures entry { OnOk result (stood self.new.table numbers.new ≡ with_directory (stood self.old.table numbers.old) key number) }
+        ensures within { OnOk result (IsTrue (are_within (length self.new.table) numbers.new)) }
+        ensures kept { StaysIn self.old self.new }
+        ensures trees { self.new.trees ≡ self.old.trees }
+    {
+        match number {
+            Some(number) => self.enter(numbers, key, EntryKind::Directory(number)),
+            None => Ok(()),
         }
     }
 
-    /// The entries of a tree, or of an empty directory, after edits.
-    fn slots_after<'a>(
-        &self,
-        base: Option<usize>,
-        edits: &[Cut<'a>],
-    ) -> Result<Slots<'a>, AllocError>
-        requires base { IsTrue (is_base (length self.now) base) }
-        requires some { 0 < length edits.now }
-        ensures opened { IfOk result (λ slots. IsOpened self.now (edited (base_files self.now base) edits.now) slots.entries) }
-        ensures heft { IfOk result (λ slots. heft slots.entries + 2 * length edits.now ≤ weight edits.now) }
+    /// The numbers of the entries of a tree, or of an empty directory.
+    fn tail(&self, base: Option<usize>) -> Result<Tail, AllocError>
+        requires { IsTrue (is_base (length self.now.trees) base) }
+        ensures base { IfOk result (IsBase self.now.trees self.now.table) }
+        ensures files { IfOk result (λ tail. files_in self.now.trees (stood self.now.table tail) ≡ base_files self.now.trees base) }
+        ensures node { IfOk result (λ tail. IsTrue (is_node self.now.trees (stood self.now.table tail))) }
     {
-        let mut slots = self.slots(base)?;
-        edit_all(&mut slots, edits)?;
-        Ok(slots)
+        match base {
+            None => Ok(Tail::new(self.alloc)),
+            Some(number) => Tail::of(self.alloc, self.node(number).as_slice()),
+        }
     }
 
     /// Opens a directory, to make it as it is after edits.
     fn open<'a>(&self, base: Option<usize>, edits: &[Cut<'a>]) -> Result<Opened<'a>, AllocError>
-        requires base { IsTrue (is_base (length self.now) base) }
+        requires base { IsTrue (is_base (length self.now.trees) base) }
         requires some { 0 < length edits.now }
-        ensures opened { IfOk result (λ top. IsOpened self.now (edited (base_files self.now base) edits.now) top.rest.entries) }
-        ensures empty { IfOk result (λ top. top.entries ≡ []) }
-        ensures heft { IfOk result (λ top. heft top.rest.entries + 2 * length edits.now ≤ weight edits.now) }
+        ensures opened { IfOk result (λ top. IsOpened self.now.trees (edited (base_files self.now.trees base) edits.now) (slots_in self.now.table top.rest)) }
+        ensures base { IfOk result (λ top. IsBase self.now.trees self.now.table top.rest.base) }
+        ensures empty { IfOk result (λ top. top.numbers ≡ []) }
+        ensures heft { IfOk result (λ top. heft (slots_in self.now.table top.rest) + 2 * length edits.now ≤ weight edits.now) }
     {
+        let tail = self.tail(base)?;
+        let mut rest = Rest {
+            base: tail,
+            changes: BTreeMap::new(self.alloc),
+        };
+        edit_all(&self.table, &mut rest, edits)?;
+        let room = rest
+            .base
+            .as_slice()
+            .len()
+            .saturating_add(rest.changes.len());
         Ok(Opened {
-            entries: Entries::new(self.alloc),
+            numbers: Numbers::with_room(self.alloc, room)?,
             inside: Bytes::new(self.alloc),
-            rest: self.slots_after(base, edits)?,
+            rest,
         })
     }
 
     /// A number, where its tree has files.
     fn filled(&self, base: Option<usize>) -> Option<usize>
-        requires { IsTrue (is_base (length self.now) base) }
-        ensures number { IsSettled self.now (base_files self.now base) result }
-        ensures joined { fold with_tree self.now (or_none (where_some directories (base_files self.now base))) ≡ self.now }
+        requires { IsTrue (is_base (length self.now.trees) base) }
+        ensures number { IsSettled self.now.trees (base_files self.now.trees base) result }
+        ensures joined { fold with_tree self.now.trees (or_none (where_some directories (base_files self.now.trees base))) ≡ self.now.trees }
     {
         let Some(number) = base else {
             return None;
         };
-        if self.nodes[number].entries.is_empty() {
+        if self.nodes[number].numbers.is_empty() {
             return None;
         }
         Some(number)
     }
 
-    /// Takes entries up to the next directory that is to be made first, and answers what it is made of.
-    fn advance<'a>(
-        &self,
+    /// Takes the old entries below a key and what is to stand there, or answers what the directory there is made of.
+    fn take<'a>(
+        &mut self,
         top: &mut Opened<'a>,
+        key: Bytes,
+        change: Option<Slot<'a>>,
     ) -> Result<Option<(Option<usize>, Pending<'a>)>, AllocError>
-        requires { IsTrue (list_all (λ slot. is_based (length self.now) slot.1) top.old.rest.entries) }
-        ensures advanced { IfOk result (λ inner. (trees : List Files) (slots : List (List ℕ × Slot))
-            → IsSettling trees slots self.now top.old.entries top.old.rest.entries → IsAdvanced trees slots self.now top.new inner) }
-        ensures heft { IfOk result (λ inner. inner_weight inner + heft top.new.rest.entries ≤ heft top.old.rest.entries) }
+        requires { IsTurn self.old top.old key change }
+        ensures turns { IfOk result (Turns self.old self.new top.old key change.entry top.new) }
+        ensures frame { OnOk result (IsFrame self.new top.new) }
+        ensures kept { StaysIn self.old self.new }
+        ensures trees { self.new.trees ≡ self.old.trees }
+        ensures heft { IfOk result (λ inner. inner_weight inner + heft (slots_in self.new.table top.new.rest) ≤ heft (slots_with self.old.table top.old.rest key change.entry)) }
         ensures some { IfOk result HasSome }
+        ensures changes { top.new.rest.changes ≡ top.old.rest.changes }
     {
-        while let Some((key, slot)) = top.rest.pop_first() {
-            match slot {
-                Slot::File(mode, oid) => top.entries.push(Entry {
-                    key,
-                    kind: EntryKind::File(mode, oid),
-                })?,
-                Slot::Directory(base, pending) => {
-                    if pending.as_slice().is_empty() {
-                        add_directory(&mut top.entries, key, self.filled(base))?;
-                    } else {
-                        top.inside = key;
-                        return Ok(Some((base, pending)));
-                    }
+        take_below(
+            &self.table,
+            &mut top.numbers,
+            &mut top.rest.base,
+            key.as_slice(),
+        )?;
+        match change {
+            None => Ok(None),
+            Some(Slot::File(mode, oid)) => {
+                self.enter(&mut top.numbers, key, EntryKind::File(mode, oid))?;
+                Ok(None)
+            }
+            Some(Slot::Directory(base, pending)) => {
+                if pending.as_slice().is_empty() {
+                    self.enter_directory(&mut top.numbers, key, self.filled(base))?;
+                    return Ok(None);
                 }
+                top.inside = key;
+                Ok(Some((base, pending)))
             }
         }
+    }
+
+    /// Takes entries up to the next directory that is to be made first, and answers what it is made of.
+    fn advance<'a>(
+        &mut self,
+        top: &mut Opened<'a>,
+    ) -> Result<Option<(Option<usize>, Pending<'a>)>, AllocError>
+        requires { IsFrame self.old top.old }
+        ensures advanced { IfOk result (Advances self.old self.new top.old top.new) }
+        ensures frame { OnOk result (IsFrame self.new top.new) }
+        ensures kept { StaysIn self.old self.new }
+        ensures trees { self.new.trees ≡ self.old.trees }
+        ensures heft { IfOk result (λ inner. inner_weight inner + heft (slots_in self.new.table top.new.rest) ≤ heft (slots_in self.old.table top.old.rest)) }
+        ensures some { IfOk result HasSome }
+        ensures spent { IfOk result (IsSpent (slots_in self.new.table top.new.rest)) }
+    {
+        while let Some((key, change)) = top.rest.changes.pop_first() {
+            if let Some(inner) = self.take(top, key, change)? {
+                return Ok(Some(inner));
+            }
+        }
+        self.take_all(top)?;
         Ok(None)
     }
 
-    /// Adds the tree of a directory with these entries, if there are any, and answers its number.
-    fn close(&mut self, entries: Entries) -> Result<Option<usize>, AllocError>
-        requires { IsTrue (is_node self.old entries) }
-        ensures closed { IfOk result (IsClosed self.old self.new entries) }
-        ensures kept { take (length self.old) self.new ≡ self.old }
+    /// Takes the old entries, where no changes are left.
+    fn take_all(&self, top: &mut Opened<'_>) -> Result<(), AllocError>
+        requires frame { IsFrame self.now top.old }
+        requires none { top.old.rest.changes.entries ≡ [] }
+        ensures advanced { OnOk result (Advances self.now self.now top.old top.new None) }
+        ensures frame { OnOk result (IsFrame self.now top.new) }
+        ensures spent { OnOk result (slots_in self.now.table top.new.rest ≡ []) }
     {
-        if entries.is_empty() {
-            return Ok(None);
-        }
-        Ok(Some(self.add(entries)?))
+        // A use of a field: what holds of all trees is then known here.
+        let _ = &self.nodes;
+        top.numbers.append(top.rest.base.as_slice())?;
+        top.rest.base.pass_all();
+        Ok(())
     }
 
-    /// The entries of a tree after edits. The trees of its directories join.
-    fn settle(&mut self, tree: usize, edits: &[Cut<'_>]) -> Result<Entries, AllocError>
-        requires tree { tree < length self.old }
+    /// Adds the tree of a directory with these entries, if there are any, and answers its number.
+    fn close(&mut self, numbers: Numbers) -> Result<Option<usize>, AllocError>
+        requires node { IsTrue (is_node self.old.trees (stood self.old.table numbers)) }
+        requires within { IsTrue (are_within (length self.old.table) numbers) }
+        ensures closed { IfOk result (IsClosed self.old.trees self.new.trees (stood self.old.table numbers)) }
+        ensures kept { take (length self.old.trees) self.new.trees ≡ self.old.trees }
+        ensures table { self.new.table ≡ self.old.table }
+    {
+        if numbers.is_empty() {
+            return Ok(None);
+        }
+        Ok(Some(self.add(numbers)?))
+    }
+
+    /// The numbers of the entries of a tree after edits. The trees of its directories join.
+    fn settle(&mut self, tree: usize, edits: &[Cut<'_>]) -> Result<Numbers, AllocError>
+        requires tree { tree < length self.old.trees }
         requires some { 0 < length edits.now }
-        ensures made { IfOk result (IsMade self.old self.new (edited (files_at self.old tree) edits.now)) }
-        ensures kept { take (length self.old) self.new ≡ self.old }
+        ensures made { IfOk result (λ numbers. IsMade self.old.trees self.new.trees (edited (files_at self.old.trees tree) edits.now) (stood self.new.table numbers)) }
+        ensures within { IfOk result (λ numbers. IsTrue (are_within (length self.new.table) numbers)) }
+        ensures kept { take (length self.old.trees) self.new.trees ≡ self.old.trees }
     {
         let mut below = Vec::new(self.alloc);
         let mut top = self.open(Some(tree), edits)?;
@@ -372,37 +454,50 @@ impl Trees {
                 }
                 None => {
                     let Some(mut outer) = below.pop() else {
-                        return Ok(top.entries);
+                        return Ok(top.numbers);
                     };
-                    let number = self.close(top.entries)?;
-                    wait_over(&mut outer, number)?;
+                    let number = self.close(top.numbers)?;
+                    self.wait_over(&mut outer, number)?;
                     top = outer;
                 }
             }
         }
     }
 
+    /// Adds the directory that another one waited for, if it has files.
+    fn wait_over(&mut self, outer: &mut Opened<'_>, number: Option<usize>) -> Result<(), AllocError>
+        requires { IsTrue (are_within (length self.old.table) outer.old.numbers) }
+        ensures entry { OnOk result (stood self.new.table outer.new.numbers ≡ with_directory (stood self.old.table outer.old.numbers) outer.old.inside number) }
+        ensures within { OnOk result (IsTrue (are_within (length self.new.table) outer.new.numbers)) }
+        ensures kept { StaysIn self.old self.new }
+        ensures trees { self.new.trees ≡ self.old.trees }
+        ensures rest { OnOk result (outer.new.rest ≡ outer.old.rest) }
+    {
+        let key = mem::replace(&mut outer.inside, Bytes::new(self.alloc));
+        self.enter_directory(&mut outer.numbers, key, number)
+    }
+
     /// The number of the tree after edits. It joins, with the trees of its directories. After an error
     /// some of these trees may have been added.
     pub(crate) fn join(&mut self, tree: usize, edits: &[Edit]) -> Result<usize, AllocError>
-        requires { tree < length self.old }
-        ensures ok { OnOk result (self.new ≡ with_directories self.old (edited (files_at self.old tree) edits.now)) }
-        ensures number { IfOk result (λ number. number < length self.new) }
-        ensures files { IfOk result (λ number. files_at self.new number ≡ edited (files_at self.old tree) edits.now) }
-        ensures kept { take (length self.old) self.new ≡ self.old }
+        requires { tree < length self.old.trees }
+        ensures ok { OnOk result (self.new.trees ≡ with_directories self.old.trees (edited (files_at self.old.trees tree) edits.now)) }
+        ensures number { IfOk result (λ number. number < length self.new.trees) }
+        ensures files { IfOk result (λ number. files_at self.new.trees number ≡ edited (files_at self.old.trees tree) edits.now) }
+        ensures kept { take (length self.old.trees) self.new.trees ≡ self.old.trees }
     {
         if edits.is_empty() {
             return Ok(self.unchanged(tree));
         }
         let pending = Pending::of(self.alloc, edits)?;
-        let entries = self.settle(tree, pending.as_slice())?;
-        self.add(entries)
+        let numbers = self.settle(tree, pending.as_slice())?;
+        self.add(numbers)
     }
 
     /// The number of a tree. All its directories are there.
     fn unchanged(&self, tree: usize) -> usize
-        requires { tree < length self.now }
-        ensures joined { with_directories self.now (files_at self.now tree) ≡ self.now }
+        requires { tree < length self.now.trees }
+        ensures joined { with_directories self.now.trees (files_at self.now.trees tree) ≡ self.now.trees }
         ensures number { result ≡ tree }
     {
         // A use of a field: what holds of all trees is then known here.
@@ -412,8 +507,8 @@ impl Trees {
 
     /// Leaves the first trees, whose entries are given.
     pub(crate) fn truncate(&mut self, count: usize, entries: u64)
-        requires { entries ≡ entries_of (take count self.old) }
-        ensures { self.new ≡ take count self.old }
+        requires { entries ≡ entries_of (take count self.old.trees) }
+        ensures { self.new.trees ≡ take count self.old.trees }
     {
         self.nodes.truncate(count);
         self.entries = entries;

@@ -1,19 +1,23 @@
-//! A directory that is being edited: its entries by their keys, and the edits that wait to be made in
-//! the directories in it.
-ghost use Rattle.std.specs.Prelude.{◌≡◌, ◌<◌, [], ◌∷◌, ◌++◌, length, drop, fold, IsTrue, IfOk, OnOk};
+//! Changes of the entries of a directory, by their keys, and the edits that wait to be made in the
+//! directories in it.
+ghost use Rattle.std.specs.Prelude.{◌≡◌, ◌<◌, [], ◌∷◌, ◌++◌, length, fold, IsTrue, IfOk, OnOk, Some, None};
 ghost use Rattle.std.specs.List.{list_all};
-ghost use Rattle.bf_paths.specs.Components.{is_path};
 ghost use Rattle.bf_forest.specs.Cuts.{path_in};
+ghost use Rattle.bf_forest.specs.Nodes.{stood};
+ghost use Rattle.bf_forest.specs.Overlays.{overlaid};
+ghost use Rattle.bf_forest.specs.Rests.{IsOld, IsShorter, slots_in, old_directory, set_changes, less_changes, set_rest, remove_rest};
 ghost use Rattle.bf_forest.specs.declared.edits.Edit.TheVariants as edit;
 ghost use Rattle.bf_forest.specs.declared.slots.Slot.TheVariants as slot;
-ghost use Rattle.bf_forest.specs.Slots.{directory_key, put, without, directory_at, with_edit, set_slots, remove_slots, slots_after, less_inside, has_path, slot_of, slots_of, are_in_order};
+ghost use Rattle.bf_forest.specs.Slots.{directory_key, put, directory_of, directory_at, slots_after, has_path, slots_of};
 
 use crate::cuts::{Cut, Pending};
 use crate::edits::Edit;
-use crate::nodes::{Entry, EntryKind};
+use crate::nodes::EntryKind;
+use crate::table::Table;
+use crate::tail::{Tail, end_of, place_of};
 use bf_grammar::{Mode, Oid};
 use bf_io::Bytes;
-use std::alloc::{AllocError, Global};
+use std::alloc::AllocError;
 use std::collections::BTreeMap;
 
 /// What stands at a key: a file, or the directory of a tree (none: an empty one) with the edits that
@@ -24,8 +28,15 @@ pub(crate) enum Slot<'a> {
     Directory(Option<usize>, Pending<'a>),
 }
 
-/// The entries of a directory that is being edited, by their keys.
-pub(crate) type Slots<'a> = BTreeMap<Bytes, Slot<'a>>;
+/// Changes of entries by their keys: what is to stand there, or that nothing is.
+pub(crate) type Changes<'a> = BTreeMap<Bytes, Option<Slot<'a>>>;
+
+/// The entries of a directory: the old ones, and by their keys the changes that lie over them.
+#[derive(Debug, Drop)]
+pub(crate) struct Rest<'a> {
+    pub(crate) base: Tail,
+    pub(crate) changes: Changes<'a>,
+}
 
 /// The key of the directory with a name.
 fn directory_key(name: &Bytes) -> Result<Bytes, AllocError>
@@ -36,126 +47,178 @@ fn directory_key(name: &Bytes) -> Result<Bytes, AllocError>
     Ok(key)
 }
 
-/// Sets the file with a name.
-fn set_file(slots: &mut Slots<'_>, name: &Bytes, mode: Mode, oid: Oid) -> Result<(), AllocError>
-    ensures { OnOk result (slots.new.entries ≡ put (without (directory_key name.now) slots.old.entries) name.now (slot.File mode oid)) }
+/// The number of the tree of an old directory with a key.
+fn old_directory(table: &Table, numbers: &[u32], key: &[u8]) -> Option<usize>
+    requires { IsOld table.now numbers.now }
+    ensures { old_directory result ≡ directory_at key.now (slots_of (stood table.now numbers.now)) }
 {
-    let key = directory_key(name)?;
-    slots.remove(&key);
-    slots.insert(name.try_clone()?, Slot::File(mode, oid))?;
-    Ok(())
+    let place = place_of(table, numbers, key);
+    if end_of(table, numbers, place, key) <= place {
+        return None;
+    }
+    match table.kind(numbers[place]) {
+        EntryKind::Directory(number) => Some(number),
+        EntryKind::File(..) => None,
+    }
 }
 
-/// Takes what stands at a key, and answers it where it is a directory.
-fn taken<'a>(slots: &mut Slots<'a>, key: &Bytes) -> Option<(Option<usize>, Pending<'a>)>
-    ensures directory { result ≡ directory_at key.now slots.old.entries }
-    ensures slots { slots.new.entries ≡ without key.now slots.old.entries }
+/// What is a directory, and none for all else.
+fn directory_in<'a>(slot: Option<Slot<'a>>) -> Option<(Option<usize>, Pending<'a>)>
+    ensures { result ≡ directory_of slot.entry }
 {
-    match slots.remove(key) {
+    match slot {
         Some(Slot::Directory(base, pending)) => Some((base, pending)),
         _ => None,
     }
 }
 
-/// Adds an edit to those that wait in the directory with a name, which takes the place of a file.
-fn set_inside<'a>(slots: &mut Slots<'a>, name: &Bytes, edit: Cut<'a>) -> Result<(), AllocError>
-    ensures { OnOk result (slots.new.entries ≡ put (without (directory_key name.now) (without name.now slots.old.entries)) (directory_key name.now)
-        (with_edit (directory_at (directory_key name.now) (without name.now slots.old.entries)) edit.entry)) }
+/// Lets nothing stand at a key, and answers the directory that stood there.
+fn taken<'a>(
+    table: &Table,
+    base: &[u32],
+    changes: &mut Changes<'a>,
+    key: &Bytes,
+) -> Result<Option<(Option<usize>, Pending<'a>)>, AllocError>
+    requires { IsOld table.now base.now }
+    ensures directory { IfOk result (λ directory. directory ≡ directory_at key.now (overlaid (slots_of (stood table.now base.now)) changes.old.entries)) }
+    ensures changes { OnOk result (changes.new.entries ≡ put changes.old.entries key.now None) }
 {
-    slots.remove(name);
+    match changes.insert(key.try_clone()?, None)? {
+        Some(slot) => Ok(directory_in(slot)),
+        None => match old_directory(table, base, key.as_slice()) {
+            Some(number) => Ok(Some((Some(number), Pending::new(key.allocator())))),
+            None => Ok(None),
+        },
+    }
+}
+
+/// Sets the file with a name.
+fn set_file(changes: &mut Changes<'_>, name: &Bytes, mode: Mode, oid: Oid) -> Result<(), AllocError>
+    ensures { OnOk result (changes.new.entries ≡ put (put changes.old.entries (directory_key name.now) None) name.now (Some (slot.File mode oid))) }
+{
+    changes.insert(directory_key(name)?, None)?;
+    changes.insert(name.try_clone()?, Some(Slot::File(mode, oid)))?;
+    Ok(())
+}
+
+/// Removes what has a name.
+fn remove_both(changes: &mut Changes<'_>, name: &Bytes) -> Result<(), AllocError>
+    ensures { OnOk result (changes.new.entries ≡ put (put changes.old.entries name.now None) (directory_key name.now) None) }
+{
+    changes.insert(name.try_clone()?, None)?;
+    changes.insert(directory_key(name)?, None)?;
+    Ok(())
+}
+
+/// Adds an edit to those that wait in the directory with a name, which takes the place of a file.
+fn set_inside<'a>(
+    table: &Table,
+    base: &[u32],
+    changes: &mut Changes<'a>,
+    name: &Bytes,
+    edit: Cut<'a>,
+) -> Result<(), AllocError>
+    requires { IsOld table.now base.now }
+    ensures { OnOk result (changes.new.entries ≡ set_changes (slots_of (stood table.now base.now)) name.now edit.entry changes.old.entries) }
+{
+    changes.insert(name.try_clone()?, None)?;
     let key = directory_key(name)?;
-    let (base, mut pending) = match taken(slots, &key) {
+    let (number, mut pending) = match taken(table, base, changes, &key)? {
         Some(directory) => directory,
         None => (None, Pending::new(name.allocator())),
     };
     pending.push(edit)?;
-    slots.insert(key, Slot::Directory(base, pending))?;
+    changes.insert(key, Some(Slot::Directory(number, pending)))?;
     Ok(())
 }
 
 /// Adds an edit to those that wait in the directory with a name, where there is one.
-fn remove_inside<'a>(slots: &mut Slots<'a>, name: &Bytes, edit: Cut<'a>) -> Result<(), AllocError>
-    ensures { OnOk result (slots.new.entries ≡ less_inside (directory_at (directory_key name.now) slots.old.entries) (directory_key name.now) edit.entry (without (directory_key name.now) slots.old.entries)) }
+fn remove_inside<'a>(
+    table: &Table,
+    base: &[u32],
+    changes: &mut Changes<'a>,
+    name: &Bytes,
+    edit: Cut<'a>,
+) -> Result<(), AllocError>
+    requires { IsOld table.now base.now }
+    ensures { OnOk result (changes.new.entries ≡ less_changes (slots_of (stood table.now base.now)) name.now edit.entry changes.old.entries) }
 {
     let key = directory_key(name)?;
-    if let Some((base, mut pending)) = taken(slots, &key) {
+    if let Some((number, mut pending)) = taken(table, base, changes, &key)? {
         pending.push(edit)?;
-        slots.insert(key, Slot::Directory(base, pending))?;
+        changes.insert(key, Some(Slot::Directory(number, pending)))?;
     }
     Ok(())
 }
 
-fn set<'a>(slots: &mut Slots<'a>, cut: &Cut<'a>, mode: Mode, oid: Oid) -> Result<(), AllocError>
-    requires { cut.now ≡ edit.Set (path_in cut.now) mode oid }
-    ensures { OnOk result (slots.new.entries ≡ set_slots (path_in cut.now) mode oid slots.old.entries) }
+fn set<'a>(
+    table: &Table,
+    rest: &mut Rest<'a>,
+    cut: &Cut<'a>,
+    mode: Mode,
+    oid: Oid,
+) -> Result<(), AllocError>
+    requires old { IsOld table.now rest.old.base }
+    requires cut { cut.now ≡ edit.Set (path_in cut.now) mode oid }
+    ensures changes { OnOk result (rest.new.changes.entries
+        ≡ set_rest (slots_of (stood table.now rest.old.base)) (path_in cut.now) mode oid rest.old.changes.entries) }
+    ensures base { rest.new.base ≡ rest.old.base }
 {
+    let base = rest.base.as_slice();
     match cut.path() {
         [] => Ok(()),
-        [name] => set_file(slots, name, mode, oid),
-        [name, ..] => set_inside(slots, name, cut.inside()),
+        [name] => set_file(&mut rest.changes, name, mode, oid),
+        [name, ..] => set_inside(table, base, &mut rest.changes, name, cut.inside()),
     }
 }
 
-fn remove<'a>(slots: &mut Slots<'a>, cut: &Cut<'a>) -> Result<(), AllocError>
-    requires { cut.now ≡ edit.Remove (path_in cut.now) }
-    ensures { OnOk result (slots.new.entries ≡ remove_slots (path_in cut.now) slots.old.entries) }
+fn remove<'a>(table: &Table, rest: &mut Rest<'a>, cut: &Cut<'a>) -> Result<(), AllocError>
+    requires old { IsOld table.now rest.old.base }
+    requires cut { cut.now ≡ edit.Remove (path_in cut.now) }
+    ensures changes { OnOk result (rest.new.changes.entries
+        ≡ remove_rest (slots_of (stood table.now rest.old.base)) (path_in cut.now) rest.old.changes.entries) }
+    ensures base { rest.new.base ≡ rest.old.base }
 {
+    let base = rest.base.as_slice();
     match cut.path() {
         [] => Ok(()),
-        [only] => {
-            slots.remove(only);
-            let directory = directory_key(only)?;
-            slots.remove(&directory);
-            Ok(())
-        }
-        [name, ..] => remove_inside(slots, name, cut.inside()),
+        [only] => remove_both(&mut rest.changes, only),
+        [name, ..] => remove_inside(table, base, &mut rest.changes, name, cut.inside()),
     }
 }
 
 /// Makes an edit, in so far as it changes the entries, and leaves the rest of it to the directory where
-/// it belongs. After an error some entries may be gone.
-pub(crate) fn edit_slots<'a>(slots: &mut Slots<'a>, cut: &Cut<'a>) -> Result<(), AllocError>
-    ensures slots { OnOk result (slots.new.entries ≡ slots_after cut.now slots.old.entries) }
+/// it belongs.
+fn edit_rest<'a>(table: &Table, rest: &mut Rest<'a>, cut: &Cut<'a>) -> Result<(), AllocError>
+    requires { IsOld table.now rest.old.base }
+    ensures slots { OnOk result (slots_in table.now rest.new ≡ slots_after cut.now (slots_in table.now rest.old)) }
     ensures path { OnOk result (IsTrue (has_path cut.now)) }
+    ensures base { IsShorter rest.new.base rest.old.base }
 {
     match cut.edit() {
-        Edit::Set { mode, oid, .. } => set(slots, cut, *mode, *oid),
-        Edit::Remove { .. } => remove(slots, cut),
+        Edit::Set { mode, oid, .. } => set(table, rest, cut, *mode, *oid),
+        Edit::Remove { .. } => remove(table, rest, cut),
         Edit::Clear => {
-            slots.clear();
+            rest.changes.clear();
+            rest.base.pass_all();
             Ok(())
         }
     }
 }
 
 /// Makes edits, one after another.
-pub(crate) fn edit_all<'a>(slots: &mut Slots<'a>, edits: &[Cut<'a>]) -> Result<(), AllocError>
-    ensures slots { OnOk result (slots.new.entries ≡ fold (λ slots edit. slots_after edit slots) slots.old.entries edits.now) }
+pub(crate) fn edit_all<'a>(
+    table: &Table,
+    rest: &mut Rest<'a>,
+    edits: &[Cut<'a>],
+) -> Result<(), AllocError>
+    requires { IsOld table.now rest.old.base }
+    ensures slots { OnOk result (slots_in table.now rest.new ≡ fold (λ slots edit. slots_after edit slots) (slots_in table.now rest.old) edits.now) }
     ensures paths { OnOk result (IsTrue (list_all has_path edits.now)) }
+    ensures base { OnOk result (IsShorter rest.new.base rest.old.base) }
 {
     for edit in edits {
-        edit_slots(slots, edit)?;
+        edit_rest(table, rest, edit)?;
     }
     Ok(())
-}
-
-fn slot_of<'a>(alloc: Global, kind: EntryKind) -> Slot<'a>
-    ensures { result ≡ slot_of kind }
-{
-    match kind {
-        EntryKind::File(mode, oid) => Slot::File(mode, oid),
-        EntryKind::Directory(number) => Slot::Directory(Some(number), Pending::new(alloc)),
-    }
-}
-
-/// The entries of a directory, which are to be edited.
-pub(crate) fn slots_of<'a>(alloc: Global, entries: &[Entry]) -> Result<Slots<'a>, AllocError>
-    requires { IsTrue (are_in_order entries.now) }
-    ensures { IfOk result (λ slots. slots.entries ≡ slots_of entries.now) }
-{
-    let mut slots = BTreeMap::new(alloc);
-    for entry in entries {
-        slots.insert(entry.key.try_clone()?, slot_of(alloc, entry.kind))?;
-    }
-    Ok(slots)
 }

@@ -8,7 +8,7 @@ use std::alloc::{AllocError, Global};
 use std::test::Fail;
 
 /// An edit that sets a plain file with this content, or that removes what stands at the path.
-fn edit(alloc: Global, path: &[u8], content: Option<&[u8]>) -> Result<Edit, PathFault> {
+pub(crate) fn edit(alloc: Global, path: &[u8], content: Option<&[u8]>) -> Result<Edit, PathFault> {
     let path = read_path(alloc, path)?;
     Ok(match content {
         Some(content) => Edit::Set {

@@ -6,7 +6,7 @@ ghost use Rattle.bf_forest.specs.Trees.{tree_name, with_directories, entries_of,
 
 use crate::edits::Edit;
 use crate::entries::FileEntry;
-use crate::nodes::Entries;
+use crate::nodes::Numbers;
 use crate::pool::Trees;
 use bf_grammar::Oid;
 use std::alloc::{AllocError, AllocFailed, Global};
@@ -52,7 +52,7 @@ impl Model for Forest {
 
     ghost Value = { Pool };
 
-    ghost view = { λ f. record { trees = f.trees; limit = f.limit } };
+    ghost view = { λ f. record { trees = f.trees.trees; limit = f.limit } };
 }
 
 impl Forest {
@@ -62,7 +62,7 @@ impl Forest {
         ensures { IfOk result (λ forest. forest ≡ record { trees = [] ∷ []; limit = limit }) }
     {
         let mut trees = Trees::new(alloc);
-        trees.add(Entries::new(alloc))?;
+        trees.add(Numbers::new(alloc))?;
         Ok(Forest { trees, limit })
     }
 
@@ -111,14 +111,14 @@ impl Forest {
 
 /// Adds the tree after edits, and answers its number. After a refusal some trees may have been added.
 fn joined(trees: &mut Trees, limit: u32, tree: u32, edits: &[Edit]) -> Result<u32, ForestFault>
-    requires { tree < length trees.old }
-    ensures pool { OnOk result (trees.new ≡ with_directories trees.old (edited (files_at trees.old tree) edits.now)) }
-    ensures number { IfOk result (λ number. number < length trees.new) }
-    ensures files { IfOk result (λ number. files_at trees.new number ≡ edited (files_at trees.old tree) edits.now) }
-    ensures within { OnOk result (entries_of trees.new ≤ limit) }
+    requires { tree < length trees.old.trees }
+    ensures pool { OnOk result (trees.new.trees ≡ with_directories trees.old.trees (edited (files_at trees.old.trees tree) edits.now)) }
+    ensures number { IfOk result (λ number. number < length trees.new.trees) }
+    ensures files { IfOk result (λ number. files_at trees.new.trees number ≡ edited (files_at trees.old.trees tree) edits.now) }
+    ensures within { OnOk result (entries_of trees.new.trees ≤ limit) }
     ensures too_many { IsErrOf result ForestFault.TooMany
-        → limit < entries_of (with_directories trees.old (edited (files_at trees.old tree) edits.now)) }
-    ensures kept { take (length trees.old) trees.new ≡ trees.old }
+        → limit < entries_of (with_directories trees.old.trees (edited (files_at trees.old.trees tree) edits.now)) }
+    ensures kept { take (length trees.old.trees) trees.new.trees ≡ trees.old.trees }
 {
     let number = trees.join(tree as usize, edits)?;
     if trees.entries() > u64::from(limit) {

@@ -1,8 +1,8 @@
 -- How a commit stands in a history: its name, its place, and the limits.
-use Rattle.std.proofs.Common.{◌≡◌, ℕ, ◌<◌, ◌≤◌, nat_lt, Bool, true, false, List, [], length, map, Option, Some, None, if◌then◌else◌, Result, Ok, Err, IfOk, refl, sym, ◌∙◌, ap, subst}
+use Rattle.std.proofs.Common.{◌≡◌, ℕ, ◌+◌, ◌<◌, ◌≤◌, nat_lt, Bool, true, false, List, [], ◌∷◌, ◌++◌, length, length-append, get_or, All, map, Option, Some, None, if◌then◌else◌, Result, Ok, Err, IfOk, refl, sym, ◌∙◌, ap, subst, arith}
 use Rattle.std.specs.List.{slice_index_or}
 use Rattle.std.proofs.lemmas.Bool.{lt-ltb, le-ltb}
-use Rattle.bf_grammar.specs.declared.fault.Limit.TheVariants.{Entries}
+use Rattle.bf_grammar.specs.declared.fault.Limit.TheVariants.{Commits, Entries}
 use Rattle.bf_grammar.specs.declared.fault.Limits.{Limits}
 use Rattle.bf_grammar.specs.declared.object.Kind.TheVariants as kind
 use Rattle.bf_grammar.specs.declared.object.Oid.{Oid}
@@ -17,7 +17,9 @@ use Rattle.bf_history.specs.Bodies.{Saying, commit_body, subject_of}
 use Rattle.bf_history.specs.Imports.{Means}
 use Rattle.bf_history.specs.Meanings.{History, Commit, commit_on, stood, with_commit, within_limits, place_named, place_of_commit}
 use Rattle.bf_history.proofs.Meant.{means_alike}
-use Rattle.bf_import.specs.Kept.{within_entries, within_commits, refusal_of}
+use Rattle.bf_history.specs.declared.marked.Marked.{Marked}
+use Rattle.bf_history.specs.declared.marked.Marked.TheVariants as marked
+use Rattle.bf_import.specs.Kept.{StandsBelow, within_entries, within_commits, refusal_of}
 
 ok_same : {X E : Type 0} (x y : X) → (let r : Result X E = Ok x in r) ≡ Ok y → x ≡ y
 ok_same x y e = cc
@@ -159,3 +161,22 @@ module _ (limits : Limits) (history : History) (parents : List ℕ) (files : Fil
     unfolding place_of_commit
     stands_last is place last =
         last ∙ ap (λ (h : History). length h.names) (sym grown_is) ∙ sym (rw (known None (sym is)) refl)
+
+-- ---- the limit on commits, and the marks
+
+-- one commit more is past the limit
+pub one_too_many : (most place : ℕ) (names : List Oid) (name : Oid) (history : History) → place ≡ length names → most ≤ place
+    → history.names ≡ names ++ name ∷ [] → within_commits most history ≡ Err (TooLarge Commits)
+one_too_many most place names name history at full e =
+    let count : length history.names ≡ length names + 1 = ap (λ (l : List Oid). length l) e ∙ length-append names (name ∷ []) in
+    let high : nat_lt most (length history.names) ≡ true = lt-ltb most (length history.names) (omega (arith, count, at, full)) in
+    rw high refl
+
+below_more : (m n : ℕ) (what : Marked) → m ≤ n → StandsBelow m what → StandsBelow n what
+below_more m n (marked.Commit place) more h = omega (arith, more, h)
+below_more m n (marked.Blob name) more h = tt
+below_more m n marked.Tag more h = tt
+
+-- marks that stand still do where there are more commits
+pub marks_kept : (m n : ℕ) (marks : List (ℕ × Marked)) → m ≤ n → All (λ mark. StandsBelow m mark.1) marks → All (λ mark. StandsBelow n mark.1) marks
+marks_kept m n marks more h = λ k d l. below_more m n (get_or marks k d).1 more (h k d l)

@@ -1,4 +1,4 @@
--- How a search begins: with the ends that words name, and the commits that --skip names.
+-- How a search begins: with the ends that words name or with a log that is replayed, and the commits that --skip names.
 use Rattle.std.specs.Prelude.{ℕ, Bool, ◌&&◌, nat_lt, if◌then◌else◌, List, [], ◌∷◌, ◌++◌, length, map, Option, Some, None, is_some, Result, Ok, Err}
 use Rattle.bf_grammar.specs.declared.object.Oid.{Oid}
 use Rattle.bf_history.specs.Meanings.{History}
@@ -10,9 +10,13 @@ use Rattle.bf_search.specs.declared.outcomes.Mark.TheVariants.{Skip}
 use Rattle.bf_search.specs.Candidates.{places_of}
 use Rattle.bf_search.specs.State.{Search, ask, mark}
 use Rattle.bf_state.specs.Session.{begun}
-use Rattle.bf_texts.specs.Texts.{Commits, Sides, standard_sides, with_goods}
+use Rattle.bf_logs.specs.Replay.{Replayed}
+use Rattle.bf_logs.specs.Written.{known_after_all}
+use Rattle.bf_shelf.specs.declared.shelf.LoadFault.{LoadFault}
+use Rattle.bf_texts.specs.Texts.{Commits, Sides, Known, nothing_known, standard_sides, log_from, with_goods}
 use Rattle.bf_words.specs.declared.request.Request.{Request}
 use Rattle.bf_words.specs.Words.{word_at}
+use Rattle.bf_output.specs.Logs.{replayed_log}
 use Rattle.bf_output.specs.Refusals.{name_refused, waiting}
 use Rattle.bf_output.specs.Told.{Told, ◌>>=◌}
 
@@ -20,11 +24,17 @@ use Rattle.bf_output.specs.Told.{Told, ◌>>=◌}
 abbrev pub commits_of : History → Commits
 commits_of history = record { names = map (λ (name : Oid). name.0) history.names; subjects = history.subjects }
 
--- a search that has begun: the words for its sides, what is known, and its entries so far
+-- a search that has begun: the words for its sides, which ends the log that stands already makes known, the search, and
+-- the entries that follow that log
 pub record Begun : Type 0 where
   pub sides : Sides
+  pub known : Known
   pub search : Search
   pub entries : List Entry
+
+-- the lines of a log that goes on from the one that stands already
+abbrev pub log_on : History → Begun → List Entry → List ℕ
+log_on history first entries = log_from (commits_of history) first.sides first.known (first.entries ++ entries)
 
 -- ---- names
 
@@ -73,6 +83,7 @@ sides_or_standard (Some sides) = sides
 abbrev pub between_ends : Request → ℕ → Option ℕ → List ℕ → Begun
 between_ends request len bad goods = record {
   sides = sides_or_standard request.terms;
+  known = nothing_known;
   search = begun len request.first_parent bad goods;
   entries = Start request.first_parent (is_some request.terms) bad (with_goods [] goods) ∷ [];
 }
@@ -83,6 +94,23 @@ begun_by_words request words history =
     named_if_given history words request.bad
     >>= λ bad. all_named history words request.goods
     >>= λ goods. Ok (between_ends request (length history.parents) bad goods)
+
+-- a search that goes on from a replayed log, whose lines stand already
+abbrev pub begun_behind : Replayed → Begun
+begun_behind replayed = record {
+  sides = replayed.terms;
+  known = known_after_all nothing_known replayed.told.entries;
+  search = replayed.told.search;
+  entries = [];
+}
+
+unfoldable pub begun_by_log : History → Result (List ℕ) LoadFault → Result Begun Told
+begun_by_log history file = replayed_log history file >>= λ replayed. Ok (begun_behind replayed)
+
+-- by the words, or where they name a log by its file
+abbrev pub begun_by : Request → List (List ℕ) → Option (Result (List ℕ) LoadFault) → History → Result Begun Told
+begun_by request words None history = begun_by_words request words history
+begun_by request words (Some file) history = begun_by_log history file
 
 -- A place is skipped, whatever is asked: the skipped merge bases that the question passes over come before its entry.
 abbrev pub with_skip : List (List ℕ) → Begun → ℕ → Begun
@@ -103,10 +131,10 @@ abbrev pub with_ends : Begun → Result Begun Told
 with_ends first =
     if has_ends first.search then Ok first else Err (waiting first.sides (is_some first.search.bad) (length first.search.goods))
 
--- the ends are tried first, then the words of --skip, and then whether an end is missing
-unfoldable pub begun_with_skips : Request → List (List ℕ) → History → Result Begun Told
-begun_with_skips request words history =
-    begun_by_words request words history
+-- the ends or the log are tried first, then the words of --skip, and then whether an end is missing
+unfoldable pub begun_with_skips : Request → List (List ℕ) → Option (Result (List ℕ) LoadFault) → History → Result Begun Told
+begun_with_skips request words file history =
+    begun_by request words file history
     >>= λ first. all_meant history words request.skips
     >>= λ ps. with_ends first
     >>= λ whole. Ok (with_skips history.parents whole ps)

@@ -7,3 +7,5 @@ pub mod Next
 pub mod Gen
 pub mod Sample
 pub mod Output
+pub mod Logs
+pub mod Replay

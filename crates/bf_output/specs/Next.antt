@@ -1,5 +1,5 @@
 -- The command `next`: what a search would test next.
-use Rattle.std.specs.Prelude.{ℕ, List, [], ◌∷◌, ◌++◌, map, Result, Ok}
+use Rattle.std.specs.Prelude.{ℕ, List, [], ◌∷◌, ◌++◌, map, Option, Result, Ok}
 use Rattle.bf_history.specs.Meanings.{History}
 use Rattle.bf_search.specs.declared.asks.Ask.{Ask}
 use Rattle.bf_search.specs.declared.asks.Ask.TheVariants as ask
@@ -7,9 +7,10 @@ use Rattle.bf_search.specs.declared.asks.Step.{Step}
 use Rattle.bf_search.specs.declared.entries.Entry.{Entry}
 use Rattle.bf_search.specs.declared.entries.Entry.TheVariants.{SkippedBase, FirstBadFound, OnlySkippedLeft}
 use Rattle.bf_search.specs.State as searches
-use Rattle.bf_texts.specs.Texts.{log, ask_lines}
+use Rattle.bf_shelf.specs.declared.shelf.LoadFault.{LoadFault}
+use Rattle.bf_texts.specs.Texts.{ask_lines}
 use Rattle.bf_words.specs.declared.request.Request.{Request}
-use Rattle.bf_output.specs.Beginning.{Begun, commits_of, begun_with_skips}
+use Rattle.bf_output.specs.Beginning.{Begun, commits_of, log_on, begun_with_skips}
 use Rattle.bf_output.specs.Simulate.{status_of_ask}
 use Rattle.bf_output.specs.Told.{Told, ◌>>=◌}
 
@@ -32,11 +33,11 @@ asked_entries step = map SkippedBase step.warned ++ end_entries step.ask
 abbrev pub asked_once : History → Begun → Step → Told
 asked_once history first step = record {
   status = status_of_ask step.ask;
-  text = log (commits_of history) first.sides (first.entries ++ asked_entries step)
+  text = log_on history first (asked_entries step)
       ++ ask_lines (commits_of history) first.sides step.ask;
 }
 
-unfoldable pub next_told : Request → List (List ℕ) → History → Result Told Told
-next_told request words history =
-    begun_with_skips request words history
+unfoldable pub next_told : Request → List (List ℕ) → Option (Result (List ℕ) LoadFault) → History → Result Told Told
+next_told request words file history =
+    begun_with_skips request words file history
     >>= λ first. Ok (asked_once history first (searches.ask history.parents first.search).step)

@@ -1,6 +1,6 @@
--- What the program answers for its words and its stream, in the order of its refusals: the words, the stream to its end, the
--- names, an end that is missing, and then the run.
-use Rattle.std.specs.Prelude.{◌≡◌, ℕ, ◌==◌, Bool, true, false, ◌&&◌, not, List, Option, IfSome, is_some, Result, Ok, Err}
+-- What the program answers for its words, its stream and its files, in the order of its refusals: the words, the stream to its
+-- end, the log that is replayed, the names, an end that is missing, and then the run.
+use Rattle.std.specs.Prelude.{◌≡◌, ℕ, ◌==◌, Bool, true, false, ◌&&◌, not, List, Option, Some, None, IfSome, is_some, Result, Ok, Err}
 use Rattle.bf_grammar.specs.Limits.{standard_limits}
 use Rattle.bf_history.specs.declared.fault.ImportFault.{ImportFault}
 use Rattle.bf_history.specs.Imports.{Loads}
@@ -8,10 +8,15 @@ use Rattle.bf_history.specs.Meanings.{History}
 use Rattle.bf_words.specs.declared.request.Request.{Request}
 use Rattle.bf_words.specs.declared.verb.Verb.{Verb}
 use Rattle.bf_words.specs.declared.verb.Verb.TheVariants.{Simulate, Run, Next, Replay, Gen, Sample}
-use Rattle.bf_words.specs.Words.{request}
+use Rattle.bf_shelf.specs.declared.shelf.LoadFault.{LoadFault}
+use Rattle.bf_shelf.specs.declared.shelf.ShelfFile.{ShelfFile}
+use Rattle.bf_shelf.specs.Files.{loaded}
+use Rattle.bf_words.specs.Words.{request, word_at}
 use Rattle.bf_output.specs.Gen.{generated, made_stream}
+use Rattle.bf_output.specs.Logs.{longest_log}
 use Rattle.bf_output.specs.Next.{next_told}
 use Rattle.bf_output.specs.Refusals.{usage, refusal, unbuilt}
+use Rattle.bf_output.specs.Replay.{replay_told}
 use Rattle.bf_output.specs.Sample.{sampled}
 use Rattle.bf_output.specs.Simulate.{simulated}
 use Rattle.bf_output.specs.Told.{Told, told_by}
@@ -21,31 +26,45 @@ abbrev pub is_built_verb : Verb → Bool
 is_built_verb Simulate = true
 is_built_verb Run = false
 is_built_verb Next = true
-is_built_verb Replay = false
+is_built_verb Replay = true
 is_built_verb Gen = true
 is_built_verb Sample = true
 
 abbrev pub is_built : Request → Bool
 is_built request =
-    is_built_verb request.verb && not (is_some request.replay) && (request.leg == 0) && not request.trace
+    is_built_verb request.verb && (request.leg == 0) && not request.trace
 
 -- what the program is given beside its stream
 pub record Given : Type 0 where
   pub words : List (List ℕ)
+  pub files : Option (List ShelfFile)  -- where the shelf tells them
 
 -- ---- over a history
 
--- what a command answers over a history; `gen` looks at none
-abbrev pub IsOver : Verb → Request → Given → History → Told → Type 0
-IsOver Simulate request given history told = told ≡ told_by (simulated request given.words history)
-IsOver Run request given history told = told ≡ unbuilt
-IsOver Next request given history told = told ≡ told_by (next_told request given.words history)
-IsOver Replay request given history told = told ≡ unbuilt
-IsOver Gen request given history told = told ≡ generated request
-IsOver Sample request given history told = told ≡ sampled request history
+-- what a command answers over a history and the file that it is given; `gen` looks at none
+abbrev pub IsOverFile : Verb → Request → List (List ℕ) → Option (Result (List ℕ) LoadFault) → History → Told → Type 0
+IsOverFile Simulate request words file history told = told ≡ told_by (simulated request words file history)
+IsOverFile Run request words file history told = told ≡ unbuilt
+IsOverFile Next request words file history told = told ≡ told_by (next_told request words file history)
+IsOverFile Replay request words file history told = told ≡ told_by (replay_told file history)
+IsOverFile Gen request words file history told = told ≡ generated request
+IsOverFile Sample request words file history told = told ≡ sampled request history
+
+-- what the shelf gives for the word of a log
+abbrev pub file_of : List (List ℕ) → ℕ → List ShelfFile → Result (List ℕ) LoadFault
+file_of words i files = loaded files (word_at words i) longest_log
+
+-- Where the words name a log, the shelf gives it; where it does not tell its files, nothing is said of the answer.
+abbrev pub IsOverLog : Option ℕ → Request → Given → History → Told → Type 0
+IsOverLog None request given history told = IsOverFile request.verb request given.words None history told
+IsOverLog (Some i) request given history told =
+    IfSome given.files (λ files. IsOverFile request.verb request given.words (Some (file_of given.words i files)) history told)
+
+abbrev pub IsOver : Request → Given → History → Told → Type 0
+IsOver request given history told = IsOverLog request.replay request given history told
 
 abbrev pub IsOverLoaded : Request → Given → Result History ImportFault → Told → Type 0
-IsOverLoaded request given (Ok history) told = IsOver request.verb request given history told
+IsOverLoaded request given (Ok history) told = IsOver request given history told
 IsOverLoaded request given (Err fault) told = told ≡ refusal fault
 
 -- the bytes of a stream are read to its end
@@ -92,3 +111,8 @@ IsOutput given stream told = IsOutputFor (request given.words) given stream told
 abbrev pub reads : Result Request ℕ → Bool
 reads (Err word) = false
 reads (Ok request) = reads_stream request.verb
+
+-- whether the words ask for a file
+abbrev pub asks_file : Result Request ℕ → Bool
+asks_file (Err word) = false
+asks_file (Ok request) = is_some request.replay

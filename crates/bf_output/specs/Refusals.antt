@@ -1,5 +1,5 @@
 -- The refusals of the program, each with its status and its line.
-use Rattle.std.specs.Prelude.{ℕ, Bool, List, [], ◌++◌, codes}
+use Rattle.std.specs.Prelude.{ℕ, Bool, [], ◌++◌, codes}
 use Rattle.std.specs.Fmt.{decimal}
 use Rattle.bf_grammar.specs.declared.fault.Limit.{Limit}
 use Rattle.bf_grammar.specs.declared.fault.StreamFault.{StreamFault}
@@ -38,6 +38,15 @@ waiting sides bad good_count = record { status = status.Waiting; text = text_lin
 
 abbrev pub read_fault : Told
 read_fault = record { status = status.ReadFault; text = codes "read fault\n" }
+
+unfoldable pub log_refused : ℕ → Told
+log_refused line = record { status = status.LogRefused line; text = text_line (codes "log refused at line " ++ decimal line) }
+
+abbrev pub no_file : Told
+no_file = record { status = status.NoFile; text = codes "no such file\n" }
+
+abbrev pub file_fault : Told
+file_fault = record { status = status.ShelfFault; text = codes "file fault\n" }
 
 -- no line says that memory ran out
 abbrev pub no_memory : Told

@@ -1,5 +1,5 @@
 -- The command `simulate`: a search over a plan that is written as letters.
-use Rattle.std.specs.Prelude.{ℕ, Bool, if◌then◌else◌, List, [], ◌++◌, map, Option, Some, None, unwrap_or, Result, Ok}
+use Rattle.std.specs.Prelude.{ℕ, Bool, if◌then◌else◌, List, Option, [], ◌++◌, map, unwrap_or, Result, Ok}
 use Rattle.bf_history.specs.Meanings.{History}
 use Rattle.bf_search.specs.declared.asks.Ask.{Ask}
 use Rattle.bf_search.specs.declared.asks.Ask.TheVariants as ask
@@ -7,12 +7,13 @@ use Rattle.bf_search.specs.declared.outcomes.Outcome.{Outcome}
 use Rattle.bf_search.specs.declared.outcomes.Outcome.TheVariants.{Exit}
 use Rattle.bf_search.specs.Outcomes.{lenient, outcome_of_letter, outcomes_of_plan}
 use Rattle.bf_search.specs.Run.{End, Answered, Leg, Open, Aborted, Run, seq}
-use Rattle.bf_texts.specs.Texts.{log, answer_lines}
+use Rattle.bf_shelf.specs.declared.shelf.LoadFault.{LoadFault}
+use Rattle.bf_texts.specs.Texts.{answer_lines}
 use Rattle.bf_words.specs.declared.request.Request.{Request}
 use Rattle.bf_words.specs.Words.{word_or}
 use Rattle.bf_output.specs.declared.status.Status.{Status}
 use Rattle.bf_output.specs.declared.status.Status.TheVariants as status
-use Rattle.bf_output.specs.Beginning.{Begun, commits_of, begun_with_skips}
+use Rattle.bf_output.specs.Beginning.{Begun, commits_of, log_on, begun_with_skips}
 use Rattle.bf_output.specs.Told.{Told, ◌>>=◌}
 
 -- ---- the plan
@@ -51,12 +52,12 @@ status_of_end (Aborted p outcome) = status.Aborted
 abbrev pub ran : History → Begun → Run → Told
 ran history first run = record {
   status = status_of_end run.end;
-  text = log (commits_of history) first.sides (first.entries ++ run.entries) ++ answer_lines (commits_of history) first.sides run.end;
+  text = log_on history first run.entries ++ answer_lines (commits_of history) first.sides run.end;
 }
 
 abbrev pub run_over : History → Begun → List Outcome → Run
 run_over history first plan = seq history.parents first.search (outcomes_of_plan plan) 0
 
-unfoldable pub simulated : Request → List (List ℕ) → History → Result Told Told
-simulated request words history =
-    begun_with_skips request words history >>= λ first. Ok (ran history first (run_over history first (plan_of request words)))
+unfoldable pub simulated : Request → List (List ℕ) → Option (Result (List ℕ) LoadFault) → History → Result Told Told
+simulated request words file history =
+    begun_with_skips request words file history >>= λ first. Ok (ran history first (run_over history first (plan_of request words)))

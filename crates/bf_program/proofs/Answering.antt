@@ -5,8 +5,8 @@ use Rattle.bf_output.specs.declared.status.Status.{Status}
 use Rattle.bf_output.specs.declared.status.Status.TheVariants as status
 use Rattle.bf_program.specs.declared.answer.Answer.{Answer}
 use Rattle.bf_program.specs.declared.answer.Cut.{Cut}
-use Rattle.bf_program.specs.declared.answer.Cut.TheVariants.{Read, NoMemory}
-use Rattle.bf_program.specs.Answers.{Met, HasFailed, OutputOf, IsUnread, IsDue, Answers, IsWhole}
+use Rattle.bf_program.specs.declared.answer.Cut.TheVariants.{Read, Shelf, NoMemory}
+use Rattle.bf_program.specs.Answers.{Met, HasFailed, OutputOf, IsUnread, IsUnloaded, IsDue, Answers, IsWhole}
 use Rattle.bf_program.specs.Writes.{IsTold, IsWritten}
 
 whole_answer : (met : Met) (text : List ℕ) (s : Status) → IsWhole s → OutputOf met.given met.left s text → Appends met.before met.after text → Answers met s
@@ -44,18 +44,29 @@ written_answer met text s result w o (inr (e, front)) = cut_answer met text resu
 written_fault : (met : Met) (result : Status) → IsUnread met
     → IsTold met.before met.after (Err Read) result → Answers met result
 written_fault met result unread (inl (e, a)) = subst (Answers met) (sym e) (unread, a)
-written_fault met result unread (inr (e, front)) = cut_answer met _ result (inr (unread, refl)) e front
+written_fault met result unread (inr (e, front)) = cut_answer met _ result (inr (inl (unread, refl))) e front
+
+written_shelf : (met : Met) (result : Status) → IsUnloaded met
+    → IsTold met.before met.after (Err Shelf) result → Answers met result
+written_shelf met result unloaded (inl (e, a)) = subst (Answers met) (sym e) (unloaded, a)
+written_shelf met result unloaded (inr (e, front)) = cut_answer met _ result (inr (inr (unloaded, refl))) e front
 
 pub answered : (met : Met) (answer : Result Answer Cut) (result : Status)
     → IfOk answer (λ a. OutputOf met.given met.left a.status a.text) → IfOk answer (λ a. IsWhole a.status)
-    → (IsErrOf answer Read → IsUnread met) → IsTold met.before met.after answer result → Answers met result
-answered met (Ok answer) result output whole unread told = written_answer met answer.text answer.status result whole output told
-answered met (Err Read) result output whole unread told = written_fault met result (unread refl) told
-answered met (Err NoMemory) result output whole unread (e, kept) = subst (Answers met) (sym e) (inl kept)
+    → (IsErrOf answer Read → IsUnread met) → (IsErrOf answer Shelf → IsUnloaded met) → IsTold met.before met.after answer result
+    → Answers met result
+answered met (Ok answer) result output whole unread unloaded told = written_answer met answer.text answer.status result whole output told
+answered met (Err Read) result output whole unread unloaded told = written_fault met result (unread refl) told
+answered met (Err Shelf) result output whole unread unloaded told = written_shelf met result (unloaded refl) told
+answered met (Err NoMemory) result output whole unread unloaded (e, kept) = subst (Answers met) (sym e) (inl kept)
 
 -- a read fault is answered only where the source failed
 pub read_cause : (met : Met) (result : Status) → Answers met result → result ≡ status.ReadFault → HasFailed met.stream
 read_cause met result answers e = (subst (Answers met) e answers).0.1
+
+-- a fault of the shelf is answered only where it failed
+pub shelf_cause : (met : Met) (result : Status) → Answers met result → result ≡ status.ShelfFault → HasFailed met.shelf
+shelf_cause met result answers e = (subst (Answers met) e answers).0.1
 
 -- a whole answer has another status than a write that failed
 pub write_cause : (R : Type 0) (s : Status) → IsWhole s → (s ≡ status.WriteFault) ⊎ R → R

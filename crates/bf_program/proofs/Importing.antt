@@ -7,15 +7,20 @@ use Rattle.bf_history.specs.declared.fault.ImportFault.TheVariants as faults
 use Rattle.bf_history.specs.Imports.{MayImport}
 use Rattle.bf_history.specs.Meanings.{History}
 use Rattle.bf_words.specs.declared.request.Request.{Request}
-use Rattle.bf_output.specs.Output.{Given, IsOver, IsOverStream}
+use Rattle.bf_output.specs.Output.{Given, IsOver, IsOverFile, IsOverLog, IsOverStream}
 use Rattle.bf_output.specs.Refusals.{refusal}
 use Rattle.bf_output.specs.Told.{Told}
+use Rattle.bf_shelf.specs.declared.shelf.LoadFault.{LoadFault}
+use Rattle.bf_shelf.specs.declared.shelf.ShelfFile.{ShelfFile}
+use Rattle.std.specs.Option.{option_map}
+use Rattle.bf_program.specs.declared.file.LogFile.{LogFile}
+use Rattle.bf_program.specs.Files.{given_of, IsFileOf}
 use Rattle.bf_program.specs.declared.answer.Answer.{Answer}
 use Rattle.bf_program.specs.Answers.{IsWhole}
 use Rattle.bf_program.specs.Tellings.{told_of}
 
 pub loaded : (request : Request) (given : Given) (left : Option (List ℕ)) (history : History) (told : Told)
-    → MayImport left standard_limits (Ok history) → IsOver request.verb request given history told
+    → MayImport left standard_limits (Ok history) → IsOver request given history told
     → IsOverStream request given left told
 loaded request given None history told may is = tt
 loaded request given (Some bytes) history told may is = (Ok history, may, is)
@@ -33,3 +38,16 @@ pub refused : {E : Type 0} (request : Request) (given : Given) (left : Option (L
 refused request given left fault (Err e) may whole is = tt
 refused request given None fault (Ok answer) may whole is = tt
 refused request given (Some bytes) fault (Ok answer) may whole is = refused_of request given bytes fault (told_of answer) may whole is
+
+-- from the file that the shelf gave
+pub over_file : (replay : Option ℕ) (request : Request) (words : List (List ℕ)) (files : Option (List ShelfFile)) (history : History)
+    (file : Option LogFile) (told : Told) → IsFileOf files words replay file
+    → IsOverFile request.verb request words (option_map given_of file) history told
+    → IsOverLog replay request (record { words = words; files = files }) history told
+over_file None request words files history file told is over =
+    let P : Option LogFile → Type 0 = λ f. IsOverFile request.verb request words (option_map given_of f) history told in
+    subst P is over
+over_file (Some i) request words None history file told is over = tt
+over_file (Some i) request words (Some files) history file told is over =
+    let P : Option (Result (List ℕ) LoadFault) → Type 0 = λ f. IsOverFile request.verb request words f history told in
+    subst P is over

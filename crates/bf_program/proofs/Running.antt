@@ -13,23 +13,23 @@ use Rattle.bf_search.specs.declared.entries.Entry.{Entry}
 use Rattle.bf_search.specs.declared.outcomes.Outcome.{Outcome}
 use Rattle.bf_search.specs.Run.{End}
 use Rattle.bf_state.specs.Session.{Session}
-use Rattle.bf_texts.specs.Texts.{Sides, log, answer_lines}
+use Rattle.bf_texts.specs.Texts.{Sides, Known, log_from, answer_lines}
 
--- a text of entries and an end
-abbrev pub written : History → Sides → List Entry → End → Told
-written history sides entries end = record {
+-- a text of entries behind what is known, and of an end
+abbrev pub written : History → Known → Sides → List Entry → End → Told
+written history known sides entries end = record {
   status = status_of_end end;
-  text = log (commits_of history) sides entries ++ answer_lines (commits_of history) sides end;
+  text = log_from (commits_of history) sides known entries ++ answer_lines (commits_of history) sides end;
 }
 
 -- the text of what the run over a plan left
-pub ran_over : (history : History) (first : Beginning) (plan : List Outcome) (leg : ℕ) (left : Planned) (sides : Sides) (entries : List Entry)
-    → IsRunOver history.parents first.state plan leg left → leg ≡ 0 → sides ≡ left.state.terms → entries ≡ first.entries.items ++ left.entries.items
-    → written history sides entries (ending_of left.end) ≡ ran history (begun_of first) (run_over history (begun_of first) plan)
-ran_over history first plan leg left sides entries is none terms e =
+pub ran_over : (history : History) (first : Beginning) (plan : List Outcome) (leg : ℕ) (left : Planned)
+    → IsRunOver history.parents first.state plan leg left → leg ≡ 0
+    → written history first.known left.state.terms (first.entries.items ++ left.entries.items) (ending_of left.end)
+    ≡ ran history (begun_of first) (run_over history (begun_of first) plan)
+ran_over history first plan leg left is none =
     let over = subst (λ (k : ℕ). IsRunOver history.parents first.state plan k left) none is in
-    ap (λ (t : Sides). written history t entries (ending_of left.end)) terms
-    ∙ ap (λ (s : Session). written history s.terms entries (ending_of left.end)) over.state
-    ∙ ap (λ (es : List Entry). written history first.state.terms es (ending_of left.end))
-    (e ∙ ap (λ (es : List Entry). first.entries.items ++ es) over.entries)
-    ∙ ap (λ (x : End). written history first.state.terms (first.entries.items ++ (run_over history (begun_of first) plan).entries) x) over.end
+    let known = first.known in
+    ap (λ (s : Session). written history known s.terms (first.entries.items ++ left.entries.items) (ending_of left.end)) over.state
+    ∙ ap (λ (es : List Entry). written history known first.state.terms (first.entries.items ++ es) (ending_of left.end)) over.entries
+    ∙ ap (λ (x : End). written history known first.state.terms (first.entries.items ++ (run_over history (begun_of first) plan).entries) x) over.end

@@ -1,8 +1,13 @@
 -- Skips one after the other, and the places of entries.
-use Rattle.std.proofs.Common.{◌≡◌, ℕ, ◌+◌, ◌<◌, ◌≤◌, Bool, List, [], ◌∷◌, ◌++◌, length, drop, map, get_or, Result, Ok, Err, OnOk, sym, ap, subst}
+use Rattle.std.proofs.Common.{◌≡◌, ℕ, ◌+◌, ◌<◌, ◌≤◌, Bool, List, [], ◌∷◌, ◌++◌, length, drop, map, get_or, Option, Some, None, IfSome, Result, Ok, Err, OnOk, sym, ap, subst, ◌∙◌}
 use Rattle.std.proofs.lemmas.List.{drop_all}
 use Rattle.std.proofs.lemmas.List.Elements.{All-append, All-filter, All-map, All-push}
 use Rattle.std.specs.List.{All, range_with_len}
+use Rattle.std.specs.Option.{ForSome}
+use Rattle.bf_log.specs.declared.state.Standing.{Standing}
+use Rattle.bf_log.specs.StateLines.{AreStanding}
+use Rattle.bf_search.specs.State.{Search}
+use Rattle.bf_state.specs.Session.{IsSearchBelow}
 use Rattle.bf_log.specs.Labels.{IsEntryWithin}
 use Rattle.bf_search.specs.declared.entries.Entry.{Entry}
 use Rattle.bf_search.specs.declared.entries.Entry.TheVariants.{Marked, SkippedBase}
@@ -48,3 +53,17 @@ pub both_within : (a b c : ℕ) (xs ys zs : List Entry) → zs ≡ xs ++ ys → 
 both_within a b c xs ys zs e one other h k =
     subst (λ (es : List Entry). All (IsEntryWithin c) es) (sym e)
     (All-append (IsEntryWithin c) xs ys (subst (λ (n : ℕ). All (IsEntryWithin n) xs) one h) (subst (λ (n : ℕ). All (IsEntryWithin n) ys) other k))
+
+-- the places that a state knows are within
+pub standing_within : (n len : ℕ) (s : Standing) (search : Search) → len ≡ n → IsSearchBelow len search → s.bad ≡ search.bad
+    → s.goods.now ≡ search.goods → s.skipped.now ≡ places_of search.skips → AreStanding n s
+standing_within n len s search e below bad goods skipped = record {
+  bad = subst (λ (o : Option ℕ). ForSome o (λ p. p < n)) (sym bad) (bad_within search.bad below.bad);
+  goods = subst (λ (ps : List ℕ). All (λ p. p < n) ps) (sym goods) (subst (λ (m : ℕ). All (λ p. p < m) search.goods) e below.goods);
+  skipped = subst (λ (ps : List ℕ). All (λ p. p < n) ps) (sym skipped)
+      (subst (λ (m : ℕ). All (λ p. p < m) (places_of search.skips)) (below.skips ∙ e) (row_within search.skips));
+}
+  where
+    bad_within : (o : Option ℕ) → IfSome o (λ p. p < len) → ForSome o (λ p. p < n)
+    bad_within None h = λ x is. cc
+    bad_within (Some p) h = λ x is. let same : p ≡ x = cc in subst (λ (q : ℕ). q < n) same (subst (λ (m : ℕ). p < m) e h)

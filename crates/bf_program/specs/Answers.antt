@@ -4,8 +4,8 @@ use Rattle.bf_io.specs.Causes.{Rose}
 use Rattle.bf_io.specs.Told.{Keeps, Appends, AppendsFront}
 use Rattle.bf_output.specs.declared.status.Status.{Status}
 use Rattle.bf_output.specs.declared.status.Status.TheVariants as status
-use Rattle.bf_output.specs.Output.{Given, IsOutput, reads}
-use Rattle.bf_output.specs.Refusals.{read_fault}
+use Rattle.bf_output.specs.Output.{Given, IsOutput, asks_file, reads}
+use Rattle.bf_output.specs.Refusals.{file_fault, read_fault}
 use Rattle.bf_words.specs.Words.{request}
 
 -- the faults that a device has counted before a call and after it
@@ -16,12 +16,13 @@ pub record Counts : Type 0 where
 abbrev pub HasFailed : Counts → Type 0
 HasFailed counts = Rose counts.before counts.now
 
--- what a call of the program met: what it was given, what its source had left and the faults of it, and what its sink held
--- before and after
+-- what a call of the program met: what it was given, what its source had left, the faults of its source and of its shelf, and
+-- what its sink held before and after
 pub record Met : Type 0 where
   pub given : Given
   pub left : Option (List ℕ)
   pub stream : Counts
+  pub shelf : Counts
   pub before : Option (List ℕ)
   pub after : Option (List ℕ)
 
@@ -33,9 +34,15 @@ OutputOf given left status text = IsOutput given left (record { status = status;
 abbrev pub IsUnread : Met → Type 0
 IsUnread met = IsTrue (reads (request met.given.words)) × HasFailed met.stream
 
--- a text that the program may have been writing; that of a read fault where the source failed
+-- the words ask for a file, and the shelf failed
+abbrev pub IsUnloaded : Met → Type 0
+IsUnloaded met = IsTrue (asks_file (request met.given.words)) × HasFailed met.shelf
+
+-- a text that the program may have been writing; that of a fault where the source or the shelf failed
 abbrev pub IsDue : Met → List ℕ → Type 0
-IsDue met text = ((status : Status) × OutputOf met.given met.left status text) ⊎ (IsUnread met × (text ≡ read_fault.text))
+IsDue met text =
+    ((status : Status) × OutputOf met.given met.left status text)
+    ⊎ ((IsUnread met × (text ≡ read_fault.text)) ⊎ (IsUnloaded met × (text ≡ file_fault.text)))
 
 -- the sink gained exactly the text of the definition, with its status
 abbrev pub IsAnswered : Met → Status → Type 0
@@ -44,6 +51,10 @@ IsAnswered met status = (text : List ℕ) × OutputOf met.given met.left status 
 -- the source could not be read, and the sink gained the line that says so
 abbrev pub IsReadFault : Met → Type 0
 IsReadFault met = IsUnread met × Appends met.before met.after read_fault.text
+
+-- the file could not be loaded, and the sink gained the line that says so
+abbrev pub IsShelfFault : Met → Type 0
+IsShelfFault met = IsUnloaded met × Appends met.before met.after file_fault.text
 
 -- the program was cut short, and the sink gained a front of the text that was due
 abbrev pub IsCutShort : Met → Type 0
@@ -54,7 +65,7 @@ abbrev pub Answers : Met → Status → Type 0
 Answers met status.ReadFault = IsReadFault met
 Answers met status.WriteFault = IsCutShort met
 Answers met status.NoMemory = Keeps met.before met.after ⊎ IsCutShort met
-Answers met status.ShelfFault = ⊥
+Answers met status.ShelfFault = IsShelfFault met
 Answers met status.Done = IsAnswered met status.Done
 Answers met (status.Usage word) = IsAnswered met (status.Usage word)
 Answers met status.OnlySkipped = IsAnswered met status.OnlySkipped

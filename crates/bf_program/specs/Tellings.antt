@@ -10,7 +10,7 @@ abbrev pub told_of : Answer → Told
 told_of answer = record { status = answer.status; text = answer.text }
 
 abbrev pub begun_of : Beginning → Begun
-begun_of first = record { sides = first.state.terms; search = first.state.search; entries = first.entries.items }
+begun_of first = record { sides = first.state.terms; known = first.known; search = first.state.search; entries = first.entries.items }
 
 -- the places of all entries are below the length of the state
 abbrev pub AreWithin : Beginning → Type 0

@@ -21,6 +21,9 @@ pub(crate) enum Cut {
     /// The stream could not be read.
     #[error("the stream could not be read")]
     Read,
+    /// The file of a log could not be read.
+    #[error("the file could not be read")]
+    Shelf,
     /// Memory ran out.
     #[error("out of memory")]
     NoMemory,

@@ -3,27 +3,34 @@ ghost use Rattle.std.specs.Prelude.{◌≡◌, ◌<◌, length, All, IfOk};
 ghost use Rattle.std.specs.Option.{ForSome};
 ghost use Rattle.bf_guesses.specs.Ends.{HasEnds};
 ghost use Rattle.bf_output.specs.Beginning as beginning;
+ghost use Rattle.bf_program.specs.Files.{file_given, given_of};
 ghost use Rattle.bf_program.specs.Steps.{IsStep};
 ghost use Rattle.bf_program.specs.Tellings.{begun_of, AreWithin};
 
 use crate::answer::Stop;
+use crate::file::{LogFile, replay_file};
 use crate::line::Line;
 use crate::named::{all_named, named_if_given};
 use crate::refusals::waiting;
 use crate::skips::all_meant;
 use bf_import::History;
 use bf_io::Word;
+use bf_log::Known;
 use bf_reach::Reach;
+use bf_replay::Replayed;
 use bf_search::Entry;
 use bf_state::State;
 use bf_terms::Terms;
 use bf_words::Request;
 use std::alloc::{AllocError, Global};
 
-/// A search that has begun: its state, with the terms, and the entries so far.
+/// A search that has begun: its state, with the terms, and its entries.
 #[derive(Drop)]
 pub(crate) struct Beginning {
     pub state: State,
+    /// Which ends the log that stands already makes known.
+    pub known: Known,
+    /// The entries that follow it.
     pub entries: Vec<Entry>,
 }
 
@@ -53,7 +60,11 @@ pub(crate) fn between_ends(
         bad,
         goods: state.goods.try_clone()?,
     })?;
-    Ok(Beginning { state, entries })
+    Ok(Beginning {
+        state,
+        known: Known::nothing(alloc),
+        entries,
+    })
 }
 
 /// The search that the words for its ends begin. The bad word is tried first, then the good ones.
@@ -73,6 +84,48 @@ fn begin_by_words(
     Ok(between_ends(alloc, request, history.len(), bad, goods.as_slice())?)
 }
 
+/// The search that the file of a log leads to. The log stands already, so no entry is left to write.
+#[tactic(auto, unfolding(bf_output::specs::Beginning::begun_by_log))]
+fn begin_by_log(
+    alloc: Global,
+    history: &History,
+    reach: &Reach,
+    file: &LogFile,
+) -> Result<Beginning, Stop>
+    requires { reach.now ≡ history.now.parents }
+    ensures step { IsStep begun_of result (beginning.begun_by_log history.now (given_of file.now)) }
+    ensures len { IfOk result (λ first. first.state.len ≡ length history.now.parents) }
+    ensures places { IfOk result AreWithin }
+{
+    let Replayed { state, entries } = replay_file(alloc, history, reach, file)?;
+    let mut known = Known::nothing(alloc);
+    known.learn_all(entries.as_slice())?;
+    Ok(Beginning {
+        state,
+        known,
+        entries: Vec::new(alloc),
+    })
+}
+
+/// The search that the words for its ends begin, or the log that they name.
+fn begin_first(
+    alloc: Global,
+    line: Line<'_>,
+    file: Option<&LogFile>,
+    history: &History,
+    reach: &Reach,
+) -> Result<Beginning, Stop>
+    requires { reach.now ≡ history.now.parents }
+    ensures step { IsStep begun_of result (beginning.begun_by line.entry.request.now line.entry.words.now (file_given file.entry) history.now) }
+    ensures len { IfOk result (λ first. first.state.len ≡ length history.now.parents) }
+    ensures places { IfOk result AreWithin }
+{
+    match file {
+        Some(file) => begin_by_log(alloc, history, reach, file),
+        None => begin_by_words(alloc, line.request, line.words, history),
+    }
+}
+
 /// A search that has both ends, or the answer of one that waits for an end.
 fn with_ends(alloc: Global, first: Beginning) -> Result<Beginning, Stop>
     ensures step { IsStep begun_of result (beginning.with_ends (begun_of first)) }
@@ -84,23 +137,24 @@ fn with_ends(alloc: Global, first: Beginning) -> Result<Beginning, Stop>
     Err(Stop::Refused(waiting(alloc, &first.state)?))
 }
 
-/// The search that words begin: its ends first, then the words of `--skip`, and then whether an end is
+/// The search that words begin: its ends or its log first, then the words of `--skip`, and then whether an end is
 /// missing; then the skips are made.
 #[tactic(auto, unfolding(bf_output::specs::Beginning::begun_with_skips))]
 pub(crate) fn begin(
     alloc: Global,
     line: Line<'_>,
+    file: Option<&LogFile>,
     history: &History,
     reach: &Reach,
 ) -> Result<Beginning, Stop>
     requires { reach.now ≡ history.now.parents }
-    ensures step { IsStep begun_of result (beginning.begun_with_skips line.entry.request.now line.entry.words.now history.now) }
+    ensures step { IsStep begun_of result (beginning.begun_with_skips line.entry.request.now line.entry.words.now (file_given file.entry) history.now) }
     ensures len { IfOk result (λ first. first.state.len ≡ length history.now.parents) }
     ensures places { IfOk result AreWithin }
     ensures ends { IfOk result (λ first. HasEnds first.state.search) }
 {
     let skips = line.request.skips.as_slice();
-    let first = begin_by_words(alloc, line.request, line.words, history)?;
+    let first = begin_first(alloc, line, file, history, reach)?;
     let places = all_meant(alloc, history, reach, line.words, skips)?;
     let mut whole = with_ends(alloc, first)?;
     whole.skip_all(reach, places.as_slice())?;

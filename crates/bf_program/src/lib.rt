@@ -4,12 +4,14 @@
 
 mod answer;
 mod begin;
+mod file;
 mod line;
 mod made;
 mod named;
 mod next;
 mod plan;
 mod refusals;
+mod replay;
 mod sample;
 mod simulate;
 mod skips;
@@ -20,5 +22,7 @@ pub use bf_names::NameFault;
 pub use bf_output::{Status, StreamKind};
 pub use top::{bisect_main, say};
 
+#[cfg(test)]
+mod log_tests;
 #[cfg(test)]
 mod tests;

@@ -3,28 +3,35 @@ ghost use Rattle.std.specs.Prelude.{◌≡◌, ◌++◌, length, IfOk, OnOk};
 ghost use Rattle.bf_search.specs.State as searches;
 ghost use Rattle.bf_output.specs.Next as next;
 ghost use Rattle.bf_program.specs.Answers.{IsWhole};
+ghost use Rattle.bf_program.specs.Files.{file_given};
 ghost use Rattle.bf_program.specs.Steps.{IsStep};
 ghost use Rattle.bf_program.specs.Tellings.{begun_of, told_of, AreWithin};
 
 use crate::answer::{Answer, Stop};
 use crate::begin::{Beginning, begin};
+use crate::file::LogFile;
 use crate::line::Line;
 use crate::tell::{commits_of, sides_of, status_of_ask};
 use bf_import::History;
 use bf_io::Bytes;
-use bf_log::{write_ask, write_entries};
+use bf_log::{write_ask, write_more};
 use bf_reach::Reach;
 use bf_search::{Ask, Entry, Step};
 use std::alloc::{AllocError, Global};
 
 /// The answer of one ask.
 #[tactic(auto, unfolding(bf_output::specs::Next::next_told))]
-pub(crate) fn next(alloc: Global, line: Line<'_>, history: &History) -> Result<Answer, Stop>
-    ensures step { IsStep told_of result (next.next_told line.entry.request.now line.entry.words.now history.now) }
+pub(crate) fn next(
+    alloc: Global,
+    line: Line<'_>,
+    file: Option<&LogFile>,
+    history: &History,
+) -> Result<Answer, Stop>
+    ensures step { IsStep told_of result (next.next_told line.entry.request.now line.entry.words.now (file_given file.entry) history.now) }
     ensures whole { IfOk result (λ answer. IsWhole answer.status) }
 {
     let reach = Reach::build(alloc, history.graph())?;
-    let first = begin(alloc, line, history, &reach)?;
+    let first = begin(alloc, line, file, history, &reach)?;
     Ok(ask_once(alloc, history, &reach, first)?)
 }
 
@@ -68,6 +75,7 @@ fn ask_once(
 {
     let Beginning {
         mut state,
+        mut known,
         mut entries,
     } = first;
     prove!(reach.len() == state.len);
@@ -76,7 +84,7 @@ fn ask_once(
     let commits = commits_of(history);
     let sides = sides_of(&state.terms);
     let mut text = Bytes::new(alloc);
-    write_entries(alloc, commits, sides, entries.as_slice(), &mut text)?;
+    write_more(&mut known, commits, sides, entries.as_slice(), &mut text)?;
     write_ask(commits, sides, &step.ask, &mut text)?;
     Ok(Answer {
         status: status_of_ask(&step.ask),

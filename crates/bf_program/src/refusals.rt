@@ -21,6 +21,7 @@ pub(crate) fn refusal(alloc: Global, fault: ImportFault) -> Result<Answer, Cut>
     ensures tells { IfOk result (λ answer. told_of answer ≡ refusals.refusal fault) }
     ensures whole { IfOk result (λ answer. IsWhole answer.status) }
     ensures read { IsErrOf result Cut.Read → fault ≡ ImportFault.Stream StreamFault.Read }
+    ensures no_shelf { IsErrOf result Cut.Shelf → ⊥ }
 {
     match fault {
         ImportFault::Stream(fault) => refusal_of_stream(alloc, fault),
@@ -37,6 +38,7 @@ fn refusal_of_stream(alloc: Global, fault: StreamFault) -> Result<Answer, Cut>
     ensures tells { IfOk result (λ answer. told_of answer ≡ refusals.refusal_of_stream fault) }
     ensures whole { IfOk result (λ answer. IsWhole answer.status) }
     ensures read { IsErrOf result Cut.Read → fault ≡ StreamFault.Read }
+    ensures no_shelf { IsErrOf result Cut.Shelf → ⊥ }
 {
     match fault {
         StreamFault::Syntax { line } => refused_at(alloc, line, StreamKind::Syntax),
@@ -54,6 +56,7 @@ fn refused_at(alloc: Global, line: u64, kind: StreamKind) -> Result<Answer, Cut>
     ensures tells { IfOk result (λ answer. told_of answer ≡ refusals.refused_at line kind) }
     ensures whole { IfOk result (λ answer. IsWhole answer.status) }
     ensures no_read { IsErrOf result Cut.Read → ⊥ }
+    ensures no_shelf { IsErrOf result Cut.Shelf → ⊥ }
 {
     let mut text = Bytes::from_slice(alloc, b"stream refused at line ")?;
     put_decimal(&mut text, line)?;
@@ -71,6 +74,7 @@ fn too_large(alloc: Global, what: Limit) -> Result<Answer, Cut>
     ensures tells { IfOk result (λ answer. told_of answer ≡ refusals.too_large what) }
     ensures whole { IfOk result (λ answer. IsWhole answer.status) }
     ensures no_read { IsErrOf result Cut.Read → ⊥ }
+    ensures no_shelf { IsErrOf result Cut.Shelf → ⊥ }
 {
     let mut text = Bytes::from_slice(alloc, b"too large: ")?;
     text.append(word_of_limit(what))?;
@@ -95,6 +99,44 @@ pub(crate) fn name_refusal(alloc: Global, word: u32, fault: NameFault) -> Result
     Ok(Answer {
         status: Status::NameRefused { word, fault },
         text,
+    })
+}
+
+/// The answer to a log that is refused at a line.
+#[tactic(auto, unfolding(bf_output::specs::Refusals::log_refused))]
+pub(crate) fn log_refusal(alloc: Global, line: u32) -> Result<Answer, AllocError>
+    ensures tells { IfOk result (λ answer. told_of answer ≡ refusals.log_refused line) }
+    ensures whole { IfOk result (λ answer. IsWhole answer.status) }
+{
+    let mut text = Bytes::from_slice(alloc, b"log refused at line ")?;
+    put_decimal(&mut text, u64::from(line))?;
+    text.append(b"\n")?;
+    Ok(Answer {
+        status: Status::LogRefused { line },
+        text,
+    })
+}
+
+/// The answer where the file of a log is missing.
+pub(crate) fn no_file(alloc: Global) -> Result<Answer, AllocError>
+    ensures tells { IfOk result (λ answer. told_of answer ≡ refusals.no_file) }
+    ensures whole { IfOk result (λ answer. IsWhole answer.status) }
+{
+    Ok(Answer {
+        status: Status::NoFile,
+        text: Bytes::from_slice(alloc, b"no such file\n")?,
+    })
+}
+
+/// The answer where the file of a log is longer than a log may be.
+#[tactic(auto, unfolding(bf_output::specs::Refusals::too_large))]
+pub(crate) fn too_long(alloc: Global) -> Result<Answer, AllocError>
+    ensures tells { IfOk result (λ answer. told_of answer ≡ refusals.too_large Limit.Log) }
+    ensures whole { IfOk result (λ answer. IsWhole answer.status) }
+{
+    Ok(Answer {
+        status: Status::TooLarge { what: Limit::Log },
+        text: Bytes::from_slice(alloc, b"too large: log\n")?,
     })
 }
 

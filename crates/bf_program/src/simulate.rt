@@ -7,6 +7,7 @@ ghost use Rattle.bf_log.specs.Labels.{IsEntryWithin};
 ghost use Rattle.bf_output.specs.Beginning as beginning;
 ghost use Rattle.bf_output.specs.Simulate as simulate;
 ghost use Rattle.bf_program.specs.Answers.{IsWhole};
+ghost use Rattle.bf_program.specs.Files.{file_given};
 ghost use Rattle.bf_program.specs.Steps.{IsStep, HasPlan};
 ghost use Rattle.bf_program.specs.Tellings.{begun_of, told_of, AreWithin};
 ghost use Rattle.bf_search.specs.declared.outcomes.Outcome.{Outcome};
@@ -14,17 +15,16 @@ ghost use Rattle.bf_texts.specs.Texts as texts;
 
 use crate::answer::{Answer, Stop};
 use crate::begin::{Beginning, begin};
+use crate::file::LogFile;
 use crate::line::Line;
 use crate::plan::tester_of;
 use crate::tell::{commits_of, sides_of, status_of, write_end};
-use bf_alone::Ending;
 use bf_import::History;
 use bf_io::Bytes;
-use bf_log::write_entries;
+use bf_log::{Known, write_more};
 use bf_reach::Reach;
 use bf_runs::{Planned, Search, run_planned};
 use bf_search::Entry;
-use bf_terms::Terms;
 use bf_tester::{Host, PlanTester, Tester};
 use std::alloc::{AllocError, Global};
 
@@ -34,14 +34,15 @@ pub(crate) fn simulate<R: Host>(
     rt: &R,
     alloc: Global,
     line: Line<'_>,
+    file: Option<&LogFile>,
     history: &History,
 ) -> Result<Answer, Stop>
     requires plan { HasPlan line.request.now line.words.now }
-    ensures step { IsStep told_of result (simulate.simulated line.entry.request.now line.entry.words.now history.now) }
+    ensures step { IsStep told_of result (simulate.simulated line.entry.request.now line.entry.words.now (file_given file.entry) history.now) }
     ensures whole { IfOk result (λ answer. IsWhole answer.status) }
 {
     let reach = Reach::build(alloc, history.graph())?;
-    let first = begin(alloc, line, history, &reach)?;
+    let first = begin(alloc, line, file, history, &reach)?;
     let mut tester = tester_of(alloc, line)?;
     let search = Search {
         history,
@@ -69,43 +70,45 @@ fn run<R: Host>(
     ensures tells { IfOk result (λ answer. (plan : List Outcome) → ⟦<PlanTester as Tester>⟧.told tester.old ≡ Some plan → told_of answer ≡ simulate.ran search.entry.history.now (begun_of first) (simulate.run_over search.entry.history.now (begun_of first) plan)) }
     ensures whole { IfOk result (λ answer. IsWhole answer.status) }
 {
-    let Beginning { state, mut entries } = first;
+    let Beginning {
+        state,
+        known,
+        entries,
+    } = first;
+    let ran = run_planned(rt, alloc, search, state, tester)?;
+    let answer = answer_of(alloc, search.history, known, entries, ran)?;
+    Ok(answer)
+}
+
+/// The answer of a run that has ended: the lines of the entries before it and of its own, behind the log
+/// that stands already, and how it ended.
+fn answer_of(
+    alloc: Global,
+    history: &History,
+    known: Known,
+    before: Vec<Entry>,
+    ran: Planned,
+) -> Result<Answer, AllocError>
+    requires before { All (IsEntryWithin (length history.now.parents)) before.items }
+    requires places { All (IsEntryWithin (length history.now.parents)) ran.entries.items }
+    requires end { IsEndingWithin (length history.now.parents) ran.end }
+    ensures tells { IfOk result (λ answer. told_of answer ≡ record { status = simulate.status_of_end (ending_of ran.end); text = texts.log_from (beginning.commits_of history.now) ran.state.terms known (before.items ++ ran.entries.items) ++ texts.answer_lines (beginning.commits_of history.now) ran.state.terms (ending_of ran.end) }) }
+    ensures whole { IfOk result (λ answer. IsWhole answer.status) }
+{
     let Planned {
         entries: mut later,
         end,
         state,
-    } = run_planned(rt, alloc, search, state, tester)?;
+    } = ran;
+    let (mut known, mut entries) = (known, before);
     entries.append(&mut later)?;
-    let answer = answer_of(
-        alloc,
-        search.history,
-        &state.terms,
-        entries.as_slice(),
-        &end,
-    )?;
-    Ok(answer)
-}
-
-/// The answer of a run that has ended: the log of all entries, and how it ended.
-fn answer_of(
-    alloc: Global,
-    history: &History,
-    terms: &Terms,
-    entries: &[Entry],
-    end: &Ending,
-) -> Result<Answer, AllocError>
-    requires places { All (IsEntryWithin (length history.now.parents)) entries.now }
-    requires end { IsEndingWithin (length history.now.parents) end.now }
-    ensures tells { IfOk result (λ answer. told_of answer ≡ record { status = simulate.status_of_end (ending_of end.now); text = texts.log (beginning.commits_of history.now) terms.now entries.now ++ texts.answer_lines (beginning.commits_of history.now) terms.now (ending_of end.now) }) }
-    ensures whole { IfOk result (λ answer. IsWhole answer.status) }
-{
     let commits = commits_of(history);
-    let sides = sides_of(terms);
+    let sides = sides_of(&state.terms);
     let mut text = Bytes::new(alloc);
-    write_entries(alloc, commits, sides, entries, &mut text)?;
-    write_end(commits, sides, end, &mut text)?;
+    write_more(&mut known, commits, sides, entries.as_slice(), &mut text)?;
+    write_end(commits, sides, &end, &mut text)?;
     Ok(Answer {
-        status: status_of(end),
+        status: status_of(&end),
         text,
     })
 }

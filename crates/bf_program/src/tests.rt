@@ -88,7 +88,7 @@ data 2
 c1
 ";
 
-const EIGHT: &[u8] = b"commit refs/heads/main
+pub(crate) const EIGHT: &[u8] = b"commit refs/heads/main
 mark :1
 committer T <t@e> 0 +0000
 data 2
@@ -503,7 +503,7 @@ f787b661a09be3b12ce49117534de60c034a8fc3 is the first bad commit
     },
 ];
 
-fn words_of(alloc: Global, texts: &[&[u8]]) -> Result<Vec<Word>, AllocError> {
+pub(crate) fn words_of(alloc: Global, texts: &[&[u8]]) -> Result<Vec<Word>, AllocError> {
     let mut words = Vec::new(alloc);
     for text in texts {
         words.push(Bytes::from_slice(alloc, text)?)?;

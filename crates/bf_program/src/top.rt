@@ -1,5 +1,5 @@
 //! The top call: the order of its refusals.
-ghost use Rattle.std.specs.Prelude.{◌≡◌, ◌⊎◌, [], false, Result, Ok, IfOk, OnOk, OnErr, IsErrOf, IsTrue, IsFalse};
+ghost use Rattle.std.specs.Prelude.{◌≡◌, ◌⊎◌, [], false, is_some, Result, Ok, IfOk, OnOk, OnErr, IsErrOf, IsTrue, IsFalse};
 ghost use Rattle.bf_io.specs.Causes.{FailsOnlyAt, Rose};
 ghost use Rattle.bf_io.specs.Told.{Appends, AppendsFront};
 ghost use Rattle.bf_words.specs.Words as asked;
@@ -7,15 +7,18 @@ ghost use Rattle.bf_output.specs.Gen.{made_stream};
 ghost use Rattle.bf_output.specs.Output as output;
 ghost use Rattle.bf_output.specs.Told.{Told, told_by};
 ghost use Rattle.bf_program.specs.Answers.{Answers, OutputOf, IsWhole};
+ghost use Rattle.bf_program.specs.Files.{file_given};
 ghost use Rattle.bf_program.specs.Steps.{IsStep, HasPlan};
 ghost use Rattle.bf_program.specs.Tellings.{told_of};
 ghost use Rattle.bf_program.specs.Writes.{IsTold, IsWritten};
 
 use crate::answer::{Answer, Cut, Stop};
+use crate::file::{LogFile, lent, load_file};
 use crate::line::Line;
 use crate::made::{generate, made_stream};
 use crate::next::next;
 use crate::refusals::{refusal, unbuilt, usage};
+use crate::replay::replay_log;
 use crate::sample::sample;
 use crate::simulate::simulate;
 use bf_grammar::Limits;
@@ -31,7 +34,7 @@ use std::alloc::{AllocError, Global};
 /// and the answer.
 ///
 /// The status says how the search ended, or what is refused. It is `ReadFault` only where the count of
-/// faults of the stream rose, and `WriteFault` only where that of the sink did. Want of memory may be
+/// faults of the stream rose, `ShelfFault` only where that of the shelf did, and `WriteFault` only where that of the sink did. Want of memory may be
 /// answered at any point. After `WriteFault` and `NoMemory` the sink gained some front of the text that
 /// was due. The tester is left as it was.
 pub fn bisect_main<R: Host, S: Source, F: Shelf, T: Tester, K: Sink>(
@@ -39,21 +42,22 @@ pub fn bisect_main<R: Host, S: Source, F: Shelf, T: Tester, K: Sink>(
     alloc: Global,
     words: &[Word],
     stream: &mut S,
-    _shelf: &mut F,
+    shelf: &mut F,
     tester: &mut T,
     out: &mut K,
 ) -> Status
     requires fresh { T.answers tester.old ≡ [] }
     requires whole { T.is_split tester.old ≡ false }
-    ensures answers { Answers (record { given = record { words = words.now }; left = S.left stream.old; stream = record { before = S.faults stream.old; now = S.faults stream.new }; before = K.held out.old; after = K.held out.new }) result }
+    ensures answers { Answers (record { given = record { words = words.now; files = F.files shelf.old }; left = S.left stream.old; stream = record { before = S.faults stream.old; now = S.faults stream.new }; shelf = record { before = F.faults shelf.old; now = F.faults shelf.new }; before = K.held out.old; after = K.held out.new }) result }
     ensures read { result ≡ Status.ReadFault → Rose (S.faults stream.old) (S.faults stream.new) }
+    ensures file { result ≡ Status.ShelfFault → Rose (F.faults shelf.old) (F.faults shelf.new) }
     ensures write { result ≡ Status.WriteFault → Rose (K.faults out.old) (K.faults out.new) }
     ensures is_split { T.is_split tester.new ≡ false }
     ensures unasked { T.answers tester.new ≡ [] }
     ensures unfailed { T.faults tester.new ≡ T.faults tester.old }
     ensures uncommanded { T.command tester.new ≡ T.command tester.old }
 {
-    let answer = answer_to(rt, alloc, words, stream);
+    let answer = answer_to(rt, alloc, words, stream, shelf);
     tell(out, &answer)
 }
 
@@ -66,6 +70,7 @@ fn tell<K: Sink>(out: &mut K, answer: &Result<Answer, Cut>) -> Status
     match answer {
         Ok(answer) => say(out, answer.text.as_slice(), answer.status),
         Err(Cut::Read) => say(out, b"read fault\n", Status::ReadFault),
+        Err(Cut::Shelf) => say(out, b"file fault\n", Status::ShelfFault),
         Err(Cut::NoMemory) => Status::NoMemory,
     }
 }
@@ -93,16 +98,19 @@ fn write_and_flush<K: Sink>(out: &mut K, text: &[u8]) -> Result<(), SinkFault>
 }
 
 // The whole answer, before any of it is written.
-fn answer_to<R: Host, S: Source>(
+fn answer_to<R: Host, S: Source, F: Shelf>(
     rt: &R,
     alloc: Global,
     words: &[Word],
     stream: &mut S,
+    shelf: &mut F,
 ) -> Result<Answer, Cut>
-    ensures output { IfOk result (λ answer. OutputOf (record { words = words.now }) (S.left stream.old) answer.status answer.text) }
+    ensures output { IfOk result (λ answer. OutputOf (record { words = words.now; files = F.files shelf.old }) (S.left stream.old) answer.status answer.text) }
     ensures whole { IfOk result (λ answer. IsWhole answer.status) }
     ensures reads { IsErrOf result Cut.Read → IsTrue (output.reads (asked.request words.now)) }
+    ensures asks { IsErrOf result Cut.Shelf → IsTrue (output.asks_file (asked.request words.now)) }
     ensures cause { FailsOnlyAt Cut.Read (S.faults stream.old) (S.faults stream.new) result }
+    ensures file { FailsOnlyAt Cut.Shelf (F.faults shelf.old) (F.faults shelf.new) result }
 {
     match read_words(alloc, words) {
         Ok(request) => {
@@ -110,7 +118,7 @@ fn answer_to<R: Host, S: Source>(
                 request: &request,
                 words,
             };
-            answer_request(rt, alloc, line, stream)
+            answer_request(rt, alloc, line, stream, shelf)
         }
         Err(WordFault::At { word }) => Ok(usage(alloc, word)?),
         Err(WordFault::NoMemory) => Err(Cut::NoMemory),
@@ -121,107 +129,145 @@ fn answer_to<R: Host, S: Source>(
 fn is_built(request: &Request) -> bool
     ensures { result ≡ output.is_built request.now }
 {
-    is_built_verb(request.verb) && request.replay.is_none() && request.leg == 0 && !request.trace
+    is_built_verb(request.verb) && request.leg == 0 && !request.trace
 }
 
 fn is_built_verb(verb: Verb) -> bool
     ensures { result ≡ output.is_built_verb verb }
 {
     match verb {
-        Verb::Simulate | Verb::Next | Verb::Gen | Verb::Sample => true,
-        Verb::Run | Verb::Replay => false,
+        Verb::Simulate | Verb::Next | Verb::Replay | Verb::Gen | Verb::Sample => true,
+        Verb::Run => false,
     }
 }
 
 // The answer for words that ask for something.
-fn answer_request<R: Host, S: Source>(
+fn answer_request<R: Host, S: Source, F: Shelf>(
     rt: &R,
     alloc: Global,
     line: Line<'_>,
     stream: &mut S,
+    shelf: &mut F,
 ) -> Result<Answer, Cut>
     requires plan { HasPlan line.request.now line.words.now }
-    ensures output { IfOk result (λ answer. output.IsOutputFor (Ok line.entry.request.now) (record { words = line.entry.words.now }) (S.left stream.old) (told_of answer)) }
+    ensures output { IfOk result (λ answer. output.IsOutputFor (Ok line.entry.request.now) (record { words = line.entry.words.now; files = F.files shelf.old }) (S.left stream.old) (told_of answer)) }
     ensures whole { IfOk result (λ answer. IsWhole answer.status) }
     ensures reads { IsErrOf result Cut.Read → IsTrue (output.reads_stream line.entry.request.now.verb) }
+    ensures asks { IsErrOf result Cut.Shelf → IsTrue (is_some line.entry.request.now.replay) }
     ensures cause { FailsOnlyAt Cut.Read (S.faults stream.old) (S.faults stream.new) result }
+    ensures file { FailsOnlyAt Cut.Shelf (F.faults shelf.old) (F.faults shelf.new) result }
 {
     if is_built(line.request) {
-        answer_verb(rt, alloc, line, stream)
+        answer_verb(rt, alloc, line, stream, shelf)
     } else {
         Ok(unbuilt(alloc)?)
     }
 }
 
 // The answer of a command that is built.
-fn answer_verb<R: Host, S: Source>(
+fn answer_verb<R: Host, S: Source, F: Shelf>(
     rt: &R,
     alloc: Global,
     line: Line<'_>,
     stream: &mut S,
+    shelf: &mut F,
 ) -> Result<Answer, Cut>
     requires plan { HasPlan line.request.now line.words.now }
-    ensures output { IfOk result (λ answer. output.IsOutputOf line.entry.request.now.verb line.entry.request.now (record { words = line.entry.words.now }) (S.left stream.old) (told_of answer)) }
+    ensures output { IfOk result (λ answer. output.IsOutputOf line.entry.request.now.verb line.entry.request.now (record { words = line.entry.words.now; files = F.files shelf.old }) (S.left stream.old) (told_of answer)) }
     ensures whole { IfOk result (λ answer. IsWhole answer.status) }
     ensures reads { IsErrOf result Cut.Read → IsTrue (output.reads_stream line.entry.request.now.verb) }
+    ensures asks { IsErrOf result Cut.Shelf → IsTrue (is_some line.entry.request.now.replay) }
     ensures cause { FailsOnlyAt Cut.Read (S.faults stream.old) (S.faults stream.new) result }
+    ensures file { FailsOnlyAt Cut.Shelf (F.faults shelf.old) (F.faults shelf.new) result }
 {
     match line.request.verb {
         Verb::Simulate | Verb::Run | Verb::Next | Verb::Replay => {
-            answer_stream(rt, alloc, line, stream)
+            answer_stream(rt, alloc, line, stream, shelf)
         }
         Verb::Gen => Ok(generate(alloc, line.request)?),
-        Verb::Sample => answer_made(rt, alloc, line),
+        Verb::Sample => answer_made(rt, alloc, line, shelf),
     }
 }
 
 // The answer over the stream that a number gives. It is read from memory, so no read fails.
-fn answer_made<R: Host>(rt: &R, alloc: Global, line: Line<'_>) -> Result<Answer, Cut>
+fn answer_made<R: Host, F: Shelf>(
+    rt: &R,
+    alloc: Global,
+    line: Line<'_>,
+    shelf: &mut F,
+) -> Result<Answer, Cut>
     requires plan { HasPlan line.request.now line.words.now }
-    ensures output { IfOk result (λ answer. output.IsOverBytes line.entry.request.now (record { words = line.entry.words.now }) (made_stream line.entry.request.now) (told_of answer)) }
+    ensures output { IfOk result (λ answer. output.IsOverBytes line.entry.request.now (record { words = line.entry.words.now; files = F.files shelf.old }) (made_stream line.entry.request.now) (told_of answer)) }
     ensures whole { IfOk result (λ answer. IsWhole answer.status) }
     ensures no_read { IsErrOf result Cut.Read → ⊥ }
+    ensures asks { IsErrOf result Cut.Shelf → IsTrue (is_some line.entry.request.now.replay) }
+    ensures file { FailsOnlyAt Cut.Shelf (F.faults shelf.old) (F.faults shelf.new) result }
 {
     let mut made = PlainSource::new(made_stream(alloc, line.request)?);
-    answer_stream(rt, alloc, line, &mut made)
+    answer_stream(rt, alloc, line, &mut made, shelf)
 }
 
 // The answer over the stream, which is read to its end first.
-fn answer_stream<R: Host, S: Source>(
+fn answer_stream<R: Host, S: Source, F: Shelf>(
     rt: &R,
     alloc: Global,
     line: Line<'_>,
     stream: &mut S,
+    shelf: &mut F,
 ) -> Result<Answer, Cut>
     requires plan { HasPlan line.request.now line.words.now }
-    ensures output { IfOk result (λ answer. output.IsOverStream line.entry.request.now (record { words = line.entry.words.now }) (S.left stream.old) (told_of answer)) }
+    ensures output { IfOk result (λ answer. output.IsOverStream line.entry.request.now (record { words = line.entry.words.now; files = F.files shelf.old }) (S.left stream.old) (told_of answer)) }
     ensures whole { IfOk result (λ answer. IsWhole answer.status) }
     ensures cause { FailsOnlyAt Cut.Read (S.faults stream.old) (S.faults stream.new) result }
+    ensures file { FailsOnlyAt Cut.Shelf (F.faults shelf.old) (F.faults shelf.new) result }
+    ensures asks { IsErrOf result Cut.Shelf → IsTrue (is_some line.entry.request.now.replay) }
 {
     match import(alloc, stream, Limits::standard()) {
-        Ok(history) => Ok(answer_over(rt, alloc, line, &history)?),
+        Ok(history) => Ok(answer_over(rt, alloc, line, &history, shelf)?),
         Err(fault) => refusal(alloc, fault),
     }
 }
 
-// The answer over a history.
-fn answer_over<R: Host>(
+// The answer over a history: the file that the words name is loaded first.
+fn answer_over<R: Host, F: Shelf>(
     rt: &R,
     alloc: Global,
     line: Line<'_>,
     history: &History,
+    shelf: &mut F,
 ) -> Result<Answer, Cut>
     requires plan { HasPlan line.request.now line.words.now }
-    ensures tells { IfOk result (λ answer. output.IsOver line.entry.request.now.verb line.entry.request.now (record { words = line.entry.words.now }) history.now (told_of answer)) }
+    ensures tells { IfOk result (λ answer. output.IsOver line.entry.request.now (record { words = line.entry.words.now; files = F.files shelf.old }) history.now (told_of answer)) }
     ensures whole { IfOk result (λ answer. IsWhole answer.status) }
     ensures no_read { IsErrOf result Cut.Read → ⊥ }
+    ensures asks { IsErrOf result Cut.Shelf → IsTrue (is_some line.entry.request.now.replay) }
+    ensures file { FailsOnlyAt Cut.Shelf (F.faults shelf.old) (F.faults shelf.new) result }
+{
+    let file = load_file(line.words, line.request.replay, shelf)?;
+    answer_command(rt, alloc, line, lent(&file), history)
+}
+
+// The answer of a command over a history and the file that its words name.
+fn answer_command<R: Host>(
+    rt: &R,
+    alloc: Global,
+    line: Line<'_>,
+    file: Option<&LogFile>,
+    history: &History,
+) -> Result<Answer, Cut>
+    requires plan { HasPlan line.request.now line.words.now }
+    ensures tells { IfOk result (λ answer. output.IsOverFile line.entry.request.now.verb line.entry.request.now line.entry.words.now (file_given file.entry) history.now (told_of answer)) }
+    ensures whole { IfOk result (λ answer. IsWhole answer.status) }
+    ensures no_read { IsErrOf result Cut.Read → ⊥ }
+    ensures no_shelf { IsErrOf result Cut.Shelf → ⊥ }
 {
     match line.request.verb {
-        Verb::Simulate => or_refused(simulate(rt, alloc, line, history)),
-        Verb::Next => or_refused(next(alloc, line, history)),
+        Verb::Simulate => or_refused(simulate(rt, alloc, line, file, history)),
+        Verb::Next => or_refused(next(alloc, line, file, history)),
+        Verb::Replay => or_refused(replay_log(alloc, file, history)),
         Verb::Gen => Ok(generate(alloc, line.request)?),
         Verb::Sample => Ok(sample(alloc, line.request, history)?),
-        Verb::Run | Verb::Replay => Ok(unbuilt(alloc)?),
+        Verb::Run => Ok(unbuilt(alloc)?),
     }
 }
 
@@ -230,6 +276,7 @@ fn or_refused(step: Result<Answer, Stop>) -> Result<Answer, Cut>
     ensures tells { (meant : Result Told Told) → IsStep told_of step meant → IfOk result (λ answer. told_of answer ≡ told_by meant) }
     ensures whole { (meant : Result Told Told) → IsStep told_of step meant → IfOk step (λ answer. IsWhole answer.status) → IfOk result (λ answer. IsWhole answer.status) }
     ensures no_read { IsErrOf result Cut.Read → ⊥ }
+    ensures no_shelf { IsErrOf result Cut.Shelf → ⊥ }
 {
     match step {
         Ok(answer) => Ok(answer),

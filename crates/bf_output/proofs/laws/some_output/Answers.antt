@@ -3,4 +3,4 @@ use Rattle.bf_output.proofs.Outputs.{some_for}
 use Rattle.bf_output.proofs.laws.some_output.Goals as goal
 
 pub returns : goal.returns
-returns c = λ given. some_for (request given.words) given
+returns c = λ words files. some_for (request words) words files

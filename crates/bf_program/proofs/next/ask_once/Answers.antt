@@ -3,8 +3,8 @@ use Rattle.bf_state.specs.Session.{Session, IsSearchBelow}
 use Rattle.bf_program.proofs.Asking.{asked_within, ask_below}
 use Rattle.bf_program.proofs.next.ask_once.Goals as goal
 
-pub write_entries-requires-clause-places : goal.write_entries-requires-clause-places
-write_entries-requires-clause-places c =
+pub write_more-requires-clause-places : goal.write_more-requires-clause-places
+write_more-requires-clause-places c =
     let below = subst (λ (x : Session). IsSearchBelow x.len x.search) c.state.view_is c.state.invariant in
     let graph = ap length c.requires.reach ∙ sym c.requires.len in
     asked_within c.args.first.state.len (length c.commits_of-commits.result.names.now) c.in_ok-step.step c.args.first.entries.items

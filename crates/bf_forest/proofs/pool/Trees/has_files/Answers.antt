@@ -8,7 +8,7 @@ use Rattle.bf_forest.proofs.pool.Trees.has_files.Goals as goal
 
 pub returns-then-ne : goal.returns-then-ne
 returns-then-ne c =
-    let others = files_at c.args.self.now c.args.number in
+    let others = files_at c.args.self.now.trees c.args.number in
     let files = c.args.files.now in
     let name = c.as_slice.result.now in
     let differ : are_same others files ≡ true → ⊥ =

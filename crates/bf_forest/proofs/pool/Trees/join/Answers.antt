@@ -5,14 +5,14 @@ use Rattle.bf_forest.proofs.pool.Trees.join.Goals as goal
 
 pub returns-then-is_empty-clause-ok : goal.returns-then-is_empty-clause-ok
 returns-then-is_empty-clause-ok c =
-    let trees = c.args.self.now in
+    let trees = c.args.self.now.trees in
     let edits = c.args.edits.now in
     let same = edited-nil (files_at trees c.args.tree) edits (no_edits edits c.is_empty.result c.is_empty.ensures c.if-is_empty.true) in
     sym c.unchanged.ensures.joined ∙ sym (ap (with_directories trees) same)
 
 pub returns-then-is_empty-clause-files : goal.returns-then-is_empty-clause-files
 returns-then-is_empty-clause-files c =
-    let trees = c.args.self.now in
+    let trees = c.args.self.now.trees in
     let edits = c.args.edits.now in
     let same = edited-nil (files_at trees c.args.tree) edits (no_edits edits c.is_empty.result c.is_empty.ensures c.if-is_empty.true) in
     ap (files_at trees) c.unchanged.ensures.number ∙ sym same

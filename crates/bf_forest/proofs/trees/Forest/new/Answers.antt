@@ -1,6 +1,6 @@
-use Rattle.std.proofs.Common.{List, [], ap, ◌∙◌}
+use Rattle.std.proofs.Common.{List, [], length, ap, ◌∙◌}
 use Rattle.bf_forest.specs.Files.{Files}
-use Rattle.bf_forest.specs.Nodes.{files_in, is_node}
+use Rattle.bf_forest.specs.Nodes.{files_in, is_node, stood, are_within}
 use Rattle.bf_forest.specs.Trees.{Pool, with_tree}
 use Rattle.bf_forest.proofs.Pooled.{node-nil}
 use Rattle.bf_forest.proofs.trees.Forest.new.Goals as goal
@@ -8,7 +8,14 @@ use Rattle.bf_forest.proofs.trees.Forest.new.Goals as goal
 pub returns : goal.returns
 returns c =
     let pool : List Files → Pool = λ trees. record { trees = trees; limit = c.args.limit } in
-    ap pool (c.in_ok-add.ensures.ok ∙ ap (λ trees. with_tree trees (files_in trees c.new.result)) c.new-trees.ensures ∙ ap (λ entries. with_tree [] (files_in [] entries)) c.new.ensures)
+    let table = c.new-trees.result.table in
+    ap pool (c.in_ok-add.ensures.ok ∙ ap (λ trees. with_tree trees (files_in trees (stood table c.new.result))) c.new-trees.ensures
+    ∙ ap (λ numbers. with_tree [] (files_in [] (stood table numbers))) c.new.ensures)
 
 pub add-requires : goal.add-requires
-add-requires c = ap (is_node c.new-trees.result) c.new.ensures ∙ node-nil c.new-trees.result
+add-requires c =
+    let world = c.new-trees.result in
+    record {
+      node = ap (λ v. is_node world.trees (stood world.table v)) c.new.ensures ∙ node-nil world.trees;
+      within = ap (are_within (length world.table)) c.new.ensures;
+    }

@@ -1,0 +1,105 @@
+//! Edits of whole lists of files, by their definition: what the pool makes of edits is compared with them.
+use crate::entries::are_same;
+use crate::tests::edit;
+use crate::*;
+use bf_paths::Path;
+use std::alloc::{AllocError, Global};
+use std::test::Fail;
+
+/// Whether a path is another one, or leads to it.
+fn leads_to(path: &Path, other: &Path) -> bool {
+    let (front, all) = (path.components(), other.components());
+    front.len() <= all.len() && &all[..front.len()] == front
+}
+
+/// Whether a path comes before another in order of their bytes.
+fn is_before(path: &Path, other: &Path) -> Result<bool, AllocError> {
+    Ok(path.to_bytes()? < other.to_bytes()?)
+}
+
+/// The files without those at a path or in the directory there.
+fn outside(alloc: Global, files: &[FileEntry], path: &Path) -> Result<Vec<FileEntry>, AllocError> {
+    let mut others = Vec::new(alloc);
+    for file in files {
+        if !leads_to(path, &file.path) {
+            others.push(file.try_clone()?)?;
+        }
+    }
+    Ok(others)
+}
+
+/// The files with one more, which takes the place of what is in its way.
+fn with_file(
+    alloc: Global,
+    files: &[FileEntry],
+    set: &FileEntry,
+) -> Result<Vec<FileEntry>, AllocError> {
+    let mut before = Vec::new(alloc);
+    let mut behind = Vec::new(alloc);
+    for file in files {
+        if leads_to(&set.path, &file.path) || leads_to(&file.path, &set.path) {
+            continue;
+        }
+        if is_before(&file.path, &set.path)? {
+            before.push(file.try_clone()?)?;
+        } else {
+            behind.push(file.try_clone()?)?;
+        }
+    }
+    before.push(set.try_clone()?)?;
+    for file in &behind {
+        before.push(file.try_clone()?)?;
+    }
+    Ok(before)
+}
+
+/// The files after an edit.
+fn edited(alloc: Global, files: &[FileEntry], edit: &Edit) -> Result<Vec<FileEntry>, AllocError> {
+    match edit {
+        Edit::Clear => Ok(Vec::new(alloc)),
+        Edit::Remove { path } => outside(alloc, files, path),
+        Edit::Set { path, mode, oid } => {
+            let path = path.try_clone()?;
+            let (mode, oid) = (*mode, *oid);
+            with_file(alloc, files, &FileEntry { path, mode, oid })
+        }
+    }
+}
+
+/// Paths with the contents that are set there, one after another; none: what is there is removed.
+static EDITS: [(&[u8], Option<&[u8]>); 18] = [
+    (b"a/b/c", Some(b"1")),
+    (b"a/b/d", Some(b"2")),
+    (b"a.b", Some(b"1")),
+    (b"a/b/c", Some(b"3")),
+    (b"a/b/c", Some(b"1")),
+    (b"a0", Some(b"1")),
+    (b"a/b", Some(b"4")),
+    (b"a/b/c/d", Some(b"1")),
+    (b"a/c", Some(b"1")),
+    (b"a/b/c", None),
+    (b"a/x/y", None),
+    (b"z/z/z/z", Some(b"2")),
+    (b"a", None),
+    (b"z/z", Some(b"2")),
+    (b"z/y", Some(b"2")),
+    (b"z/z/z", None),
+    (b"z", Some(b"1")),
+    (b"z/z", None),
+];
+
+#[test]
+fn the_pool_edits_as_whole_lists_are_edited(rt: HostRuntime) -> Result<(), Fail> {
+    let alloc = rt.alloc();
+    let mut forest = Forest::new(alloc, 100)?;
+    let mut files = Vec::new(alloc);
+    let mut tree = 0;
+    for (path, content) in &EDITS {
+        let edits = vec![in alloc; edit(alloc, path, *content)?]?;
+        tree = forest.apply(tree, edits.as_slice())?;
+        files = edited(alloc, files.as_slice(), &edits[0])?;
+        let made = forest.files(tree)?;
+        assert!(rt; are_same(made.as_slice(), files.as_slice()), "{path:?}");
+    }
+    Ok(())
+}

@@ -1,0 +1,99 @@
+#!/bin/sh
+# Tests of what `make install` brings beside the program: scripts, manual pages, the shells' completions.
+. "$(dirname "$0")/helpers.sh"
+
+scripts='git-farmdawn farmdawn-worktree farmdawn-srun farmdawn-ssh'
+
+needs_files() { has make install; }
+test_files() {
+    expect 'make install-scripts' make -s -C "$top" install-scripts DESTDIR="$PWD/root" PREFIX=/usr
+    for script in $scripts; do
+        expect 'the script is installed' cmp "root/usr/bin/$script" "$top/tools/$script"
+        expect 'and can be run' [ -x "root/usr/bin/$script" ]
+    done
+    for page in farmdawn $scripts; do
+        expect 'the page is installed' cmp "root/usr/share/man/man1/$page.1" "$top/man/$page.1"
+    done
+    for name in farmdawn git-farmdawn; do
+        expect 'completion for bash' cmp "root/usr/share/bash-completion/completions/$name" "$top/completions/farmdawn.bash"
+        expect 'for zsh' cmp "root/usr/share/zsh/site-functions/_$name" "$top/completions/_$name"
+        expect 'for fish' cmp "root/usr/share/fish/vendor_completions.d/$name.fish" "$top/completions/$name.fish"
+    done
+    expect 'make uninstall' make -s -C "$top" uninstall DESTDIR="$PWD/root" PREFIX=/usr
+    expect 'nothing is left' [ -z "$(find root -type f)" ]
+}
+
+needs_help() { :; }
+test_help() {
+    for script in $scripts; do
+        expect 'the help is shown' "$script" --help >help
+        expect 'in one screen' [ "$(wc -l <help)" -le 32 ]
+        expect 'of 120 columns' [ "$(awk '{ print length }' help | sort -n | tail -n 1)" -le 120 ]
+        expect 'by its name' grep -q "^usage: .*${script#git-}" help
+        for option in $(sed -n 's/^  --\([a-z-]*\).*/\1/p' help); do
+            expect 'the manual has the option' grep -q -- "Fl -$option\b" "$top/man/$script.1"
+        done
+    done
+}
+
+needs_manual() { has mandoc; }
+test_manual() {
+    for page in "$top"/man/*.1; do
+        expect 'the page is clean' [ -z "$(mandoc -Tlint -Wwarning "$page")" ]
+    done
+}
+
+# What bash offers behind these words, of which the last is begun.
+offered() {
+    # shellcheck disable=SC2016
+    bash -c '. "$1"; shift; COMP_WORDS=("$@"); COMP_CWORD=$(($# - 1)); _farmdawn 2>/dev/null; printf "%s " "${COMPREPLY[@]}"' \
+        bash "$top/completions/farmdawn.bash" "$@"
+}
+
+needs_bash() { has bash git; }
+test_bash() {
+    make_line 1 9
+    git branch topic
+    expect 'commands' [ "$(offered farmdawn s)" = 'simulate sample ' ]
+    expect 'options' [ "$(offered farmdawn run --first)" = '--first-parent ' ]
+    expect 'branches' [ "$(offered farmdawn run to)" = 'topic ' ]
+    expect 'the options of a command alone' [ "$(offered farmdawn replay --t)" = ' ' ]
+    # git's own completion offers words by __gitcomp
+    # shellcheck disable=SC2016
+    words=$(bash -c '. "$1"; __gitcomp() { echo "$1"; }; cur=--; _git_farmdawn' bash "$top/completions/farmdawn.bash")
+    expect 'the options of git farmdawn' [ "$(sorted_words "$words")" = "$(options_of git-farmdawn)" ]
+}
+
+sorted_words() { printf '%s\n' "$1" | tr ' ' '\n' | sort | tr '\n' ' '; }
+
+# The options of a script, as its help has them.
+options_of() { sorted_words "$("$1" --help | grep -o '^  --[a-z-]*\|, --[a-z-]*' | grep -o -- '--.*')"; }
+
+needs_zsh() { has zsh; }
+test_zsh() {
+    for name in _farmdawn _git-farmdawn; do expect 'zsh reads the completion' zsh -n "$top/completions/$name"; done
+    words=$(sed -n "s/^.*[(' ]\*\?\(--[a-z-]*\)[['}].*/\1/p; s/.*{-h,--help}.*/--help/p" "$top/completions/_git-farmdawn")
+    expect 'the options of git farmdawn' [ "$(sorted_words "$words")" = "$(options_of git-farmdawn)" ]
+}
+
+needs_fish() { has fish git; }
+test_fish() {
+    make_line 1 9
+    git branch topic
+    expect 'fish reads the completion' fish -n "$top/completions/farmdawn.fish"
+    # shellcheck disable=SC2016
+    expect 'and offers commands' sh -c 'fish -N -c ". $1; complete -C \"farmdawn sim\"" | grep -q ^simulate' sh "$top/completions/farmdawn.fish"
+    # shellcheck disable=SC2016
+    words=$(fish -N -c '. $argv[1]; complete -C "git-farmdawn --"' "$top/completions/git-farmdawn.fish" | cut -f1)
+    expect 'the options of git farmdawn' [ "$(sorted_words "$words")" = "$(options_of git-farmdawn)" ]
+    # shellcheck disable=SC2016
+    expect 'and branches' sh -c 'fish -N -c ". $1; complete -C \"farmdawn run to\"" | grep -q ^topic' sh "$top/completions/farmdawn.fish"
+}
+
+needs_lint() { has shellcheck; }
+test_lint() {
+    for script in $scripts; do expect 'shellcheck' shellcheck -S warning "$top/tools/$script"; done
+}
+
+[ $# -gt 0 ] || set -- files help manual bash zsh fish lint
+run_tests "$@"
