@@ -9,7 +9,6 @@ use Rattle.bf_history.specs.declared.marked.Marked.TheVariants as marked
 use Rattle.bf_history.specs.Bodies.{subject_of}
 use Rattle.bf_history.specs.Meanings.{Loading, nothing_loaded, place_of_target, content_named, ref_of_target}
 use Rattle.bf_history.specs.Named.{with_value, without_value}
-use Rattle.bf_history.specs.Names.{place_of_name}
 
 -- a ref that is set again keeps its place in the list, and one that goes leaves no hole
 kept : with_value {V = ℕ} ◌==◌ 1 5 ((1, 3) ∷ (2, 4) ∷ []) ≡ (1, 5) ∷ (2, 4) ∷ []
@@ -17,11 +16,6 @@ kept = refl
 
 closed : without_value {V = ℕ} ◌==◌ 1 ((1, 3) ∷ (2, 4) ∷ []) ≡ (2, 4) ∷ []
 closed = refl
-
--- a full ref is tried first, and then behind each of the usual prefixes
-named : place_of_name ((codes "refs/heads/a", 4) ∷ (codes "refs/refs/b", 5) ∷ []) (codes "refs/b") ≡ Some 5
-unfolding place_of_name
-named = refl
 
 -- the subject is the first line with a byte, without its LF
 titled : subject_of (codes "\n\nfirst\nsecond\n") ≡ codes "first"

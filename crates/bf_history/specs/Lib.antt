@@ -2,4 +2,3 @@ pub mod Bodies
 pub mod Imports
 pub mod Meanings
 pub mod Named
-pub mod Names

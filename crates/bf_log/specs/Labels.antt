@@ -3,7 +3,6 @@ use Rattle.std.specs.Prelude.{◌≡◌, ℕ, ◌<◌, length, map, All}
 use Rattle.std.specs.Option.{ForSome}
 use Rattle.bf_grammar.specs.declared.object.Oid.{Oid}
 use Rattle.bf_texts.specs.Texts as texts
-use Rattle.bf_log.specs.declared.entries.Known.{Known}
 use Rattle.bf_log.specs.declared.label.Commits.{Commits}
 use Rattle.bf_log.specs.declared.label.Sides.{Sides}
 use Rattle.bf_search.specs.declared.asks.Ask.{Ask}
@@ -38,6 +37,3 @@ IsAskWithin len other = Unit {0}
 -- there is a subject for each name
 pub record AreCommits (commits : Commits) : Type 0 where
   pub same : length commits.subjects.now ≡ length commits.names.now
-
-abbrev pub known_of : Known → texts.Known
-known_of known = record { bad = known.bad; goods = known.goods }

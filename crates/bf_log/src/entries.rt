@@ -1,30 +1,23 @@
 //! The lines of a log.
-ghost use Rattle.std.specs.Prelude.{◌≡◌, ◌<◌, ◌++◌, length, codes, [], All, IfOk, OnOk};
+ghost use Rattle.std.specs.Prelude.{◌≡◌, ◌<◌, ◌++◌, length, All, OnOk};
 ghost use Rattle.std.specs.List.{flat_map};
 ghost use Rattle.std.specs.Option.{ForSome};
 ghost use Rattle.bf_texts.specs.Texts as texts;
-ghost use Rattle.bf_log.specs.Labels.{AreCommits, IsEntryWithin, commits_of, known_of, sides_of};
+ghost use Rattle.bf_logs.specs.Written.{known_after_all};
+ghost use Rattle.bf_log.specs.Labels.{AreCommits, IsEntryWithin, commits_of, sides_of};
 
-use crate::answer::put_waiting;
+use crate::known::Known;
 use crate::label::{
     Commits, Sides, put_between, put_comment, put_label, put_name_line, put_quoted, put_quoted_name,
 };
-use bf_graph::Places;
 use bf_io::Bytes;
 use bf_search::{Entry, Mark};
-use std::alloc::{AllocError, Global};
+use std::alloc::AllocError;
 
-/// Which ends of a search are known: whether a bad commit is, and the good ones, each once.
-#[derive(Drop)]
-pub struct Known {
-    pub bad: bool,
-    pub goods: Places,
-}
-
-/// Adds the lines of a log with these entries. Where an end is not known after a start or a mark, a
-/// status line says so.
+/// Adds the lines of these entries, each with its status line, as they go on from what is known before
+/// them.
 pub(crate) fn put_entries(
-    alloc: Global,
+    known: &mut Known,
     commits: Commits<'_>,
     sides: Sides<'_>,
     entries: &[Entry],
@@ -32,16 +25,13 @@ pub(crate) fn put_entries(
 ) -> Result<(), AllocError>
     requires commits { AreCommits commits }
     requires places { All (IsEntryWithin (length commits.names.now)) entries.now }
-    ensures { OnOk result (out.new ≡ out.old ++ texts.log (commits_of commits.entry) (sides_of sides.entry) entries.now) }
+    ensures lines { OnOk result (out.new ≡ out.old ++ texts.log_from (commits_of commits.entry) (sides_of sides.entry) known.old entries.now) }
+    ensures known { OnOk result (known.new ≡ known_after_all known.old entries.now) }
 {
-    let mut known = Known {
-        bad: false,
-        goods: Places::new(alloc),
-    };
     for entry in entries {
         put_entry(out, commits, sides, entry)?;
-        learn(&mut known, entry)?;
-        put_status(out, sides, &known, entry)?;
+        known.learn(entry)?;
+        known.put_status(out, sides, entry)?;
     }
     Ok(())
 }
@@ -329,74 +319,4 @@ fn put_possible(
     out.append(b": ")?;
     put_label(out, commits, place)?;
     out.append(b"\n")
-}
-
-/// Notes which ends an entry makes known.
-fn learn(known: &mut Known, entry: &Entry) -> Result<(), AllocError>
-    ensures { OnOk result (known_of known.new ≡ texts.known_after (known_of known.old) entry.now) }
-{
-    match entry {
-        Entry::Start { bad, goods, .. } => {
-            known.bad = bad.is_some();
-            known.goods = distinct(goods)?;
-        }
-        Entry::Marked {
-            mark: Mark::Bad,
-            ..
-        } => known.bad = true,
-        Entry::Marked {
-            mark: Mark::Good,
-            place,
-        } => add_good(&mut known.goods, *place)?,
-        _ => {}
-    }
-    Ok(())
-}
-
-/// These places, each once.
-fn distinct(places: &Places) -> Result<Places, AllocError>
-    ensures { IfOk result (λ once. once ≡ texts.with_goods [] places.now) }
-{
-    let mut once = Places::new(places.allocator());
-    for place in places.as_slice() {
-        add_good(&mut once, *place)?;
-    }
-    Ok(once)
-}
-
-/// Adds a good place, where it is not there yet.
-fn add_good(goods: &mut Places, place: u32) -> Result<(), AllocError>
-    ensures { OnOk result (goods.new ≡ texts.with_good goods.old place) }
-{
-    if goods.as_slice().contains(&place) {
-        return Ok(());
-    }
-    goods.push(place)
-}
-
-/// Adds the status line of an entry, where an end is not known after it.
-fn put_status(
-    out: &mut Bytes,
-    sides: Sides<'_>,
-    known: &Known,
-    entry: &Entry,
-) -> Result<(), AllocError>
-    ensures { OnOk result (out.new ≡ out.old ++ texts.status_line (sides_of sides.entry) (known_of known.now) entry.now) }
-{
-    if !has_status(entry) || (known.bad && !known.goods.is_empty()) {
-        return Ok(());
-    }
-    out.append(b"# status: ")?;
-    put_waiting(out, sides, known.bad, known.goods.len() as u64)?;
-    out.append(b"\n")
-}
-
-/// Whether an entry may have a status line.
-fn has_status(entry: &Entry) -> bool
-    ensures { result ≡ texts.has_status entry.now }
-{
-    match entry {
-        Entry::Start { .. } | Entry::Marked { .. } => true,
-        _ => false,
-    }
 }

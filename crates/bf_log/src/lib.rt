@@ -4,11 +4,15 @@
 
 mod answer;
 mod entries;
+mod known;
 mod label;
+mod state;
 mod write;
 
+pub use known::Known;
 pub use label::{Commits, Sides};
-pub use write::{write_aborted, write_ask, write_entries, write_waiting};
+pub use state::{Standing, write_state};
+pub use write::{write_aborted, write_ask, write_entries, write_more, write_waiting};
 
 #[cfg(test)]
 mod tests;

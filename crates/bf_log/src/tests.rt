@@ -76,3 +76,74 @@ bisect aborted: exit 128 on 1111111111111111111111111111111111111111
     );
     Ok(())
 }
+
+// The good commit of the start is known already, so the mark has no status line.
+#[test]
+fn later_entries_go_on_from_what_is_known(rt: HostRuntime) -> Result<(), Fail> {
+    let names = [Oid([0x11; 20])];
+    let subjects = [Bytes::from_slice(rt.alloc(), b"c1")?];
+    let commits = Commits {
+        names: &names,
+        subjects: &subjects,
+    };
+    let sides = Sides {
+        new: b"bad",
+        old: b"good",
+    };
+    let first = [Entry::Start {
+        first_parent: false,
+        terms_given: false,
+        bad: None,
+        goods: Places::from_slice(rt.alloc(), &[0])?,
+    }];
+    let later = [Entry::Marked {
+        mark: Mark::Bad,
+        place: 0,
+    }];
+    let mut known = Known::nothing(rt.alloc());
+    let mut out = Bytes::new(rt.alloc());
+    known.learn_all(&first)?;
+    write_more(&mut known.try_clone()?, commits, sides, &later, &mut out)?;
+    assert_eq!(rt;
+        out.as_slice(),
+        b"# bad: [1111111111111111111111111111111111111111] c1
+git bisect bad 1111111111111111111111111111111111111111
+"
+            .as_slice()
+    );
+    Ok(())
+}
+
+#[test]
+fn a_state_is_told(rt: HostRuntime) -> Result<(), Fail> {
+    let names = [Oid([0x11; 20]), Oid([0x2a; 20]), Oid([0x33; 20])];
+    let subjects = [
+        Bytes::new(rt.alloc()),
+        Bytes::new(rt.alloc()),
+        Bytes::new(rt.alloc()),
+    ];
+    let commits = Commits {
+        names: &names,
+        subjects: &subjects,
+    };
+    let sides = Sides {
+        new: b"slow",
+        old: b"fast",
+    };
+    let standing = Standing {
+        bad: Some(2),
+        goods: &[1],
+        skipped: &[0],
+    };
+    let mut out = Bytes::new(rt.alloc());
+    write_state(commits, sides, standing, &mut out)?;
+    assert_eq!(rt;
+        out.as_slice(),
+        b"slow: 3333333333333333333333333333333333333333
+fast: 2a2a2a2a2a2a2a2a2a2a2a2a2a2a2a2a2a2a2a2a
+skip: 1111111111111111111111111111111111111111
+"
+            .as_slice()
+    );
+    Ok(())
+}

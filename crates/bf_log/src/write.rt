@@ -2,10 +2,12 @@
 //! it behind.
 ghost use Rattle.std.specs.Prelude.{◌≡◌, ◌<◌, ◌++◌, length, All, OnOk, OnErr};
 ghost use Rattle.bf_texts.specs.Texts as texts;
+ghost use Rattle.bf_logs.specs.Written.{known_after_all};
 ghost use Rattle.bf_log.specs.Labels.{AreCommits, IsAskWithin, IsEntryWithin, commits_of, sides_of};
 
 use crate::answer::{put_aborted, put_ask, put_waiting_line};
 use crate::entries::put_entries;
+use crate::known::Known;
 use crate::label::{Commits, Sides};
 use bf_io::Bytes;
 use bf_search::{Ask, Entry, Outcome};
@@ -25,9 +27,30 @@ pub fn write_entries(
     ensures ok { OnOk result (out.new ≡ out.old ++ texts.log (commits_of commits.entry) (sides_of sides.entry) entries.now) }
     ensures err { OnErr result (out.new ≡ out.old) }
 {
-    let mut text = Bytes::new(alloc);
-    put_entries(alloc, commits, sides, entries, &mut text)?;
-    out.append(text.as_slice())
+    write_more(&mut Known::nothing(alloc), commits, sides, entries, out)
+}
+
+/// Adds the lines of further entries of a log, as they go on from what is known before them, and notes
+/// what they make known. After an error all is as before.
+pub fn write_more(
+    known: &mut Known,
+    commits: Commits<'_>,
+    sides: Sides<'_>,
+    entries: &[Entry],
+    out: &mut Bytes,
+) -> Result<(), AllocError>
+    requires commits { AreCommits commits }
+    requires places { All (IsEntryWithin (length commits.names.now)) entries.now }
+    ensures ok { OnOk result (out.new ≡ out.old ++ texts.log_from (commits_of commits.entry) (sides_of sides.entry) known.old entries.now) }
+    ensures known { OnOk result (known.new ≡ known_after_all known.old entries.now) }
+    ensures err { OnErr result ((out.new ≡ out.old) × (known.new ≡ known.old)) }
+{
+    let mut text = Bytes::new(out.allocator());
+    let mut after = known.try_clone()?;
+    put_entries(&mut after, commits, sides, entries, &mut text)?;
+    out.append(text.as_slice())?;
+    *known = after;
+    Ok(())
 }
 
 /// Adds the lines that an ask answers with. An ask that waits has none: `write_waiting` says what is

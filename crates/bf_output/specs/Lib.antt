@@ -6,4 +6,5 @@ pub mod Simulate
 pub mod Next
 pub mod Gen
 pub mod Sample
+pub mod Tested
 pub mod Output

@@ -9,17 +9,19 @@ use Rattle.bf_words.specs.declared.request.Request.{Request}
 use Rattle.bf_words.specs.declared.verb.Verb.{Verb}
 use Rattle.bf_words.specs.declared.verb.Verb.TheVariants.{Simulate, Run, Next, Replay, Gen, Sample}
 use Rattle.bf_words.specs.Words.{request}
+use Rattle.bf_output.specs.Beginning.{begun_with_skips}
 use Rattle.bf_output.specs.Gen.{generated, made_stream}
 use Rattle.bf_output.specs.Next.{next_told}
 use Rattle.bf_output.specs.Refusals.{usage, refusal, unbuilt}
 use Rattle.bf_output.specs.Sample.{sampled}
 use Rattle.bf_output.specs.Simulate.{simulated}
+use Rattle.bf_output.specs.Tested.{Tested, IsTestedFrom, IsUsed}
 use Rattle.bf_output.specs.Told.{Told, told_by}
 
 -- what is not built yet: commands, and options
 abbrev pub is_built_verb : Verb → Bool
 is_built_verb Simulate = true
-is_built_verb Run = false
+is_built_verb Run = true
 is_built_verb Next = true
 is_built_verb Replay = false
 is_built_verb Gen = true
@@ -29,16 +31,17 @@ abbrev pub is_built : Request → Bool
 is_built request =
     is_built_verb request.verb && not (is_some request.replay) && (request.leg == 0) && not request.trace
 
--- what the program is given beside its stream
+-- what the program is given beside its stream: its words, and what its tester shows
 pub record Given : Type 0 where
   pub words : List (List ℕ)
+  pub tested : Tested
 
 -- ---- over a history
 
 -- what a command answers over a history; `gen` looks at none
 abbrev pub IsOver : Verb → Request → Given → History → Told → Type 0
 IsOver Simulate request given history told = told ≡ told_by (simulated request given.words history)
-IsOver Run request given history told = told ≡ unbuilt
+IsOver Run request given history told = IsTestedFrom (begun_with_skips request given.words history) request.workers given.tested history told
 IsOver Next request given history told = told ≡ told_by (next_told request given.words history)
 IsOver Replay request given history told = told ≡ unbuilt
 IsOver Gen request given history told = told ≡ generated request
@@ -92,3 +95,25 @@ IsOutput given stream told = IsOutputFor (request given.words) given stream told
 abbrev pub reads : Result Request ℕ → Bool
 reads (Err word) = false
 reads (Ok request) = reads_stream request.verb
+
+-- whether the words ask for a command that tests commits
+abbrev pub is_run : Verb → Bool
+is_run Simulate = false
+is_run Run = true
+is_run Next = false
+is_run Replay = false
+is_run Gen = false
+is_run Sample = false
+
+abbrev pub tests : Result Request ℕ → Bool
+tests (Err word) = false
+tests (Ok request) = is_run request.verb
+
+-- the tester is used as the words say, where they ask for tests; else it is as it was
+abbrev pub IsUsedIf : Bool → Request → List (List ℕ) → Tested → Tested → Type 0
+IsUsedIf false request words before after = after ≡ before
+IsUsedIf true request words before after = IsUsed request words before after
+
+abbrev pub IsUsedFor : Result Request ℕ → List (List ℕ) → Tested → Tested → Type 0
+IsUsedFor (Err word) words before after = after ≡ before
+IsUsedFor (Ok request) words before after = IsUsedIf (is_run request.verb) request words before after

@@ -1,5 +1,5 @@
 -- The refusals of the program, each with its status and its line.
-use Rattle.std.specs.Prelude.{ℕ, Bool, List, [], ◌++◌, codes}
+use Rattle.std.specs.Prelude.{ℕ, Bool, [], ◌++◌, codes}
 use Rattle.std.specs.Fmt.{decimal}
 use Rattle.bf_grammar.specs.declared.fault.Limit.{Limit}
 use Rattle.bf_grammar.specs.declared.fault.StreamFault.{StreamFault}

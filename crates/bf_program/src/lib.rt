@@ -10,6 +10,7 @@ mod named;
 mod next;
 mod plan;
 mod refusals;
+mod run;
 mod sample;
 mod simulate;
 mod skips;

@@ -87,7 +87,7 @@ fn run<R: Host>(
 }
 
 /// The answer of a run that has ended: the log of all entries, and how it ended.
-fn answer_of(
+pub(crate) fn answer_of(
     alloc: Global,
     history: &History,
     terms: &Terms,

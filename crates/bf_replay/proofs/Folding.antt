@@ -1,14 +1,17 @@
 -- The steps of a replay, joined to its fold.
-use Rattle.std.proofs.Common.{◌≡◌, ℕ, ◌+◌, ◌<◌, ◌≤◌, Bool, IfSome, IfNone, List, [], ◌∷◌, ◌++◌, length, drop, get_or, Option, Some, None, Result, Ok, Err, refl, sym, ap, ◌∙◌, append_assoc, append-nil, add-one}
+use Rattle.std.proofs.Common.{◌≡◌, ℕ, ◌+◌, ◌<◌, ◌≤◌, Bool, IfSome, IfNone, List, [], ◌∷◌, ◌++◌, length, drop, get_or, Option, Some, None, Result, Ok, Err, refl, sym, subst, ap, ◌∙◌, append_assoc, append-nil, add-one}
 use Rattle.std.proofs.Math.Seq.{drop-cons}
 use Rattle.std.proofs.lemmas.List.{drop_all}
-use Rattle.std.proofs.lemmas.List.Elements.{All-head, All-tail}
+use Rattle.std.proofs.lemmas.List.Elements.{All-append, All-head, All-map, All-push, All-tail}
 use Rattle.std.specs.List.{All}
 use Rattle.bf_reading.specs.declared.line.LogLine.{LogLine}
+use Rattle.bf_log.specs.Labels.{IsEntryWithin}
+use Rattle.bf_logs.specs.Told.{warnings}
 use Rattle.bf_logs.specs.Replay as replay
 use Rattle.bf_logs.specs.Replay.{Setting, Replayed, if_ok, named, places_of, take_line, replay_from, bad_of, goods_of, tried, leaves_open, names_terms, begun_at}
 use Rattle.bf_search.specs.declared.entries.Entry.{Entry}
-use Rattle.bf_search.specs.declared.entries.Entry.TheVariants.{Start}
+use Rattle.bf_search.specs.declared.entries.Entry.TheVariants.{Start, Marked, SkippedBase}
+use Rattle.bf_search.specs.declared.outcomes.Mark.{Mark}
 use Rattle.bf_state.specs.Session.{Session, begun}
 use Rattle.bf_terms.specs.declared.terms.TermFault.{TermFault}
 use Rattle.bf_terms.specs.declared.terms.TermFault.TheVariants as terms
@@ -161,3 +164,17 @@ pub begun_is : (graph : List (List ℕ)) (sides : Sides) (first_parent : Bool) (
 begun_is graph sides first_parent new old revs places len terms_open given bad goods copy state items none s l o g b
     gs c n i =
     rw (i, c, n, s, l, o, g, b, gs) refl
+
+-- ---- the places of entries
+
+-- the entries of a mark are within, where its place and the warned ones are
+pub marked_within : (n : ℕ) (before after : List Entry) (warned : List ℕ) (m : Mark) (p : ℕ) → All (IsEntryWithin n) before
+    → All (λ q. q < n) warned → p < n → after ≡ before ++ (warnings warned ++ Marked m p ∷ []) → All (IsEntryWithin n) after
+marked_within n before after warned m p old w h is =
+    subst (λ (es : List Entry). All (IsEntryWithin n) es) (sym is)
+    (All-append (IsEntryWithin n) before (warnings warned ++ Marked m p ∷ []) old
+    (All-push (IsEntryWithin n) (warnings warned) (Marked m p) (All-map (IsEntryWithin n) SkippedBase warned w) h))
+
+-- places below a length are below an equal one
+pub below_same : (n m : ℕ) (ps : List ℕ) → n ≡ m → All (λ p. p < n) ps → All (λ p. p < m) ps
+below_same n m ps e h = subst (λ (k : ℕ). All (λ p. p < k) ps) e h

@@ -1,7 +1,8 @@
 -- What a replay means over a history.
-use Rattle.std.specs.Prelude.{◌≡◌, ℕ, Bool, List, Result, Option, Some, None}
+use Rattle.std.specs.Prelude.{◌≡◌, ℕ, Bool, List, Result, Option, Some, None, All}
 use Rattle.std.specs.Borrow.{Bor}
 use Rattle.bf_history.specs.Meanings.{History}
+use Rattle.bf_log.specs.Labels.{IsEntryWithin}
 use Rattle.bf_names.specs.Names.{name}
 use Rattle.bf_names.specs.declared.fault.NameFault.{NameFault}
 use Rattle.bf_reading.specs.declared.line.LogLine.{LogLine}
@@ -29,6 +30,10 @@ replayed_before (Some r) = Some (replayed_of r)
 -- the state is one over so many commits
 abbrev pub HasLength : ℕ → Replayed → Type 0
 HasLength len r = r.state.len ≡ len
+
+-- the entries name places of so many commits
+abbrev pub AreWithin : ℕ → Replayed → Type 0
+AreWithin len r = All (IsEntryWithin len) r.entries.items
 
 -- a text that may be there, as it is lent
 abbrev pub text_of : Option (Bor (List ℕ)) → Option (List ℕ)

@@ -1,6 +1,6 @@
 //! The fold of the command lines.
 ghost use Rattle.std.specs.Prelude.{◌≡◌, ◌<◌, length, Ok, IfOk, IfErr, IfSome};
-ghost use Rattle.bf_replay.specs.Meaning.{replay_in, replayed_of, text_of, HasLength};
+ghost use Rattle.bf_replay.specs.Meaning.{replay_in, replayed_of, text_of, AreWithin, HasLength};
 ghost use Rattle.bf_replay.specs.Parts.{line_in, named_in};
 ghost use Rattle.bf_replay.specs.Refusals.{IsRefusal};
 
@@ -44,6 +44,7 @@ pub fn replay(
     requires { reach.now ≡ history.now.parents }
     ensures replayed { IfOk result (λ r. replay_in history.now lines.now ≡ Ok (replayed_of r)) }
     ensures len { IfOk result (HasLength (length history.now.parents)) }
+    ensures within { IfOk result (AreWithin (length history.now.parents)) }
     ensures refused { IfErr result (λ fault. IsRefusal fault (replay_in history.now lines.now)) }
 {
     let setting = Setting {
@@ -77,8 +78,10 @@ fn take_line(
 ) -> Result<Replayed, ReplayFault>
     requires reach { setting.reach.now ≡ setting.history.now.parents }
     requires len { IfSome before (HasLength (length setting.history.now.parents)) }
+    requires within { IfSome before (AreWithin (length setting.history.now.parents)) }
     ensures replayed { IfOk result (λ r. line_in setting.entry.history.now before line.now ≡ Ok (replayed_of r)) }
     ensures len { IfOk result (HasLength (length setting.entry.history.now.parents)) }
+    ensures within { IfOk result (AreWithin (length setting.entry.history.now.parents)) }
     ensures refused { IfErr result (λ fault. IsRefusal fault (line_in setting.entry.history.now before line.now)) }
 {
     match &line.word {

@@ -2,7 +2,7 @@
 ghost use Rattle.std.specs.Prelude.{◌≡◌, ◌++◌, ◌∷◌, [], length, Ok, Some, IfOk, IfErr, OnOk};
 ghost use Rattle.bf_logs.specs.Replay as logs;
 ghost use Rattle.bf_logs.specs.Told.{warnings};
-ghost use Rattle.bf_replay.specs.Meaning.{replayed_of, with_terms, with_open, HasLength};
+ghost use Rattle.bf_replay.specs.Meaning.{replayed_of, with_terms, with_open, AreWithin, HasLength};
 ghost use Rattle.bf_replay.specs.Parts.{mark_in};
 ghost use Rattle.bf_replay.specs.Refusals.{IsRefusal};
 
@@ -23,8 +23,10 @@ pub(crate) fn take_mark(
 ) -> Result<Replayed, ReplayFault>
     requires reach { setting.reach.now ≡ setting.history.now.parents }
     requires len { HasLength (length setting.history.now.parents) before }
+    requires within { AreWithin (length setting.history.now.parents) before }
     ensures replayed { IfOk result (λ r. mark_in setting.entry.history.now line before term.now rev.now ≡ Ok (replayed_of r)) }
     ensures len { IfOk result (HasLength (length setting.entry.history.now.parents)) }
+    ensures within { IfOk result (AreWithin (length setting.entry.history.now.parents)) }
     ensures refused { IfErr result (λ fault. IsRefusal fault (mark_in setting.entry.history.now line before term.now rev.now)) }
 {
     let Replayed {

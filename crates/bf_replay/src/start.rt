@@ -1,7 +1,7 @@
 //! A start line.
 ghost use Rattle.std.specs.Prelude.{◌≡◌, ◌<◌, List, length, Ok, IfOk, IfErr, All};
 ghost use Rattle.bf_logs.specs.Replay as logs;
-ghost use Rattle.bf_replay.specs.Meaning.{replayed_of, text_of, HasLength};
+ghost use Rattle.bf_replay.specs.Meaning.{replayed_of, text_of, AreWithin, HasLength};
 ghost use Rattle.bf_replay.specs.Parts.{begun_in, places_in, start_in, terms_in};
 ghost use Rattle.bf_replay.specs.Refusals.{IsRefusal, term_refusal};
 
@@ -44,6 +44,7 @@ pub(crate) fn take_start(
 ) -> Result<Replayed, ReplayFault>
     ensures replayed { IfOk result (λ r. start_in setting.entry.history.now line start.entry ≡ Ok (replayed_of r)) }
     ensures len { IfOk result (HasLength (length setting.entry.history.now.parents)) }
+    ensures within { IfOk result (AreWithin (length setting.entry.history.now.parents)) }
     ensures refused { IfErr result (λ fault. IsRefusal fault (start_in setting.entry.history.now line start.entry)) }
 {
     let terms = read_terms(setting, line, start.new, start.old)?;
@@ -110,6 +111,7 @@ fn begin(
     requires { All (λ place. place < length setting.history.now.parents) places.now }
     ensures replayed { IfOk result (λ r. replayed_of r ≡ begun_in setting.entry.history.now terms start.entry places.now) }
     ensures len { IfOk result (HasLength (length setting.entry.history.now.parents)) }
+    ensures within { IfOk result (AreWithin (length setting.entry.history.now.parents)) }
     ensures memory { IfErr result (λ fault. fault ≡ ReplayFault.NoMemory) }
 {
     let (bad, goods) = ends(places);

@@ -21,6 +21,7 @@ loop-line-preserved c = record {
       (replayed_before c.loop-line.replayed)
       c.loop-line-test.true c.line-item.is (replayed_of c.in_ok-take_line.field-0) c.in_ok-take_line.ensures.replayed;
   len = c.in_ok-take_line.ensures.len;
+  within = c.in_ok-take_line.ensures.within;
 }
 
 pub returns-in-Some-clause-replayed : goal.returns-in-Some-clause-replayed

@@ -1,0 +1,238 @@
+-- What each command of a stream keeps.
+use Rattle.std.proofs.Common.{◌≡◌, ℕ, zero, suc, ◌+◌, ◌<◌, ◌≤◌, ◌==◌, Bool, true, false, not, cond, nat_lt, List, [], ◌∷◌, ◌++◌, length, map, codes, get_or, Option, Some, None, Result, Ok, Err, IfOk, refl, sym, ap, subst, ◌∙◌, arith, ⊎_elim, length-append}
+use Rattle.std.proofs.lemmas.Bool.{cases_lt}
+use Rattle.std.proofs.lemmas.List.Elements.{All-nil, All-push}
+use Rattle.std.proofs.lemmas.Slice.Eq.{bytes_eq-Decides}
+use Rattle.std.specs.List.{All, position}
+use Rattle.std.specs.Option.{option_map, option_to_list}
+use Rattle.bf_grammar.specs.declared.command.Change.{Change}
+use Rattle.bf_grammar.specs.declared.command.Command.{Command}
+use Rattle.bf_grammar.specs.declared.command.Command.TheVariants as command
+use Rattle.bf_grammar.specs.declared.command.Target.{Target}
+use Rattle.bf_grammar.specs.declared.fault.Limits.{Limits}
+use Rattle.bf_grammar.specs.declared.fault.StreamFault.{StreamFault}
+use Rattle.bf_grammar.specs.declared.object.Kind.TheVariants as kind
+use Rattle.bf_grammar.specs.declared.object.Oid.{Oid}
+use Rattle.bf_grammar.specs.Object.{object_header}
+use Rattle.bf_grammar.specs.Place.{is_end_of_line}
+use Rattle.bf_forest.specs.declared.edits.Edit.{Edit}
+use Rattle.bf_forest.specs.Files.{Files, edited, is_same}
+use Rattle.bf_forest.specs.Trees.{tree_name, with_directories, entries_of}
+use Rattle.bf_history.specs.declared.fault.ImportFault.{ImportFault}
+use Rattle.bf_history.specs.declared.fault.ImportFault.TheVariants.{BadFrom, Unsupported}
+use Rattle.bf_history.specs.declared.marked.Marked.TheVariants as marked
+use Rattle.bf_history.specs.Bodies.{Saying, commit_body, without_empty_lines}
+use Rattle.bf_history.specs.Imports.{loaded}
+use Rattle.bf_history.specs.Meanings.{History, Loading, Commit, nothing_loaded, ◌>>=◌, each_of, place_named, place_of_target, edit_of, begins_with, files_from, name_at, commit_on, stood, with_commit, place_of_commit, within_limits, with_ref, without_ref, with_mark, after_commit, after_reset, after_tag, after_command, is_no_name}
+use Rattle.bf_tables.proofs.Positions.{position_more}
+use Rattle.bf_kept.specs.Kept.{IsOneLine, IsWholeName, IsKept}
+use Rattle.bf_kept.proofs.Digests.{sha1_long, sha1_bytes, front_passes}
+
+-- ---- one more name
+
+abbrev or_last : Option ℕ → Bool → ℕ → Option ℕ
+or_last (Some at) here n = Some at
+or_last None here n = cond here (Some n) None
+
+one_on : (b : Bool) (o : Option ℕ) (c : Bool) (n : ℕ)
+    → cond b (Some 0) (option_map suc (or_last o c n)) ≡ or_last (cond b (Some 0) (option_map suc o)) c (suc n)
+one_on true o c n = refl
+one_on false (Some at) c n = refl
+one_on false None true n = refl
+one_on false None false n = refl
+
+position_push : {X : Type 0} (p : X → Bool) (xs : List X) (y : X) → position p (xs ++ y ∷ []) ≡ or_last (position p xs) (p y) (length xs)
+position_push p [] y = position_more p y []
+position_push p (x ∷ xs) y =
+    position_more p x (xs ++ y ∷ [])
+    ∙ ap (λ o. cond (p x) (Some 0) (option_map suc o)) (position_push p xs y)
+    ∙ one_on (p x) (position p xs) (p y) (length xs)
+    ∙ ap (λ o. or_last o (p y) (suc (length xs))) (sym (position_more p x xs))
+
+at_low : {X : Type 0} (xs : List X) (y d : X) (p : ℕ) → p < length xs → get_or (xs ++ y ∷ []) p d ≡ get_or xs p d
+at_low [] y d p h = absurd (omega arith)
+at_low (x ∷ xs) y d zero h = refl
+at_low (x ∷ xs) y d (suc p) h = at_low xs y d p (omega arith)
+
+at_last : {X : Type 0} (xs : List X) (y d : X) → get_or (xs ++ y ∷ []) (length xs) d ≡ y
+at_last [] y d = refl
+at_last (x ∷ xs) y d = at_last xs y d
+
+abbrev AreFound : List Oid → Type 0
+AreFound names = (p : ℕ) → p < length names → place_named names (get_or names p (record { 0 = [] })) ≡ Some p
+
+found_push : (names : List Oid) (name : Oid) → AreFound names → place_named names name ≡ None → AreFound (names ++ name ∷ [])
+found_push names name found new = λ p h. ⊎_elim (low p) (last p h) (cases_lt p (length names))
+  where
+    low : (p : ℕ) → p < length names → place_named (names ++ name ∷ []) (get_or (names ++ name ∷ []) p (record { 0 = [] })) ≡ Some p
+    low p l =
+        let one : Oid = get_or names p (record { 0 = [] }) in
+        ap (place_named (names ++ name ∷ [])) (at_low names name (record { 0 = [] }) p l)
+        ∙ position_push (λ (other : Oid). is_same one.0 other.0) names name
+        ∙ ap (λ o. or_last o (is_same one.0 name.0) (length names)) (found p l)
+
+    last : (p : ℕ) → p < length (names ++ name ∷ []) → length names ≤ p
+        → place_named (names ++ name ∷ []) (get_or (names ++ name ∷ []) p (record { 0 = [] })) ≡ Some p
+    last p h l =
+        let e : p ≡ length names = omega (arith, length-append names (name ∷ [])) in
+        ap (λ q. place_named (names ++ name ∷ []) (get_or (names ++ name ∷ []) q (record { 0 = [] }))) e
+        ∙ ap (place_named (names ++ name ∷ [])) (at_last names name (record { 0 = [] }))
+        ∙ position_push (λ (other : Oid). is_same name.0 other.0) names name
+        ∙ ap (λ o. or_last o (is_same name.0 name.0) (length names)) new
+        ∙ ap (λ b. cond b (Some (length names)) None) ((bytes_eq-Decides name.0 name.0).1 refl)
+        ∙ ap Some (sym e)
+
+-- ---- one more commit
+
+stood_kept : (history : History) (directories : List Files) (commit : Commit) → IsKept history → IsOneLine commit.subject
+    → IsWholeName commit.name
+    → (found : Option ℕ) → place_named history.names commit.name ≡ found → IsKept (stood history directories found commit)
+stood_kept history directories commit k line whole (Some place) is = record {
+  counted = k.counted;
+  one_line = k.one_line;
+  whole = k.whole;
+  found = k.found;
+}
+stood_kept history directories commit k line whole None is = record {
+  counted = length-append history.parents (commit.parents ∷ []) ∙ ap (λ n. n + 1) k.counted ∙ sym (length-append history.names (commit.name ∷ []));
+  one_line = All-push IsOneLine history.subjects commit.subject k.one_line line;
+  whole = All-push IsWholeName history.names commit.name k.whole whole;
+  found = found_push history.names commit.name k.found is;
+}
+
+commit_kept : (history : History) (commit : Commit) → IsKept history → IsOneLine commit.subject → IsWholeName commit.name
+    → IsKept (with_commit history commit)
+unfolding with_commit
+commit_kept history commit k line whole =
+    stood_kept history (with_directories history.directories commit.files) commit k line whole (place_named history.names commit.name) refl
+
+one_line : (history : History) (parents : List ℕ) (files : Files) (saying : Saying) → IsOneLine (commit_on history parents files saying).subject
+unfolding commit_on
+one_line history parents files saying = front_passes (λ b. not (b == 10)) (without_empty_lines saying.message)
+
+whole_name : (history : History) (parents : List ℕ) (files : Files) (saying : Saying) → IsWholeName (commit_on history parents files saying).name
+unfolding commit_on
+whole_name history parents files saying =
+    let body : List ℕ = commit_body (tree_name files) (map (name_at history) parents) saying in
+    record {
+      long = sha1_long (object_header kind.Commit (length body) ++ body);
+      bytes = sha1_bytes (object_header kind.Commit (length body) ++ body);
+    }
+
+-- ---- commands
+
+abbrev AfterIsKept : Result Loading ImportFault → Type 0
+AfterIsKept result = IfOk result (λ loading. IsKept loading.history)
+
+last_step : {D Y : Type 0} (d : Result D ImportFault) (f : D → Y) (P : Y → Type 0) → ((w : D) → d ≡ Ok w → P (f w)) → IfOk (d >>= λ w. Ok (f w)) P
+last_step (Ok w) f P h = h w refl
+last_step (Err e) f P h = tt
+
+four_steps : {A B C D Y : Type 0} (a : Result A ImportFault) (b : Result B ImportFault) (c : Result C ImportFault)
+    (d : A → B → C → Result D ImportFault) (f : A → B → C → D → Y) (P : Y → Type 0)
+    → ((x : A) (y : B) (z : C) (w : D) → d x y z ≡ Ok w → P (f x y z w))
+    → IfOk (a >>= λ x. b >>= λ y. c >>= λ z. d x y z >>= λ w. Ok (f x y z w)) P
+four_steps (Ok x) (Ok y) (Ok z) d f P h = last_step (d x y z) (f x y z) P (h x y z)
+four_steps (Ok x) (Ok y) (Err e) d f P h = tt
+four_steps (Ok x) (Err e) c d f P h = tt
+four_steps (Err e) b c d f P h = tt
+
+err_ok : {X F : Type 0} (e : F) (x : X) → Err e ≡ Ok x → ⊥
+err_ok e x h = cc
+
+limited : {X F : Type 0} (one other : Bool) (e f : F) (x w : X) → cond one (Err e) (cond other (Err f) (Ok x)) ≡ Ok w → x ≡ w
+limited true other e f x w h = absurd (err_ok e w h)
+limited false true e f x w h = absurd (err_ok f w h)
+limited false false e f x w h = cc
+
+within_same : (limits : Limits) (history after : History) → within_limits limits history ≡ Ok after → history ≡ after
+unfolding within_limits
+within_same limits history after h =
+    limited (nat_lt limits.entries (entries_of history.directories)) (nat_lt limits.commits (length history.names)) _ _ history after h
+
+-- the commit that a command makes
+abbrev made : Loading → Saying → Option ℕ → List ℕ → List Edit → Commit
+made loading saying first others edits = commit_on loading.history (option_to_list first ++ others) (edited (files_from loading.history first) edits) saying
+
+after_commit_kept : (limits : Limits) (loading : Loading) (branch : List ℕ) (mark : Option ℕ) (saying : Saying) (from : Option Target)
+    (merges : List Target) (changes : List Change) → IsKept loading.history
+    → AfterIsKept (after_commit limits loading branch mark saying from merges changes)
+unfolding after_commit
+after_commit_kept limits loading branch mark saying from merges changes k =
+    four_steps (begins_with loading branch from) (each_of (place_of_target BadFrom loading) merges) (each_of (edit_of loading.marks) changes)
+    (λ first others edits. within_limits limits (with_commit loading.history (made loading saying first others edits)))
+    (λ first others edits history. record {
+      history = with_ref branch (place_of_commit loading.history (made loading saying first others edits)) history;
+      marks = with_mark mark (marked.Commit (place_of_commit loading.history (made loading saying first others edits))) loading.marks;
+    })
+    (λ after. IsKept after.history)
+    (λ first others edits history is.
+    let before : IsKept (with_commit loading.history (made loading saying first others edits)) =
+    commit_kept loading.history (made loading saying first others edits) k
+    (one_line loading.history (option_to_list first ++ others) (edited (files_from loading.history first) edits) saying)
+    (whole_name loading.history (option_to_list first ++ others) (edited (files_from loading.history first) edits) saying) in
+    let kept : IsKept history = subst IsKept (within_same limits (with_commit loading.history (made loading saying first others edits)) history is) before in
+    record { counted = kept.counted; one_line = kept.one_line; whole = kept.whole; found = kept.found })
+
+ref_kept : (name : List ℕ) (place : ℕ) (history : History) → IsKept history → IsKept (with_ref name place history)
+ref_kept name place history k = record { counted = k.counted; one_line = k.one_line; whole = k.whole; found = k.found }
+
+unref_kept : (name : List ℕ) (history : History) → IsKept history → IsKept (without_ref name history)
+unref_kept name history k = record { counted = k.counted; one_line = k.one_line; whole = k.whole; found = k.found }
+
+either_kept : (b : Bool) (one other : Result Loading ImportFault) → AfterIsKept one → AfterIsKept other → AfterIsKept (cond b one other)
+either_kept true one other h k = h
+either_kept false one other h k = k
+
+after_reset_kept : (loading : Loading) (branch : List ℕ) (from : Option Target) → IsKept loading.history
+    → AfterIsKept (after_reset loading branch from)
+unfolding after_reset
+after_reset_kept loading branch None k = unref_kept branch loading.history k
+after_reset_kept loading branch (Some target) k =
+    either_kept (is_no_name target.text) (Ok (record loading { history = without_ref branch loading.history }))
+    (place_of_target BadFrom loading target >>= λ place. Ok (record loading { history = with_ref branch place loading.history }))
+    (unref_kept branch loading.history k)
+    (last_step (place_of_target BadFrom loading target) (λ place. record loading { history = with_ref branch place loading.history })
+    (λ after. IsKept after.history) (λ place is. ref_kept branch place loading.history k))
+
+after_tag_kept : (loading : Loading) (name : List ℕ) (mark : Option ℕ) (target : Target) → IsKept loading.history
+    → AfterIsKept (after_tag loading name mark target)
+unfolding after_tag
+after_tag_kept loading name mark target k =
+    last_step (place_of_target Unsupported loading target)
+    (λ place. record { history = with_ref (codes "refs/tags/" ++ name) place loading.history; marks = with_mark mark marked.Tag loading.marks })
+    (λ after. IsKept after.history) (λ place is. ref_kept (codes "refs/tags/" ++ name) place loading.history k)
+
+command_kept : (limits : Limits) (loading : Loading) (c : Command) → IsKept loading.history → AfterIsKept (after_command limits loading c)
+unfolding after_command
+command_kept limits loading (command.Blob line mark content) k = k
+command_kept limits loading (command.Commit line branch mark author committer encoding message from merges changes) k =
+    after_commit_kept limits loading branch mark (record { author = author; committer = committer; encoding = encoding; message = message }) from merges changes k
+command_kept limits loading (command.Tag line name mark from) k = after_tag_kept loading name mark from k
+command_kept limits loading (command.Reset line branch from) k = after_reset_kept loading branch from k
+command_kept limits loading (command.Progress line) k = k
+command_kept limits loading (command.Feature line) k = k
+
+-- ---- streams
+
+behind : (r : Result Loading ImportFault) (next : Loading → Result History ImportFault) → AfterIsKept r
+    → ((x : Loading) → IsKept x.history → IfOk (next x) IsKept) → IfOk (r >>= next) IsKept
+behind (Ok x) next h then_kept = then_kept x h
+behind (Err e) next h then_kept = tt
+
+pub loaded_kept : (limits : Limits) (loading : Loading) (commands : List Command) (end : Option StreamFault) → IsKept loading.history
+    → IfOk (loaded limits loading commands end) IsKept
+unfolding loaded
+loaded_kept limits loading [] None k = k
+loaded_kept limits loading [] (Some fault) k = tt
+loaded_kept limits loading (c ∷ commands) end k =
+    behind (after_command limits loading c) (λ next. loaded limits next commands end) (command_kept limits loading c k)
+    (λ next kept. loaded_kept limits next commands end kept)
+
+pub nothing_kept : IsKept nothing_loaded.history
+nothing_kept = record {
+  counted = refl;
+  one_line = All-nil IsOneLine;
+  whole = All-nil IsWholeName;
+  found = λ p h. absurd (omega arith);
+}

@@ -1,0 +1,4 @@
+pub mod Digests
+pub mod Keeping
+pub mod Naming
+pub mod Replayable

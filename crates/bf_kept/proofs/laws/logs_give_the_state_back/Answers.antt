@@ -1,0 +1,10 @@
+use Rattle.bf_kept.specs.Kept.{commits_of}
+use Rattle.bf_kept.proofs.Replayable.{history_kept, replayable}
+use Rattle.bf_logs.proofs.Whole.{gives_back}
+use Rattle.bf_replay.specs.Meaning.{setting_of}
+use Rattle.bf_kept.proofs.laws.logs_give_the_state_back.Goals as goal
+
+pub returns : goal.returns
+returns c = λ history sides b known left s later before loaded g terms ends are led.
+    gives_back (setting_of history) (commits_of history) sides b (replayable history sides b (history_kept history loaded) terms ends)
+    known left s later before g are led

@@ -1,0 +1,22 @@
+-- The lines that tell a state: its bad commit, its good ones in the order in which they were marked, and the skipped ones
+-- by place.
+use Rattle.std.specs.Prelude.{◌≡◌, ℕ, ◌<◌, List, ◌++◌, codes, Option, All}
+use Rattle.std.specs.List.{flat_map}
+use Rattle.std.specs.Option.{ForSome}
+use Rattle.bf_texts.specs.Texts.{Commits, Sides, text_line, hex_of, given_bad}
+use Rattle.bf_log.specs.declared.state.Standing.{Standing}
+
+-- a word and the name of a commit
+abbrev pub name_line : Commits → List ℕ → ℕ → List ℕ
+name_line commits word p = (word ++ codes ": ") ++ text_line (hex_of commits p)
+
+unfoldable pub state_lines : Commits → Sides → Option ℕ → List ℕ → List ℕ → List ℕ
+state_lines commits sides bad goods skipped =
+    given_bad (name_line commits sides.new) bad ++ flat_map (name_line commits sides.old) goods
+    ++ flat_map (name_line commits (codes "skip")) skipped
+
+-- all places are places of so many commits
+pub record AreStanding (len : ℕ) (standing : Standing) : Type 0 where
+  pub bad : ForSome standing.bad (λ p. p < len)
+  pub goods : All (λ p. p < len) standing.goods.now
+  pub skipped : All (λ p. p < len) standing.skipped.now
