@@ -6,6 +6,7 @@ pub mod Simulate
 pub mod Next
 pub mod Gen
 pub mod Sample
+pub mod Tested
 pub mod Output
 pub mod Logs
 pub mod Replay

@@ -12,6 +12,7 @@ use Rattle.bf_shelf.specs.declared.shelf.LoadFault.{LoadFault}
 use Rattle.bf_shelf.specs.declared.shelf.ShelfFile.{ShelfFile}
 use Rattle.bf_shelf.specs.Files.{loaded}
 use Rattle.bf_words.specs.Words.{request, word_at}
+use Rattle.bf_output.specs.Beginning.{begun_with_skips}
 use Rattle.bf_output.specs.Gen.{generated, made_stream}
 use Rattle.bf_output.specs.Logs.{longest_log}
 use Rattle.bf_output.specs.Next.{next_told}
@@ -19,12 +20,13 @@ use Rattle.bf_output.specs.Refusals.{usage, refusal, unbuilt}
 use Rattle.bf_output.specs.Replay.{replay_told}
 use Rattle.bf_output.specs.Sample.{sampled}
 use Rattle.bf_output.specs.Simulate.{simulated}
+use Rattle.bf_output.specs.Tested.{Tested, IsTestedFrom, IsUsed}
 use Rattle.bf_output.specs.Told.{Told, told_by}
 
 -- what is not built yet: commands, and options
 abbrev pub is_built_verb : Verb → Bool
 is_built_verb Simulate = true
-is_built_verb Run = false
+is_built_verb Run = true
 is_built_verb Next = true
 is_built_verb Replay = true
 is_built_verb Gen = true
@@ -34,21 +36,22 @@ abbrev pub is_built : Request → Bool
 is_built request =
     is_built_verb request.verb && (request.leg == 0) && not request.trace
 
--- what the program is given beside its stream
+-- what the program is given beside its stream: its words, the files of its shelf, and what its tester shows
 pub record Given : Type 0 where
   pub words : List (List ℕ)
   pub files : Option (List ShelfFile)  -- where the shelf tells them
+  pub tested : Tested
 
 -- ---- over a history
 
 -- what a command answers over a history and the file that it is given; `gen` looks at none
-abbrev pub IsOverFile : Verb → Request → List (List ℕ) → Option (Result (List ℕ) LoadFault) → History → Told → Type 0
-IsOverFile Simulate request words file history told = told ≡ told_by (simulated request words file history)
-IsOverFile Run request words file history told = told ≡ unbuilt
-IsOverFile Next request words file history told = told ≡ told_by (next_told request words file history)
-IsOverFile Replay request words file history told = told ≡ told_by (replay_told file history)
-IsOverFile Gen request words file history told = told ≡ generated request
-IsOverFile Sample request words file history told = told ≡ sampled request history
+abbrev pub IsOverFile : Verb → Request → List (List ℕ) → Tested → Option (Result (List ℕ) LoadFault) → History → Told → Type 0
+IsOverFile Simulate request words tested file history told = told ≡ told_by (simulated request words file history)
+IsOverFile Run request words tested file history told = IsTestedFrom (begun_with_skips request words file history) request.workers tested history told
+IsOverFile Next request words tested file history told = told ≡ told_by (next_told request words file history)
+IsOverFile Replay request words tested file history told = told ≡ told_by (replay_told file history)
+IsOverFile Gen request words tested file history told = told ≡ generated request
+IsOverFile Sample request words tested file history told = told ≡ sampled request history
 
 -- what the shelf gives for the word of a log
 abbrev pub file_of : List (List ℕ) → ℕ → List ShelfFile → Result (List ℕ) LoadFault
@@ -56,9 +59,9 @@ file_of words i files = loaded files (word_at words i) longest_log
 
 -- Where the words name a log, the shelf gives it; where it does not tell its files, nothing is said of the answer.
 abbrev pub IsOverLog : Option ℕ → Request → Given → History → Told → Type 0
-IsOverLog None request given history told = IsOverFile request.verb request given.words None history told
+IsOverLog None request given history told = IsOverFile request.verb request given.words given.tested None history told
 IsOverLog (Some i) request given history told =
-    IfSome given.files (λ files. IsOverFile request.verb request given.words (Some (file_of given.words i files)) history told)
+    IfSome given.files (λ files. IsOverFile request.verb request given.words given.tested (Some (file_of given.words i files)) history told)
 
 abbrev pub IsOver : Request → Given → History → Told → Type 0
 IsOver request given history told = IsOverLog request.replay request given history told
@@ -116,3 +119,25 @@ reads (Ok request) = reads_stream request.verb
 abbrev pub asks_file : Result Request ℕ → Bool
 asks_file (Err word) = false
 asks_file (Ok request) = is_some request.replay
+
+-- whether the words ask for a command that tests commits
+abbrev pub is_run : Verb → Bool
+is_run Simulate = false
+is_run Run = true
+is_run Next = false
+is_run Replay = false
+is_run Gen = false
+is_run Sample = false
+
+abbrev pub tests : Result Request ℕ → Bool
+tests (Err word) = false
+tests (Ok request) = is_run request.verb
+
+-- the tester is used as the words say, where they ask for tests; else it is as it was
+abbrev pub IsUsedIf : Bool → Request → List (List ℕ) → Tested → Tested → Type 0
+IsUsedIf false request words before after = after ≡ before
+IsUsedIf true request words before after = IsUsed request words before after
+
+abbrev pub IsUsedFor : Result Request ℕ → List (List ℕ) → Tested → Tested → Type 0
+IsUsedFor (Err word) words before after = after ≡ before
+IsUsedFor (Ok request) words before after = IsUsedIf (is_run request.verb) request words before after

@@ -9,6 +9,7 @@ use Rattle.bf_history.specs.Meanings.{History}
 use Rattle.bf_words.specs.declared.request.Request.{Request}
 use Rattle.bf_output.specs.Output.{Given, IsOver, IsOverFile, IsOverLog, IsOverStream}
 use Rattle.bf_output.specs.Refusals.{refusal}
+use Rattle.bf_output.specs.Tested.{Tested}
 use Rattle.bf_output.specs.Told.{Told}
 use Rattle.bf_shelf.specs.declared.shelf.LoadFault.{LoadFault}
 use Rattle.bf_shelf.specs.declared.shelf.ShelfFile.{ShelfFile}
@@ -40,14 +41,14 @@ refused request given None fault (Ok answer) may whole is = tt
 refused request given (Some bytes) fault (Ok answer) may whole is = refused_of request given bytes fault (told_of answer) may whole is
 
 -- from the file that the shelf gave
-pub over_file : (replay : Option ℕ) (request : Request) (words : List (List ℕ)) (files : Option (List ShelfFile)) (history : History)
+pub over_file : (replay : Option ℕ) (request : Request) (words : List (List ℕ)) (files : Option (List ShelfFile)) (tested : Tested) (history : History)
     (file : Option LogFile) (told : Told) → IsFileOf files words replay file
-    → IsOverFile request.verb request words (option_map given_of file) history told
-    → IsOverLog replay request (record { words = words; files = files }) history told
-over_file None request words files history file told is over =
-    let P : Option LogFile → Type 0 = λ f. IsOverFile request.verb request words (option_map given_of f) history told in
+    → IsOverFile request.verb request words tested (option_map given_of file) history told
+    → IsOverLog replay request (record { words = words; files = files; tested = tested }) history told
+over_file None request words files tested history file told is over =
+    let P : Option LogFile → Type 0 = λ f. IsOverFile request.verb request words tested (option_map given_of f) history told in
     subst P is over
-over_file (Some i) request words None history file told is over = tt
-over_file (Some i) request words (Some files) history file told is over =
-    let P : Option (Result (List ℕ) LoadFault) → Type 0 = λ f. IsOverFile request.verb request words f history told in
+over_file (Some i) request words None tested history file told is over = tt
+over_file (Some i) request words (Some files) tested history file told is over =
+    let P : Option (Result (List ℕ) LoadFault) → Type 0 = λ f. IsOverFile request.verb request words tested f history told in
     subst P is over

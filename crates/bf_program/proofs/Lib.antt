@@ -7,3 +7,5 @@ mod Importing
 mod Planning
 mod Running
 mod Skipping
+mod Testing
+mod Using

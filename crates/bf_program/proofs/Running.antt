@@ -23,13 +23,13 @@ written history known sides entries end = record {
 }
 
 -- the text of what the run over a plan left
-pub ran_over : (history : History) (first : Beginning) (plan : List Outcome) (leg : ℕ) (left : Planned)
-    → IsRunOver history.parents first.state plan leg left → leg ≡ 0
-    → written history first.known left.state.terms (first.entries.items ++ left.entries.items) (ending_of left.end)
-    ≡ ran history (begun_of first) (run_over history (begun_of first) plan)
-ran_over history first plan leg left is none =
+pub ran_over : (history : History) (first : Beginning) (plan : List Outcome) (leg : ℕ) (left : Planned) (sides : Sides) (entries : List Entry)
+    → IsRunOver history.parents first.state plan leg left → leg ≡ 0 → sides ≡ left.state.terms → entries ≡ first.entries.items ++ left.entries.items
+    → written history first.known sides entries (ending_of left.end) ≡ ran history (begun_of first) (run_over history (begun_of first) plan)
+ran_over history first plan leg left sides entries is none same all =
     let over = subst (λ (k : ℕ). IsRunOver history.parents first.state plan k left) none is in
     let known = first.known in
-    ap (λ (s : Session). written history known s.terms (first.entries.items ++ left.entries.items) (ending_of left.end)) over.state
-    ∙ ap (λ (es : List Entry). written history known first.state.terms (first.entries.items ++ es) (ending_of left.end)) over.entries
+    ap (λ (s : Sides). written history known s entries (ending_of left.end)) (same ∙ ap (λ (s : Session). s.terms) over.state)
+    ∙ ap (λ (es : List Entry). written history known first.state.terms es (ending_of left.end))
+    (all ∙ ap (λ (es : List Entry). first.entries.items ++ es) over.entries)
     ∙ ap (λ (x : End). written history known first.state.terms (first.entries.items ++ (run_over history (begun_of first) plan).entries) x) over.end

@@ -1,11 +1,12 @@
 -- What the program may answer and write, where a device fails or memory runs out.
-use Rattle.std.specs.Prelude.{◌≡◌, ℕ, List, Option, IsTrue, ◌⊎◌}
+use Rattle.std.specs.Prelude.{◌≡◌, ℕ, Bool, List, Option, Some, IsTrue, ◌⊎◌}
 use Rattle.bf_io.specs.Causes.{Rose}
 use Rattle.bf_io.specs.Told.{Keeps, Appends, AppendsFront}
 use Rattle.bf_output.specs.declared.status.Status.{Status}
 use Rattle.bf_output.specs.declared.status.Status.TheVariants as status
 use Rattle.bf_output.specs.Output.{Given, IsOutput, asks_file, reads}
 use Rattle.bf_output.specs.Refusals.{file_fault, read_fault}
+use Rattle.bf_output.specs.Tested.{Tested}
 use Rattle.bf_words.specs.Words.{request}
 
 -- the faults that a device has counted before a call and after it
@@ -82,7 +83,7 @@ Answers met status.NoFile = IsAnswered met status.NoFile
 Answers met status.Waiting = IsAnswered met status.Waiting
 Answers met status.Unbuilt = IsAnswered met status.Unbuilt
 
--- an answer that no device cut short
+-- an answer that no device cut short, and no test
 abbrev pub IsWhole : Status → Type 0
 IsWhole status.ReadFault = ⊥
 IsWhole status.WriteFault = ⊥
@@ -99,7 +100,35 @@ IsWhole (status.StreamRefused line kind) = Unit {0}
 IsWhole (status.NameRefused word fault) = Unit {0}
 IsWhole (status.TooLarge what) = Unit {0}
 IsWhole (status.LogRefused line) = Unit {0}
-IsWhole (status.TestFault place) = Unit {0}
+IsWhole (status.TestFault place) = ⊥
 IsWhole status.NoFile = Unit {0}
 IsWhole status.Waiting = Unit {0}
 IsWhole status.Unbuilt = Unit {0}
+
+-- the words ask for tests, the count of faults of the tester rose, and its latest failed test is that of the place
+pub record IsFailedTest (asks : Bool) (before : ℕ) (after : Tested) (place : ℕ) : Type 0 where
+  pub asked : IsTrue asks
+  pub rose : Rose before after.faults
+  pub failed : after.failed ≡ Some place
+
+-- a status has its cause: no device cut the answer short, and a test fault comes of a failed test alone
+abbrev pub HasCause : Bool → ℕ → Tested → Status → Type 0
+HasCause asks before after (status.TestFault place) = IsFailedTest asks before after place
+HasCause asks before after status.ReadFault = ⊥
+HasCause asks before after status.WriteFault = ⊥
+HasCause asks before after status.ShelfFault = ⊥
+HasCause asks before after status.NoMemory = ⊥
+HasCause asks before after status.Done = Unit {0}
+HasCause asks before after (status.Usage word) = Unit {0}
+HasCause asks before after status.OnlySkipped = Unit {0}
+HasCause asks before after status.MergeBaseBad = Unit {0}
+HasCause asks before after status.GoodNotAncestor = Unit {0}
+HasCause asks before after status.BothSides = Unit {0}
+HasCause asks before after status.Aborted = Unit {0}
+HasCause asks before after (status.StreamRefused line kind) = Unit {0}
+HasCause asks before after (status.NameRefused word fault) = Unit {0}
+HasCause asks before after (status.TooLarge what) = Unit {0}
+HasCause asks before after (status.LogRefused line) = Unit {0}
+HasCause asks before after status.NoFile = Unit {0}
+HasCause asks before after status.Waiting = Unit {0}
+HasCause asks before after status.Unbuilt = Unit {0}

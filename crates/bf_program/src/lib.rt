@@ -12,6 +12,7 @@ mod next;
 mod plan;
 mod refusals;
 mod replay;
+mod run;
 mod sample;
 mod simulate;
 mod skips;

@@ -1,10 +1,19 @@
-//! A line of words that ask for something.
+//! Words, and lines of words that ask for something.
 use bf_io::Word;
 use bf_words::Request;
+use std::alloc::Global;
 
-/// The words of the command line, and what they ask for.
+/// The words of the command line, and what they ask for; and where the answer has its memory.
 #[derive(Clone, Copy)]
 pub(crate) struct Line<'a> {
+    pub alloc: Global,
     pub request: &'a Request,
+    pub words: &'a [Word],
+}
+
+/// The words of the command line before they are read; and where the answer has its memory.
+#[derive(Clone, Copy)]
+pub(crate) struct Typed<'a> {
+    pub alloc: Global,
     pub words: &'a [Word],
 }

@@ -19,12 +19,12 @@ use crate::file::LogFile;
 use crate::line::Line;
 use crate::plan::tester_of;
 use crate::tell::{commits_of, sides_of, status_of, write_end};
+use bf_alone::Ending;
 use bf_import::History;
 use bf_io::Bytes;
-use bf_log::{Known, write_more};
+use bf_log::write_more;
 use bf_reach::Reach;
 use bf_runs::{Planned, Search, run_planned};
-use bf_search::Entry;
 use bf_tester::{Host, PlanTester, Tester};
 use std::alloc::{AllocError, Global};
 
@@ -73,42 +73,48 @@ fn run<R: Host>(
     let Beginning {
         state,
         known,
-        entries,
+        mut entries,
     } = first;
-    let ran = run_planned(rt, alloc, search, state, tester)?;
-    let answer = answer_of(alloc, search.history, known, entries, ran)?;
-    Ok(answer)
-}
-
-/// The answer of a run that has ended: the lines of the entries before it and of its own, behind the log
-/// that stands already, and how it ended.
-fn answer_of(
-    alloc: Global,
-    history: &History,
-    known: Known,
-    before: Vec<Entry>,
-    ran: Planned,
-) -> Result<Answer, AllocError>
-    requires before { All (IsEntryWithin (length history.now.parents)) before.items }
-    requires places { All (IsEntryWithin (length history.now.parents)) ran.entries.items }
-    requires end { IsEndingWithin (length history.now.parents) ran.end }
-    ensures tells { IfOk result (λ answer. told_of answer ≡ record { status = simulate.status_of_end (ending_of ran.end); text = texts.log_from (beginning.commits_of history.now) ran.state.terms known (before.items ++ ran.entries.items) ++ texts.answer_lines (beginning.commits_of history.now) ran.state.terms (ending_of ran.end) }) }
-    ensures whole { IfOk result (λ answer. IsWhole answer.status) }
-{
     let Planned {
         entries: mut later,
         end,
         state,
-    } = ran;
-    let (mut known, mut entries) = (known, before);
+    } = run_planned(rt, alloc, search, state, tester)?;
     entries.append(&mut later)?;
+    let ended = Beginning {
+        state,
+        known,
+        entries,
+    };
+    let answer = answer_of(alloc, search.history, ended, &end)?;
+    Ok(answer)
+}
+
+/// The answer of a search whose run has ended: the lines of its entries, behind the log that stands already,
+/// and how it ended.
+pub(crate) fn answer_of(
+    alloc: Global,
+    history: &History,
+    ended: Beginning,
+    end: &Ending,
+) -> Result<Answer, AllocError>
+    requires places { All (IsEntryWithin (length history.now.parents)) ended.entries.items }
+    requires end { IsEndingWithin (length history.now.parents) end.now }
+    ensures tells { IfOk result (λ answer. told_of answer ≡ record { status = simulate.status_of_end (ending_of end.now); text = texts.log_from (beginning.commits_of history.now) ended.state.terms ended.known ended.entries.items ++ texts.answer_lines (beginning.commits_of history.now) ended.state.terms (ending_of end.now) }) }
+    ensures whole { IfOk result (λ answer. IsWhole answer.status) }
+{
+    let Beginning {
+        state,
+        mut known,
+        entries,
+    } = ended;
     let commits = commits_of(history);
     let sides = sides_of(&state.terms);
     let mut text = Bytes::new(alloc);
     write_more(&mut known, commits, sides, entries.as_slice(), &mut text)?;
-    write_end(commits, sides, &end, &mut text)?;
+    write_end(commits, sides, end, &mut text)?;
     Ok(Answer {
-        status: status_of(&end),
+        status: status_of(end),
         text,
     })
 }

@@ -4,7 +4,7 @@ ghost use Rattle.std.specs.Prelude.{◌<◌};
 use crate::{Status, bisect_main};
 use bf_io::{Bytes, MemSink, MemSource, PlainSink, Sink, Source, Word};
 use bf_shelf::PlainShelf;
-use bf_tester::PlanTester;
+use bf_tester::{FailRule, PlanTester, ScriptTester, Side};
 use std::alloc::{AllocError, Global};
 use std::process::{Processes, SystemProcess};
 use std::sync::Wait;
@@ -605,5 +605,76 @@ fn answers_are_flushed(rt: HostRuntime) -> Result<(), Fail> {
     let status = run(&rt, alloc, &[], &mut stream, &mut out)?;
     assert_eq!(rt; status, Status::WriteFault);
     assert_eq!(rt; out.bytes(), b"usage fault at word 0\n".as_slice());
+    Ok(())
+}
+
+/// The status and the text of `run` by so many workers over the line of eight, where the tests of a place
+/// fail on a side.
+fn tested<R>(
+    rt: &R,
+    alloc: Global,
+    workers: &[u8],
+    side: Side,
+) -> Result<(Status, Bytes), AllocError>
+where
+    R: Threads + Wait + Processes<Started = SystemProcess> + Eprint + Sync,
+{
+    let line: &[&[u8]] = &[
+        b"run",
+        b"--workers",
+        workers,
+        b"main",
+        b"main~7",
+        b"--",
+        b"t",
+    ];
+    let words = words_of(alloc, line)?;
+    let mut stream = MemSource::new(Bytes::from_slice(alloc, EIGHT)?, 65_536, Vec::new(alloc));
+    let mut shelf = PlainShelf::new(Vec::new(alloc));
+    let mut rules = Vec::new(alloc);
+    rules.push(FailRule { place: 3, side })?;
+    let mut tester = ScriptTester::new(alloc, b"ggggbbbb", rules, None)?;
+    let mut out = PlainSink::new(alloc);
+    let status = bisect_main(
+        rt,
+        alloc,
+        words.as_slice(),
+        &mut stream,
+        &mut shelf,
+        &mut tester,
+        &mut out,
+    );
+    Ok((status, out.into_bytes()))
+}
+
+const TESTED: &[u8] = b"# bad: [38d7eeaa2c641133c0a59de3e3515352366303d6] c7
+# good: [56b29d9c130e2ec4b506a48d4fe5a18d92d8d1e3] c0
+git bisect start '38d7eeaa2c641133c0a59de3e3515352366303d6' '56b29d9c130e2ec4b506a48d4fe5a18d92d8d1e3'
+# good: [771edca49728d8c78d5b371976ec2debc7c92b35] c3
+git bisect good 771edca49728d8c78d5b371976ec2debc7c92b35
+# bad: [3dff7cbfbc1ec2409d1dc7dba41ba991437e56aa] c5
+git bisect bad 3dff7cbfbc1ec2409d1dc7dba41ba991437e56aa
+# bad: [271bb9a08b2d5aa03871aa65fdadc01c488fa408] c4
+git bisect bad 271bb9a08b2d5aa03871aa65fdadc01c488fa408
+# first bad commit: [271bb9a08b2d5aa03871aa65fdadc01c488fa408] c4
+271bb9a08b2d5aa03871aa65fdadc01c488fa408 is the first bad commit
+";
+
+const FAILED: &[u8] = b"# bad: [38d7eeaa2c641133c0a59de3e3515352366303d6] c7
+# good: [56b29d9c130e2ec4b506a48d4fe5a18d92d8d1e3] c0
+git bisect start '38d7eeaa2c641133c0a59de3e3515352366303d6' '56b29d9c130e2ec4b506a48d4fe5a18d92d8d1e3'
+test fault on 771edca49728d8c78d5b371976ec2debc7c92b35
+";
+
+#[test]
+fn commits_are_tested(rt: HostRuntime) -> Result<(), Fail> {
+    for workers in [b"1", b"4"] {
+        let (status, text) = tested(&rt, rt.alloc(), workers, Side::Splits)?;
+        assert_eq!(rt; status, Status::Done);
+        assert_eq!(rt; text.as_slice(), TESTED);
+        let (status, text) = tested(&rt, rt.alloc(), workers, Side::All)?;
+        assert_eq!(rt; status, Status::TestFault { place: 3 });
+        assert_eq!(rt; text.as_slice(), FAILED);
+    }
     Ok(())
 }

@@ -1,11 +1,11 @@
 -- A report of a tester that follows a plan is the run over the plan.
-use Rattle.std.proofs.Common.{◌≡◌, ℕ, zero, suc, ◌<◌, List, length, replicate, All, Option, Some, None, refl, sym, ap, subst, ◌∙◌}
-use Rattle.std.specs.Option.{IfSome}
+use Rattle.std.proofs.Common.{◌≡◌, ℕ, zero, suc, ◌<◌, if◌then◌else◌, List, [], ◌∷◌, ◌++◌, length, replicate, All, Option, Some, None, refl, sym, ap, subst, ◌∙◌}
+use Rattle.std.specs.Option.{IfSome, is_none}
 use Rattle.bf_alone.specs.Rest.{ending_of}
 use Rattle.bf_alone.specs.Within.{IsEndingWithin}
 use Rattle.bf_alone.specs.declared.ending.Ending.{Ending}
 use Rattle.bf_alone.specs.declared.ending.Ending.TheVariants.{Answered as EndAnswered, Leg as EndLeg, Aborted as EndAborted}
-use Rattle.bf_farm.specs.Answering.{IsReport, run_on, setting_at}
+use Rattle.bf_farm.specs.Answering.{IsReport, lacking, run_on, setting_at}
 use Rattle.bf_farm.specs.Reports.{TableIn, TableFollows}
 use Rattle.bf_farm.specs.declared.report.Report.{Report}
 use Rattle.bf_farm.proofs.Planned.{on_the_plan}
@@ -37,6 +37,18 @@ fresh_in names answers n table fresh = λ p outcome h. absurd (none_told n table
 
 pub fresh_follows : (told : Option (List Outcome)) (n : ℕ) (table : List (Option Outcome)) → table ≡ replicate n None → TableFollows told table
 fresh_follows told n table fresh = λ p outcome h. absurd (none_told n table p outcome fresh h)
+
+-- it lacks every answer
+lacks_each : (n : ℕ) (used : List Answer) → lacking (replicate n None) used ≡ used
+lacks_each n [] = refl
+lacks_each n (a ∷ used) =
+    ap (λ (o : Option Outcome). if is_none o then a ∷ lacking (replicate n None) used else lacking (replicate n None) used) (none_known n a.place)
+    ∙ ap (λ (rest : List Answer). a ∷ rest) (lacks_each n used)
+
+pub all_lacking : (n : ℕ) (table : List (Option Outcome)) (used answers before : List Answer) → table ≡ replicate n None
+    → answers ≡ before ++ lacking table used → answers ≡ before ++ used
+all_lacking n table used answers before fresh is =
+    is ∙ ap (λ (t : List (Option Outcome)). before ++ lacking t used) fresh ∙ ap (λ (rest : List Answer). before ++ rest) (lacks_each n used)
 
 -- ---- ends
 

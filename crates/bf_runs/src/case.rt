@@ -75,6 +75,7 @@ pub fn test_all<R: Host, T: Tester>(
     ensures sound { IfOk result (IsSoundReport (T.told tester.old) search.entry.history.now.names (T.answers tester.new)) }
     ensures fault { IfOk result (HasFault (T.faults tester.old) (T.faults tester.new) (T.failed tester.new)) }
     ensures alone { search.entry.workers ≤ 1 → IfOk result IsAlone }
+    ensures tested { search.entry.workers ≤ 1 → IfOk result (λ report. T.answers tester.new ≡ T.answers tester.old ++ report.used.items) }
     ensures manner { manner_by T.told T.command T.is_lenient T.grounds T.recalled tester.new ≡ manner_by T.told T.command T.is_lenient T.grounds T.recalled tester.old }
     ensures is_split { T.is_split tester.new ≡ false }
 {

@@ -18,17 +18,21 @@ use std::thread::Threads;
 
 const HELP: &[u8] = b"\
 farmdawn simulate [OPTION..] BAD GOOD.. PLAN < STREAM
+farmdawn run [OPTION..] BAD GOOD.. -- COMMAND.. < STREAM
 farmdawn next [OPTION..] BAD GOOD.. < STREAM
 farmdawn simulate|next [OPTION..] --replay FILE [PLAN] < STREAM
+farmdawn run [OPTION..] --replay FILE -- COMMAND.. < STREAM
 farmdawn replay --replay FILE < STREAM
 farmdawn gen NUMBER COUNT
 farmdawn sample NUMBER COUNT
 
 simulate searches the history of a git fast-import stream for the first bad commit, as git bisect
-does, and prints the log and the answer. No test is run: PLAN says how each would end. next prints
-the log so far and the commit that a search would test next. With --replay they go on from a log,
-and replay prints such a log in its normal form, and the commits that it knows. gen prints a stream
-of COUNT commits that NUMBER gives, and sample searches such a stream and prints a summary.
+does, and prints the log and the answer. No test is run: PLAN says how each would end. run tests
+each commit by COMMAND, which gets the commit's name as its last word: status 0 is good, 1 to 124
+bad, 125 skips the commit, and any other ends the search. next prints the log so far and the commit
+that a search would test next. With --replay they go on from a log, and replay prints such a log in
+its normal form, and the commits that it knows. gen prints a stream of COUNT commits that NUMBER
+gives, and sample searches such a stream and prints a summary.
 
   BAD, GOOD         names of commits, as gitrevisions(7) has them: main, v1.0, main~3, 1a2b3c4
   PLAN              a letter for each commit in the order of the stream: g good, b bad, s skip,
@@ -43,10 +47,10 @@ of COUNT commits that NUMBER gives, and sample searches such a stream and prints
 The status is 0 where the first bad commit was found or the command did what it was asked, 1 where
 a word is wrong, 2 where only skipped commits are left, 3 where a merge base is bad, 4 where a good
 commit is no ancestor of the bad one, 5 where one commit is both, 6 where a test aborts the search,
-7 to 9 where the stream or a name is refused or a limit is passed, 10 where a log is refused, 12
-where the stream cannot be read, 13 where the output cannot be written, 14 where the file of a log
-cannot be read, 15 where memory runs out, 16 where it is missing, 17 where an end is not known, and
-18 for what is not built yet.
+7 to 9 where the stream or a name is refused or a limit is passed, 10 where a log is refused, 11
+where a test cannot be made, 12 where the stream cannot be read, 13 where the output cannot be
+written, 14 where the file of a log cannot be read, 15 where memory runs out, 16 where it is
+missing, 17 where an end is not known, and 18 for what is not built yet.
 ";
 
 const VERSION: &[u8] = b"farmdawn 0.1.0\n";

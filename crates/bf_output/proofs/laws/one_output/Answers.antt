@@ -3,4 +3,4 @@ use Rattle.bf_output.proofs.Outputs.{one_for}
 use Rattle.bf_output.proofs.laws.one_output.Goals as goal
 
 pub returns : goal.returns
-returns c = λ words files. one_for (request words) words files
+returns c = λ words files tested. one_for (request words) words files tested
