@@ -45,7 +45,7 @@ def known_to_program(bench, log, new, old):
     with open(bench.path("log"), "wb") as file:
         file.write(log)
     with open(bench.stream, "rb") as stream:
-        done = subprocess.run([bench.farmdawn, "replay", "--replay", "log"], stdin=stream, cwd=bench.work, stdout=subprocess.PIPE)
+        done = subprocess.run([bench.program, "replay", "--replay", "log"], stdin=stream, cwd=bench.work, stdout=subprocess.PIPE)
     if done.returncode:
         sys.exit(f"a log is refused with status {done.returncode}: {done.stdout.decode()}\n{log.decode()}")
     known, printed = Known(new, old), []
@@ -145,7 +145,7 @@ def by_program(bench, folder, names, bad, good, culprit):
     after = {*git(folder, "rev-list", "--all", "--ancestry-path", f"^{culprit}").split(), culprit}
     plan = "".join("b" if name in after else "g" for name in names)
     with open(bench.stream, "rb") as stream:
-        done = subprocess.run([bench.farmdawn, "simulate", bad, good, plan], stdin=stream, stdout=subprocess.PIPE)
+        done = subprocess.run([bench.program, "simulate", bad, good, plan], stdin=stream, stdout=subprocess.PIPE)
     last = done.stdout.decode(errors="surrogateescape").splitlines()[-1:]
     return last[0].partition(" ")[0] if done.returncode == 0 else f"status {done.returncode}"
 

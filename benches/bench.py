@@ -4,9 +4,10 @@
 Usage: benches/bench.py SUBJECT [SIZE ..] [--quick] [--program FILE]
 
   import    COMMITS FILES MEGABYTES     short commits, a folder, contents, beside git fast-import; one mark of nine digits
-  stream    MEGABYTES COMMANDS          MB/s of contents and of short commands, beside cat and git fast-import
-  forest    DIRECTORIES SUBDIRECTORIES FILES EDITS    single edits of a tree of many files, beside git fast-import
-  weights   COMMITS ..                  all weights of three shapes of history, beside git rev-list --bisect-all
+  stream    MEGABYTES COMMANDS          MB/s of contents and of short commands by bench_stream, beside cat and git fast-import
+  forest    DIRECTORIES SUBDIRECTORIES FILES EDITS    single edits of a tree by bench_forest, beside git fast-import
+  weights   COMMITS ..                  all weights of three shapes of history by bench_weights, beside git rev-list
+                                        --bisect-all
   search    COMMITS ..                  the asks of whole searches, beside git rev-list --bisect; 1,000 skips in a row
   workers   COMMITS                     processor time of simulate --workers 1, 2, 8 and 64
   farm      SIZE ..                     the farm's machine alone, by bench_farm
@@ -21,8 +22,9 @@ Usage: benches/bench.py SUBJECT [SIZE ..] [--quick] [--program FILE]
   gate      LOG ..                      the page docs/GATE.md, of logs of the merge gate
   all                                   each of these that needs no file
 
-Sizes stand in for the full ones, or with --quick for small ones. FILE is the farmdawn that is asked; without it, it is the one
-that FARMDAWN names, or the one that a proved build left, and programs that were not built are built, with their proofs.
+Sizes stand in for the full ones, or with --quick for small ones. FILE is the program that is measured: bench_weights,
+bench_stream, bench_forest or bench_farm where these are named below, else farmdawn. Without it, it is the one that a
+proved build left, which is made where there is none; FARMDAWN may name another farmdawn.
 
 Ratios say how many times as fast as git a program is; times are of processors, where nothing else is said, and memory is
 the greatest that the program alone had. The status is 1 where something is not as it must be.
@@ -75,16 +77,16 @@ def ratio(theirs, ours):
 
 
 class Bench:
-    """A temporary folder with a stream, and the farmdawn that is asked."""
+    """A temporary folder with a stream, and the program that is measured."""
 
-    def __init__(self, work, farmdawn):
-        self.work, self.named = work, farmdawn
+    def __init__(self, work, name, path=None):
+        self.work, self.name, self.given = work, name, path
         self.stream = self.path("stream")
         open(self.stream, "wb").close()
 
     @property
-    def farmdawn(self):
-        return self.named or program("farmdawn")
+    def program(self):
+        return self.given or program(self.name)
 
     def path(self, name):
         return os.path.join(self.work, name)
@@ -96,8 +98,8 @@ class Bench:
         return os.path.getsize(self.path(to))
 
     def ask(self, *words, **options):
-        """What farmdawn costs over the stream, and its output."""
-        return measure([self.farmdawn, *words], self.stream, keep=self.path("output"), folder=self.work, **options)
+        """What the program costs over the stream, and its output."""
+        return measure([self.program, *words], self.stream, keep=self.path("output"), folder=self.work, **options)
 
     def git_import(self):
         """What git takes to import the stream, and the repository."""
@@ -141,30 +143,28 @@ def import_(bench, commits, files, megabytes):
 
 
 def stream(bench, megabytes, count):
-    reader = program("bench_stream")
-
     def piped(*command):
         return measure(["sh", "-c", 'file=$1; shift; cat "$file" | "$@"', "sh", bench.stream, *command]).seconds
 
     for make, size in ((streams.contents, megabytes), (streams.commands, count)):
         label = f"{make.__name__} {size}"
         million = bench.write(make, size) / 1e6
-        ours, plain = piped(reader), piped("cat")
+        ours, plain = piped(bench.program), piped("cat")
         print(f"{label}: {million:.0f} MB; bench_stream {million / ours:.0f} MB/s, cat {million / plain:.0f} MB/s, by the clock")
         if HAS_GIT:
             theirs = piped("git", "-C", repository.empty(bench.path(make.__name__)), "fast-import", "--quiet")
             print(f"{label}: git fast-import {million / theirs:.0f} MB/s; {ratio(theirs, ours)}")
 
 
-def shaped(bench, name, shape):
-    """What a program of this checkout takes for the numbers of its shape, and what it prints."""
-    ours = measure([program(name), *map(str, shape)], keep=bench.path("output"))
-    print(f"{' '.join(map(str, shape))}: {name} {ours}, {ours.output.decode().strip()}")
+def shaped(bench, shape):
+    """What the program takes for the numbers of its shape, and what it prints."""
+    ours = bench.ask(*map(str, shape))
+    print(f"{' '.join(map(str, shape))}: {bench.name} {ours}, {ours.output.decode().strip()}")
     return ours
 
 
 def forest(bench, *shape):
-    ours = shaped(bench, "bench_forest", shape)
+    ours = shaped(bench, shape)
     if not HAS_GIT:
         return True
     bench.write(streams.forest, *shape)
@@ -175,19 +175,18 @@ def forest(bench, *shape):
 
 
 def farm(bench, *shape):
-    return shaped(bench, "bench_farm", shape).status == 0
+    return shaped(bench, shape).status == 0
 
 
 # ---- searches
 
 
 def weights(bench, *sizes):
-    weigher = program("bench_weights")
     for kind in ("line", "mixed", "merges"):
         for size in sizes:
-            with open(bench.path("input"), "w") as file:
+            with open(bench.stream, "w") as file:
                 file.write(f"{kind} {size}\n")
-            ours = measure([weigher], bench.path("input"))
+            ours = bench.ask()
             print(f"{kind} {size}: bench_weights {ours}")
             if HAS_GIT:
                 bench.write(streams.shape, kind, size)
@@ -346,7 +345,7 @@ def by_git_farmdawn(bench, folder, commits, count):
     words = [os.path.join(TOP, "tools", "git-farmdawn"), "--workers", str(count), "main", f"main~{commits - 1}", "--", *BUILD]
     with open(bench.path("told"), "wb") as told:
         cost = measure(["sh", "-c", 'exec 2>"$1"; shift; exec "$@"', "sh", told.name, *words], keep=bench.path("output"),
-                       folder=folder, environment={**repository.CALM, "FARMDAWN": os.path.abspath(bench.farmdawn)})
+                       folder=folder, environment={**repository.CALM, "FARMDAWN": os.path.abspath(bench.program)})
     with open(bench.path("told"), "rb") as told:
         return cost, len(re.findall(rb": testing ", told.read())), answer_of(cost.output)
 
@@ -421,7 +420,8 @@ def hostile(bench, divisor):
         ended = all(cost.status in range(18) and cost.status != 15 for cost in (first, second))
         right = slower <= GROWTH and larger <= GROWTH and ended
         print(f"{label} {size}: {counts[0]} and {counts[1]} bytes; {first} and {second}; time grows by {slower:.1f}, "
-              f"memory by {larger:.1f}; status {first.status} and {second.status}{'' if right else '; NOT AS IT MUST BE'}", flush=True)
+              f"memory by {larger:.1f}; status {first.status} and {second.status}"
+              f"{'' if right else '; NOT AS IT MUST BE'}", flush=True)
         tried += 1
         wrong += [] if right else [label]
     print(f"{tried} kinds, not as they must be: {', '.join(wrong) or 'none'}")
@@ -441,45 +441,55 @@ class Subject:
     call: Callable
     full: tuple
     quick: tuple
+    program: str = "farmdawn"
     is_list: bool = False  # whether any number of sizes will do
 
 
 SUBJECTS = {
     "import": Subject(import_, (100000, 10000, 500), (5000, 500, 20)),
-    "stream": Subject(stream, (300, 1000000), (20, 50000)),
-    "forest": Subject(forest, (40, 50, 25, 20000), (10, 10, 10, 1000)),
-    "weights": Subject(weights, (20000, 100000), (2000,), True),
-    "search": Subject(search, (20000, 100000), (3000,), True),
+    "stream": Subject(stream, (300, 1000000), (20, 50000), "bench_stream"),
+    "forest": Subject(forest, (40, 50, 25, 20000), (10, 10, 10, 1000), "bench_forest"),
+    "weights": Subject(weights, (20000, 100000), (2000,), "bench_weights", is_list=True),
+    "search": Subject(search, (20000, 100000), (3000,), is_list=True),
     "workers": Subject(workers, (100000,), (5000,)),
-    "farm": Subject(farm, (), (), True),
+    "farm": Subject(farm, (), (), "bench_farm", is_list=True),
     "run": Subject(run, (1000, 200, 300), (60, 100, 20)),
     "wall": Subject(wall, (300, 40, 3), (30, 8, 1)),
-    "sample": Subject(sample, (20000, 100000), (3000,), True),
+    "sample": Subject(sample, (20000, 100000), (3000,), is_list=True),
     "hostile": Subject(hostile, (1,), (20,)),
     "logs": Subject(logs, (10,), (3,)),
 }
 
 
-def measured(name, words, arguments):
-    """Runs a subject; whether all is as it must be."""
+def measured(name, words, is_quick, path=None):
+    """Measures a subject; whether all is as it must be."""
     subject = SUBJECTS[name]
-    sizes = tuple(map(int, words)) or (subject.quick if arguments.quick else subject.full)
+    sizes = tuple(map(int, words)) or (subject.quick if is_quick else subject.full)
     if len(sizes) != len(subject.full) and not subject.is_list:
         sys.exit(f"the sizes of {name} are {len(subject.full)}")
+    if subject.program == "farmdawn":
+        path = path or os.environ.get("FARMDAWN")
     with tempfile.TemporaryDirectory() as work:
-        return subject.call(Bench(work, arguments.program), *sizes) is not False
+        return subject.call(Bench(work, subject.program, path and os.path.abspath(path)), *sizes) is not False
 
 
-def all_measured(arguments):
-    """Runs each subject whose needs are here; whether all is as it must be."""
+def all_measured(is_quick, path):
+    """Measures each subject whose needs are here; whether all is as it must be."""
     right = True
-    for name in SUBJECTS:
+    for name, subject in SUBJECTS.items():
         print(f"-- {name}", flush=True)
         try:
-            right &= measured(name, [], arguments)
+            right &= measured(name, [], is_quick, path if subject.program == "farmdawn" else None)
         except Missing as missing:
             print(f"passed over, as {missing} is not here")
     return right
+
+
+def real(words, is_quick, path):
+    folder, pairs = (*words, 3 if is_quick else 10)[:2]
+    path = path or os.environ.get("FARMDAWN")
+    with tempfile.TemporaryDirectory() as work:
+        return agree.real(Bench(work, "farmdawn", path and os.path.abspath(path)), folder, int(pairs))
 
 
 def read_arguments():
@@ -487,31 +497,26 @@ def read_arguments():
     parser.add_argument("subject", choices=[*SUBJECTS, "real", "gate", "all"])
     parser.add_argument("words", nargs="*")
     parser.add_argument("--quick", action="store_true")
-    parser.add_argument("--program", default=os.environ.get("FARMDAWN"), type=os.path.abspath)
+    parser.add_argument("--program")
     return parser.parse_intermixed_args()
-
-
-def real(words, arguments):
-    folder, pairs = (*words, 3 if arguments.quick else 10)[:2]
-    with tempfile.TemporaryDirectory() as work:
-        return agree.real(Bench(work, arguments.program), folder, int(pairs))
 
 
 def main():
     if len(sys.argv) < 2 or sys.argv[1] in ("-h", "--help"):
         print(__doc__)
         return True
-    arguments = read_arguments()
-    name, words = arguments.subject, arguments.words
-    if name == "gate":
-        print(gate.page(TOP, words), end="")
+    given = read_arguments()
+    if given.subject == "gate":
+        print(gate.page(TOP, given.words), end="")
         return True
-    if name == "all":
-        return all_measured(arguments)
+    if given.subject == "all":
+        return all_measured(given.quick, given.program)
     try:
-        return real(words, arguments) if name == "real" else measured(name, words, arguments)
+        if given.subject == "real":
+            return real(given.words, given.quick, given.program)
+        return measured(given.subject, given.words, given.quick, given.program)
     except Missing as missing:
-        sys.exit(f"{name} needs {missing}")
+        sys.exit(f"{given.subject} needs {missing}")
 
 
 if __name__ == "__main__":
