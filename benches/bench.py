@@ -405,7 +405,7 @@ def costs_of(bench, make, size):
     for times in (1, 2):
         count, words = make(size * times)
         counts.append(count)
-        costs.append(bench.ask(*words, limit=120, stack=1 << 20))
+        costs.append(bench.ask(*words, limit=60, stack=1 << 20))
     return counts, costs
 
 

@@ -1,4 +1,4 @@
-"""A page on the merge gate, crate by crate, of the logs of `rt ci` or `rt all check`.
+"""A page on the merge gate, crate by crate, of the logs of `rt ci`, `rt all check` or `rt check`.
 
 A log may have the time of day in front of each line, as `rt ci | while read -r line; do echo "$(date +%T) $line"; done` writes
 it. What several logs tell of a crate, the last of them tells. Crates are proved side by side, and no log tells their
@@ -12,14 +12,14 @@ from dataclasses import dataclass
 
 PAGE = """# The merge gate, crate by crate
 
-What `rt ci` proved and tried. A function is one with a body, or a law; each is proved to meet its contract. An edit is a
-wrong line that the proofs must refuse (`must-fail/`). The clock is the time between the check that ended before and the
-crate's own, with that of its tests: several run side by side, so the column adds up to the whole run{clocked}. Numbers in
-brackets stand in the sources, and the log does not tell of them.
+What the gate proved and tried. A function is one with a body, or a law; each is proved to meet its contract. An edit is a
+wrong line that the proofs must refuse (`must-fail/`). The clock is what went by between the check that ended before and the
+crate's own, with that of its tests: several run side by side, so the column adds up to the whole run, and no log tells
+processor time{clocked}. Numbers in brackets stand in the sources, and the logs do not tell of them; `-` is not told.
 
     benches/bench.py gate LOG.. >docs/GATE.md
 
-makes this page from logs of `rt ci` or `rt all check`.
+makes this page from logs of `rt ci`, `rt all check` or `rt check`.
 
 | Crate | Functions proved | Tests passed | Edits refused | Clock |
 |---|---:|---:|---:|---:|
@@ -62,6 +62,8 @@ def read(path, rows):
                 row = rows.setdefault(crate, Row())
                 row.seconds = (row.seconds or 0) + at - ended
                 ended = at
+        elif told := re.match(r"crate (\w+): modules ", line):
+            crate = told[1]
         elif told := re.match(r"logic=proved functions=(\d+)", line):
             row = rows.setdefault(crate, Row())
             row.functions = min(int(told[1]), row.functions or int(told[1]))
@@ -106,7 +108,7 @@ def page(top, paths):
                 now if now is not None else then for now, then in zip(vars(row).values(), vars(known).values()))
     with open(os.path.join(top, "crates.txt")) as file:
         crates = re.findall(r"^(\w+)[^:\n]*:", file.read(), re.M)
-    text, total = PAGE.format(clocked="" if is_clocked else "; these logs have no time"), Row(0, 0, 0, 0)
+    text, total = PAGE.format(clocked="" if is_clocked else "; these logs have no time of day"), Row(0, 0, 0, 0)
     for crate in crates:
         row = rows.get(crate, Row())
         tests, edits = standing(os.path.join(top, "crates", crate))
@@ -116,5 +118,7 @@ def page(top, paths):
         total.tests += tests if row.tests is None else row.tests
         total.edits += edits if row.edits is None else row.edits
         total.seconds += row.seconds or 0
+    told = sum(crate in rows and rows[crate].functions is not None for crate in crates)
+    functions = f"{total.functions}" if told == len(crates) else f"{total.functions} of {told} crates"
     whole = clock(total.seconds) if is_clocked else "-"
-    return text + f"| {len(crates)} crates | {total.functions} | {total.tests} | {total.edits} | {whole} |\n"
+    return text + f"| {len(crates)} crates | {functions} | {total.tests} | {total.edits} | {whole} |\n"
