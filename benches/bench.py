@@ -182,17 +182,23 @@ def run(bench, *sizes):
 
 
 def hostile_costs(bench, label, make, size, words, given):
-    """The costs at a size and at twice the size; whether they grow as they may, and the program ended by itself."""
+    """The costs at a size and at twice the size; whether they grow as they may, and the program ended by itself.
+
+    What else runs on the machine adds to them: where they grow too much, both are measured again, and the least counts.
+    """
     command = ["sh", "-c", 'ulimit -s 1024; cd "$1"; shift; exec "$@"', "sh", bench.work, *words]
-    costs, counts = [], []
-    for times in (1, 2):
-        with open(given, "wb", buffering=1 << 20) as out:
-            make(out, size * times)
-        counts.append(os.path.getsize(given))
-        costs.append(measure(command, bench.stream, limit=120))
-    first, second = costs
-    slower = second.processor / max(first.processor, 0.02)
-    right = slower <= 2.5 and first.status in range(18) and second.status in range(18)
+    costs, counts = [[], []], [0, 0]
+    for _ in range(3):
+        for times in (1, 2):
+            with open(given, "wb", buffering=1 << 20) as out:
+                make(out, size * times)
+            counts[times - 1] = os.path.getsize(given)
+            costs[times - 1].append(measure(command, bench.stream, limit=120))
+        first, second = (min(tries, key=lambda cost: cost.processor) for tries in costs)
+        slower = second.processor / max(first.processor, 0.02)
+        right = slower <= 2.5 and all(cost.status in range(18) for tries in costs for cost in tries)
+        if right:
+            break
     print(f"{label} {size}: {counts[0]} and {counts[1]} bytes; {first.processor:.2f} and {second.processor:.2f} s, {slower:.1f} times; "
           f"{first.peak} and {second.peak} KiB, {max(second.peak - first.peak, 0) * 1024 / (counts[1] - counts[0]):.1f} bytes a byte; "
           f"status {first.status} and {second.status}{'' if right else '; NOT AS IT MAY BE'}", flush=True)
