@@ -204,11 +204,13 @@ def hostile_(bench, divisor=1):
     question = [farmdawn, "simulate", "refs/heads/main", "refs/heads/main", ""]
     wrong = [make.__name__ for make, size in hostile.KINDS.items()
              if not hostile_costs(bench, make.__name__, make, size // divisor, question, bench.stream)]
-    bench.write(hostile.history)
-    wrong += [make.__name__ for make, size in hostile.LOGS.items()
-              if not hostile_costs(bench, f"log of {make.__name__}", make, size // divisor,
-                                [farmdawn, "replay", "--replay", log], log)]
-    print(f"{len(hostile.KINDS) + len(hostile.LOGS)} kinds, not as they may be: {' '.join(wrong) or 'none'}")
+    for history, logs in ((hostile.history, hostile.LOGS), (hostile.tagged, hostile.LONG_LOGS)):
+        bench.write(history)
+        wrong += [make.__name__ for make, size in logs.items()
+                  if not hostile_costs(bench, f"log of {make.__name__}", make, size // divisor,
+                                    [farmdawn, "replay", "--replay", log], log)]
+    kinds = len(hostile.KINDS) + len(hostile.LOGS) + len(hostile.LONG_LOGS)
+    print(f"{kinds} kinds, not as they may be: {' '.join(wrong) or 'none'}")
     sys.exit(1 if wrong else 0)
 
 

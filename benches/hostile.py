@@ -185,3 +185,30 @@ def strokes(out, size):
 
 
 LOGS = {goods: 100000, skips: 50000, starts: 50000, quotes: 1000000, strokes: 500000}
+
+
+# Logs over a history of 100,000 commits in a line, each the tag t and its place.
+
+
+def tagged(out):
+    for place in range(100000):
+        commit(out, place, (), [place - 1] if place else [])
+        out.write(b"reset refs/tags/t%d\nfrom :%d\n\n" % (place, place + 1))
+
+
+def distinct(out, size):
+    """A start line of so many good commits."""
+    out.write(b"git bisect start t99999" + b"".join(b" t%d" % place for place in range(size)) + b"\n")
+
+
+def marked(out, size):
+    """So many good marks before the bad commit is known."""
+    out.write(b"git bisect start\n" + b"".join(b"git bisect good t%d\n" % place for place in range(size)))
+
+
+def tried(out, size):
+    """So many skips between both ends."""
+    out.write(b"git bisect start t99999 t0\n" + b"".join(b"git bisect skip t%d\n" % (place % 100000) for place in range(size)))
+
+
+LONG_LOGS = {distinct: 50000, marked: 50000, tried: 300000}

@@ -2,7 +2,6 @@
 #![tactic(auto)]
 
 mod asking;
-mod goods;
 pub mod laws;
 mod rows;
 mod state;

@@ -11,9 +11,8 @@ ghost use Rattle.bf_state.specs.Steps as steps;
 ghost use Rattle.bf_state.specs.Weighed.{mask_of, weights_of, weights_needed};
 
 use crate::asking::{Decision, decide, pass, passed_after, tested, warned_after};
-use crate::goods::{add_good, each_once};
 use crate::weighed::{self, Weighed, Weighing, decide_over};
-use bf_graph::Places;
+use bf_goods::Goods;
 use bf_reach::Reach;
 use bf_rows::Row;
 use bf_search::{Mark, Step};
@@ -38,7 +37,7 @@ pub struct State {
     /// The bad place.
     pub bad: Option<u32>,
     /// The good places.
-    pub goods: Places,
+    pub goods: Goods,
     /// By place, whether it is skipped.
     pub skips: Row,
     /// Whether the check of the merge bases has passed.
@@ -79,7 +78,7 @@ impl State {
         requires goods { All (λ good. good < len) goods.now }
         ensures { IfOk result (λ state. state ≡ record { len = len; terms = terms; terms_open = terms_open; search = begun len first_parent bad goods.now }) }
     {
-        let goods = each_once(alloc, len, goods)?;
+        let goods = Goods::each_once(alloc, goods)?;
         let skips = Row::new(alloc, len)?;
         Ok(State {
             len,
@@ -242,7 +241,7 @@ impl State {
         ensures err { OnErr result (self.new ≡ self.old) }
     {
         match mark {
-            Mark::Good => add_good(&mut self.goods, place),
+            Mark::Good => self.goods.add(place),
             Mark::Bad | Mark::Skip => Ok(()),
         }
     }
