@@ -6,9 +6,9 @@ TIMES = 5
 
 
 def least(words):
-    """The least processor seconds of a few runs, and the peak of one, in KiB."""
+    """The least processor seconds of a few runs, and the greatest peak that was seen, in KiB."""
     costs = [measure(list(map(str, words)), limit=600) for _ in range(TIMES)]
-    return min(cost.processor for cost in costs), costs[0].peak
+    return min(cost.processor for cost in costs), max(cost.peak for cost in costs)
 
 
 def above(seconds, before):
