@@ -8,6 +8,7 @@ Usage: benches/bench.py SUBJECT [NUMBER ..]    (the numbers behind a subject are
   forest 40 50 25 20000        single edits of a tree of many files     beside git fast-import
   import 100000 10000 500      short commits, a folder, MB of contents  beside git fast-import
   run 20000 100000             whole searches; 1,000 skips in a row     beside git rev-list --bisect
+  farm 20000 100000            picks, posts, runs and skips of 1, 8 and 64 workers, beside one weighing
   hostile 1                    streams and logs made to cost much, at a size and at twice the size; a small stack;
                                the sizes are divided by the number
   wall 300 40 3                commits, files of C, runs: wall time of 1, 2, 4 and 8 workers  beside git bisect run
@@ -22,6 +23,7 @@ import subprocess
 import sys
 import tempfile
 
+import farm
 import hostile
 import real
 import streams
@@ -214,7 +216,11 @@ def hostile_(bench, divisor=1):
     sys.exit(1 if wrong else 0)
 
 
-SUBJECTS = {"weights": weights, "stream": stream, "forest": forest, "import": import_, "run": run, "hostile": hostile_}
+def farm_(bench, *sizes):
+    farm.main(program("bench_farm"), sizes or (20000, 100000))
+
+
+SUBJECTS = {"weights": weights, "stream": stream, "forest": forest, "import": import_, "run": run, "farm": farm_, "hostile": hostile_}
 
 
 def main():

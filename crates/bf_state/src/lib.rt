@@ -3,10 +3,12 @@
 
 mod asking;
 pub mod laws;
+mod ranked;
 mod rows;
 mod state;
 mod weighed;
 
+pub use ranked::Ranked;
 pub use rows::true_places;
 pub use state::State;
 pub use weighed::Weighed;

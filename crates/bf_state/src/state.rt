@@ -8,11 +8,16 @@ ghost use Rattle.bf_state.specs.Session.{with_search, begun, IsSearchBelow};
 ghost use Rattle.bf_state.specs.FirstBad.{IsFirstBad};
 ghost use Rattle.std.specs.Option.{option_map};
 ghost use Rattle.bf_state.specs.Steps as steps;
+ghost use Rattle.bf_choice.specs.Ranking.{IsPassed};
+ghost use Rattle.bf_state.specs.Ranked.{IsRankingOf};
 ghost use Rattle.bf_state.specs.Weighed.{mask_of, weights_of, weights_needed};
 
 use crate::asking::{Decision, decide, pass, passed_after, tested, warned_after};
+use crate::ranked::{self, Ranked, RankedDecision, decide_ranked};
 use crate::weighed::{self, Weighed, Weighing, decide_over};
+use bf_choice::Ranking;
 use bf_goods::Goods;
+use bf_graph::Places;
 use bf_reach::Reach;
 use bf_rows::Row;
 use bf_search::{Mark, Step};
@@ -187,6 +192,45 @@ impl State {
         let decision = decide_over(self, reach, mask, weights)?;
         self.follow(&decision);
         Ok(decision.step)
+    }
+
+    /// Ranks the candidates, where there is a bad place.
+    pub fn rank(&self, reach: &Reach, bad: u32, mask: &Row) -> Result<Ranking, AllocError>
+        requires len { length reach.now ≡ self.now.len }
+        requires bad { self.now.search.bad ≡ Some bad }
+        requires mask { mask.now ≡ mask_of reach.now self.now.search }
+        ensures { IfOk result (IsRankingOf reach.now self.now.search) }
+    {
+        ranked::rank(self, reach, bad, mask)
+    }
+
+    /// Asks what comes next over a ranking of the candidates, of which so many of the first are skipped:
+    /// no candidate before them is looked at, and none after the place that is asked. It also gives how
+    /// many are skipped then. After an error the state is as before.
+    pub fn advance_ranked(
+        &mut self,
+        reach: &Reach,
+        mask: &Row,
+        ranking: &Ranking,
+        passed: usize,
+    ) -> Result<Ranked, AllocError>
+        requires len { length reach.now ≡ self.old.len }
+        requires mask { mask.now ≡ mask_of reach.now self.old.search }
+        requires ranking { IsRankingOf reach.now self.old.search ranking.now }
+        requires passed { IsPassed self.old.search.skips ranking.now passed }
+        ensures step { IfOk result (λ ranked. ranked.step ≡ (searches.ask reach.now self.old.search).step) }
+        ensures state { OnOk result (self.new ≡ with_search self.old (searches.ask reach.now self.old.search).search) }
+        ensures passed { IfOk result (λ ranked. IsPassed self.old.search.skips ranking.now ranked.passed) }
+        ensures err { OnErr result (self.new ≡ self.old) }
+    {
+        let RankedDecision { decision, passed } = decide_ranked(
+            self, reach, mask, ranking, passed,
+        )?;
+        self.follow(&decision);
+        Ok(Ranked {
+            step: decision.step,
+            passed,
+        })
     }
 
     /// Marks a place. After an error the state is as before.
