@@ -121,12 +121,15 @@ tree_push graph nodes parent child m among is = λ session root t.
           (Contains-push_cases nodes child h.node h.among);
     }
 
+-- asking a node again changes nothing
+pub settled_node : (graph : List (List ℕ)) (nodes : List Node) (node : Node) → AreNodes graph nodes → Contains nodes node → IsSettled graph (asked_of node)
+settled_node graph nodes node t among =
+    let here : IsNode graph t.session t.root node = All-contains (IsNode graph t.session t.root) nodes node t.tree.each among in
+    subst (λ (a : Asked). IsSettled graph a) (sym here.asked) (settled_at graph t.root (path_of node) t.tree.settled)
+
 -- a place that a node asks is a place of the graph
 pub asked_within : (graph : List (List ℕ)) (nodes : List Node) (node : Node) (p : ℕ) → AreNodes graph nodes → Contains nodes node → node.step.ask ≡ Test p → p < length graph
-asked_within graph nodes node p t among h =
-    let here : IsNode graph t.session t.root node = All-contains (IsNode graph t.session t.root) nodes node t.tree.each among in
-    let settled : IsSettled graph (asked_of node) = subst (λ (a : Asked). IsSettled graph a) (sym here.asked) (settled_at graph t.root (path_of node) t.tree.settled) in
-    (asking graph node.state.search p t.tree.parents (settled.step ∙ h)).asks_for.within
+asked_within graph nodes node p t among h = (asking graph node.state.search p t.tree.parents ((settled_node graph nodes node t among).step ∙ h)).asks_for.within
 
 -- what a node has in sight are its candidates
 pub sight_of : (graph : List (List ℕ)) (nodes : List Node) (node : Node) → AreNodes graph nodes → Contains nodes node → IsSight graph node.state.search node.sight

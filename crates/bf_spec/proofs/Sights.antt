@@ -1,6 +1,8 @@
 -- What a node has in sight after a mark.
-use Rattle.std.proofs.Common.{◌≡◌, ℕ, ◌<◌, Bool, true, false, List, [], ◌∷◌, ◌++◌, Option, Some, None, slice_index, slice_set, length, refl, sym, ap, ◌∙◌, subst, ⊎_elim}
+use Rattle.std.proofs.Common.{◌≡◌, ℕ, ◌<◌, Bool, true, false, not, ◌&&◌, List, [], ◌∷◌, ◌++◌, Option, Some, None, slice_index, slice_set, length, refl, sym, ap, ◌∙◌, subst, ⊎_elim}
 use Rattle.std.specs.Option.{IfSome}
+use Rattle.std.specs.Simd.Lanes.{zip2}
+use Rattle.bf_graph.specs.Graph.{IsGraph}
 use Rattle.std.proofs.lemmas.Bool.{cases_eq}
 use Rattle.std.proofs.lemmas.List.{get_or-set_other}
 use Rattle.std.proofs.lemmas.Grind.{get_or-set_at}
@@ -10,51 +12,53 @@ use Rattle.bf_search.specs.declared.asks.Ask.{Ask}
 use Rattle.bf_search.specs.declared.asks.Ask.TheVariants.{Test}
 use Rattle.bf_search.specs.declared.asks.Step.{Step}
 use Rattle.bf_search.specs.declared.outcomes.Mark.{Mark}
-use Rattle.bf_search.specs.declared.outcomes.Mark.TheVariants.{Skip}
-use Rattle.bf_search.specs.Candidates.{is_in, candidate_row, weights}
+use Rattle.bf_search.specs.declared.outcomes.Mark.TheVariants.{Good, Bad, Skip}
+use Rattle.bf_search.specs.Candidates.{is_in, weights}
+use Rattle.bf_search.specs.Reach.{in_mode, reach_row}
 use Rattle.bf_search.specs.State.{Search, Asked, ask, mark}
 use Rattle.bf_state.specs.Ranked.{IsRankingOf}
 use Rattle.bf_state.specs.Session.{Session, with_search, IsSearchBelow}
-use Rattle.bf_state.specs.Weighed.{row_below, mask_of}
-use Rattle.bf_state.specs.Steps.{tested, followed}
+use Rattle.bf_state.specs.Weighed.{mask_of}
+use Rattle.bf_guesses.proofs.Rows.{mask-asked, mask-skipped, mask-good, mask-bad}
 use Rattle.bf_state.proofs.Asks.{ask_leaves}
 use Rattle.bf_spec.specs.declared.node.Node.{Node}
 use Rattle.bf_spec.specs.declared.node.Order.{Order}
-use Rattle.bf_spec.specs.Guessed.{marked_by}
+use Rattle.bf_spec.specs.Guessed.{marked_by, IsSettled}
 use Rattle.bf_spec.specs.Nodes.{path_of, asked_of, IsChild}
 use Rattle.bf_spec.specs.Sights.{IsOrder, IsSight, IsFresh}
 
--- the candidates do not depend on the skipped places
-row_alike : (graph : List (List ℕ)) (bad : Option ℕ) (s t : Search) → s.goods ≡ t.goods → s.first_parent ≡ t.first_parent → row_below graph bad s ≡ row_below graph bad t
-row_alike graph None s t g f = refl
-row_alike graph (Some bad) s t g f = λ i. candidate_row graph bad (g i) (f i)
+-- ---- after an ask
 
 ranking_alike : (graph : List (List ℕ)) (s t : Search) (ps : List ℕ) → t.bad ≡ s.bad → mask_of graph t ≡ mask_of graph s → t.first_parent ≡ s.first_parent → IsRankingOf graph s ps → IsRankingOf graph t ps
 ranking_alike graph s t ps b m f h = λ bad is.
     subst (λ (row : List Bool). IsRanking row (weights graph row t.first_parent) bad ps) (sym m)
     (subst (λ (first_parent : Bool). IsRanking (mask_of graph s) (weights graph (mask_of graph s) first_parent) bad ps) (sym f) (h bad (sym b ∙ is)))
 
--- an ask changes none of it
-pub mask_asked : (graph : List (List ℕ)) (s : Search) → mask_of graph (ask graph s).search ≡ mask_of graph s
-mask_asked graph s =
-    let left : Search = followed s (ask graph s).search.checked (tested (ask graph s).step.ask) in
-    ap (λ (t : Search). mask_of graph t) (ask_leaves graph s) ∙ row_alike graph s.bad left s refl refl
-
 pub ranking_asked : (graph : List (List ℕ)) (s : Search) (ps : List ℕ) → IsRankingOf graph s ps → IsRankingOf graph (ask graph s).search ps
 ranking_asked graph s ps h =
-    ranking_alike graph s (ask graph s).search ps (ap (λ (t : Search). t.bad) (ask_leaves graph s)) (mask_asked graph s) (ap (λ (t : Search). t.first_parent) (ask_leaves graph s)) h
+    ranking_alike graph s (ask graph s).search ps (ap (λ (t : Search). t.bad) (ask_leaves graph s)) (mask-asked graph s) (ap (λ (t : Search). t.first_parent) (ask_leaves graph s)) h
 
 pub passed_asked : (graph : List (List ℕ)) (s : Search) (ps : List ℕ) (n : ℕ) → IsPassed s.skips ps n → IsPassed (ask graph s).search.skips ps n
 passed_asked graph s ps n h = subst (λ (t : Search). IsPassed t.skips ps n) (sym (ask_leaves graph s)) h
 
--- nor does a skip, but for the skipped places, of which there are more
-pub mask_skipped : (graph : List (List ℕ)) (s : Search) (p : ℕ) → mask_of graph (mark s Skip p) ≡ mask_of graph s
-unfolding mark
-mask_skipped graph s p = row_alike graph s.bad (mark s Skip p) s refl refl
+-- ---- after a mark of the place that is asked
 
-pub ranking_skipped : (graph : List (List ℕ)) (s : Search) (p : ℕ) (ps : List ℕ) → IsRankingOf graph s ps → IsRankingOf graph (mark s Skip p) ps
+pub mask_skipped : (graph : List (List ℕ)) (a : Asked) (p : ℕ) → IsSettled graph a → mask_of graph (mark a.search Skip p) ≡ mask_of graph a.search
+mask_skipped graph a p settled = sym (ap (λ (t : Search). mask_of graph (mark t Skip p)) settled.search) ∙ mask-skipped graph a.search p
+
+pub ranking_skipped : (graph : List (List ℕ)) (a : Asked) (p : ℕ) (ps : List ℕ) → IsSettled graph a → IsRankingOf graph a.search ps → IsRankingOf graph (mark a.search Skip p) ps
 unfolding mark
-ranking_skipped graph s p ps h = ranking_alike graph s (mark s Skip p) ps refl (mask_skipped graph s p) refl h
+ranking_skipped graph a p ps settled h = ranking_alike graph a.search (mark a.search Skip p) ps refl (mask_skipped graph a p settled) refl h
+
+pub mask_good : (graph : List (List ℕ)) (a : Asked) (p : ℕ) (old row new : List Bool) → IsGraph graph → IsSettled graph a → a.step.ask ≡ Test p → old ≡ mask_of graph a.search → row ≡ reach_row graph p
+    → new ≡ zip2 (λ mine theirs. mine && not theirs) old row → new ≡ mask_of graph (mark a.search Good p)
+mask_good graph a p old row new g settled asks old_is row_is is =
+    is ∙ (λ i. zip2 (λ mine theirs. mine && not theirs) (old_is i) (row_is i)) ∙ sym (mask-good graph a.search p g (settled.step ∙ asks)) ∙ ap (λ (t : Search). mask_of graph (mark t Good p)) settled.search
+
+pub mask_bad : (graph : List (List ℕ)) (a : Asked) (p : ℕ) (old row new : List Bool) → IsGraph graph → IsSettled graph a → a.step.ask ≡ Test p → old ≡ mask_of graph a.search → row ≡ reach_row (in_mode graph a.search.first_parent) p
+    → new ≡ zip2 ◌&&◌ old row → new ≡ mask_of graph (mark a.search Bad p)
+mask_bad graph a p old row new g settled asks old_is row_is is =
+    is ∙ (λ i. zip2 ◌&&◌ (old_is i) (row_is i)) ∙ sym (mask-bad graph a.search p g (settled.step ∙ asks)) ∙ ap (λ (t : Search). mask_of graph (mark t Bad p)) settled.search
 
 pub passed_skipped : (s : Search) (p : ℕ) (ps : List ℕ) (n : ℕ) → IsPassed s.skips ps n → IsPassed (mark s Skip p).skips ps n
 unfolding mark
@@ -104,7 +108,7 @@ child_is graph parent child m p path asks state step sight below = record {
 pub fresh_sight : (graph : List (List ℕ)) (s : Search) (path : List Mark) (session : Session) (next : Step) (mask : List Bool) (node : Node) → IsFresh path session next mask node → session.search ≡ (ask graph s).search → mask ≡ mask_of graph s
     → IsSight graph node.state.search node.sight
 fresh_sight graph s path session next mask node is asks m = record {
-  mask = is.mask_is ∙ m ∙ sym (mask_asked graph s) ∙ ap (λ (t : Search). mask_of graph t) (sym (ap (λ (v : Session). v.search) is.state ∙ asks));
+  mask = is.mask_is ∙ m ∙ sym (mask-asked graph s) ∙ ap (λ (t : Search). mask_of graph t) (sym (ap (λ (v : Session). v.search) is.state ∙ asks));
   order = subst (λ (o : Option Order). IfSome o (IsOrder graph node.state.search)) (sym is.no_order) tt;
 }
 

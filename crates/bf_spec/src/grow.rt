@@ -1,13 +1,18 @@
 //! How nodes are made.
 ghost use Rattle.std.specs.Prelude.{◌≡◌, ◌<◌, ◌++◌, ◌∷◌, [], length, IfOk, Some};
 ghost use Rattle.bf_search.specs.declared.asks.Ask.TheVariants.{Test};
+ghost use Rattle.bf_search.specs.declared.outcomes.Mark.TheVariants.{Good, Bad};
+ghost use Rattle.bf_search.specs.State as searches;
 ghost use Rattle.bf_search.specs.State.{ask};
 ghost use Rattle.bf_guesses.specs.Ends.{HasEnds};
+ghost use Rattle.bf_state.specs.Weighed.{mask_of};
+ghost use Rattle.bf_spec.specs.Guessed.{IsSettled};
 ghost use Rattle.bf_spec.specs.Nodes as nodes_;
 ghost use Rattle.bf_spec.specs.Sights.{IsSight, IsOrder, IsFresh};
 
 use crate::node::{Node, Order, Sight};
 use bf_reach::Reach;
+use bf_rows::Row;
 use bf_search::Mark;
 use bf_state::{State, Weighed};
 use std::alloc::{AllocError, Global};
@@ -51,7 +56,58 @@ fn longer(alloc: Global, parent: &Node, mark: Mark) -> Result<Vec<Mark>, AllocEr
     Ok(path)
 }
 
-/// The node that follows another by one mark of the place that it asks, whose candidates are looked at anew.
+/// The candidates after a good mark of the place that a node asks: those that the place does not reach.
+fn after_good(alloc: Global, reach: &Reach, parent: &Node, place: u32) -> Result<Row, AllocError>
+    requires settled { IsSettled reach.now (nodes_.asked_of parent.now) }
+    requires asks { parent.now.step.ask ≡ Test place }
+    requires below { place < length reach.now }
+    requires sight { IsSight reach.now parent.now.state.search parent.now.sight }
+    ensures { IfOk result (λ mask. mask ≡ mask_of reach.now (searches.mark parent.now.state.search Good place)) }
+{
+    let mut mask = parent.sight.mask.try_clone()?;
+    let mut reached = Row::new(alloc, reach.len())?;
+    reach.fill_row(place, &mut reached);
+    mask.and_not(&reached);
+    Ok(mask)
+}
+
+/// The candidates after a bad mark of the place that a node asks: those that the place reaches.
+fn after_bad(alloc: Global, reach: &Reach, parent: &Node, place: u32) -> Result<Row, AllocError>
+    requires settled { IsSettled reach.now (nodes_.asked_of parent.now) }
+    requires asks { parent.now.step.ask ≡ Test place }
+    requires below { place < length reach.now }
+    requires sight { IsSight reach.now parent.now.state.search parent.now.sight }
+    ensures { IfOk result (λ mask. mask ≡ mask_of reach.now (searches.mark parent.now.state.search Bad place)) }
+{
+    let mut mask = parent.sight.mask.try_clone()?;
+    let mut reached = Row::new(alloc, reach.len())?;
+    reach.fill_in_mode(place, parent.state.first_parent, &mut reached);
+    mask.and_from(&reached);
+    Ok(mask)
+}
+
+/// The candidates after a mark of the place that a node asks.
+fn after(
+    alloc: Global,
+    reach: &Reach,
+    parent: &Node,
+    mark: Mark,
+    place: u32,
+) -> Result<Row, AllocError>
+    requires settled { IsSettled reach.now (nodes_.asked_of parent.now) }
+    requires asks { parent.now.step.ask ≡ Test place }
+    requires below { place < length reach.now }
+    requires sight { IsSight reach.now parent.now.state.search parent.now.sight }
+    ensures { IfOk result (λ mask. mask ≡ mask_of reach.now (searches.mark parent.now.state.search mark place)) }
+{
+    match mark {
+        Mark::Good => after_good(alloc, reach, parent, place),
+        Mark::Bad => after_bad(alloc, reach, parent, place),
+        Mark::Skip => parent.sight.mask.try_clone(),
+    }
+}
+
+/// The node that follows another by one mark of the place that it asks, whose candidates are weighed.
 fn guessed(
     alloc: Global,
     reach: &Reach,
@@ -60,13 +116,16 @@ fn guessed(
     place: u32,
 ) -> Result<Node, AllocError>
     requires len { length reach.now ≡ parent.now.state.len }
+    requires settled { IsSettled reach.now (nodes_.asked_of parent.now) }
     requires asks { parent.now.step.ask ≡ Test place }
     requires below { place < length reach.now }
+    requires sight { IsSight reach.now parent.now.state.search parent.now.sight }
     ensures { IfOk result (λ child. nodes_.IsChild reach.now parent.now mark child) }
 {
+    let mask = after(alloc, reach, parent, mark, place)?;
     let mut state = parent.state.try_clone()?;
     state.mark(mark, place)?;
-    let weighed = state.weigh(reach)?;
+    let weighed = state.weigh_over(reach, mask)?;
     prove!(state.len() == reach.len());
     let path = longer(alloc, parent, mark)?;
     fresh(alloc, path, state, weighed)
@@ -101,6 +160,7 @@ fn skipped(
 ) -> Result<Node, AllocError>
     requires len { length reach.now ≡ parent.now.state.len }
     requires bad { parent.now.state.search.bad ≡ Some bad }
+    requires settled { IsSettled reach.now (nodes_.asked_of parent.now) }
     requires asks { parent.now.step.ask ≡ Test place }
     requires below { place < length reach.now }
     requires sight { IsSight reach.now parent.now.state.search parent.now.sight }
@@ -134,6 +194,7 @@ pub(crate) fn grown(
     place: u32,
 ) -> Result<Node, AllocError>
     requires len { length reach.now ≡ parent.now.state.len }
+    requires settled { IsSettled reach.now (nodes_.asked_of parent.now) }
     requires asks { parent.now.step.ask ≡ Test place }
     requires below { place < length reach.now }
     requires sight { IsSight reach.now parent.now.state.search parent.now.sight }

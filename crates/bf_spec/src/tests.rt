@@ -133,6 +133,43 @@ fn asks_between(rt: &impl Abort, tree: &mut SpecTree, table: &Table) -> Result<(
     Ok(())
 }
 
+/// No commit between the ends can be told.
+fn untold(alloc: Global) -> Result<Table, AllocError> {
+    let mut table = Table::new(alloc, 8)?;
+    for place in 1..7 {
+        if table.get(place).is_none() {
+            table.put(place, Outcome::Exit(125));
+        }
+    }
+    Ok(table)
+}
+
+/// Asserts that the commits are skipped by their values, of equal ones the earlier first.
+fn skips_by_value(rt: &impl Abort, tree: &mut SpecTree, table: &Table) -> Result<(), AllocError> {
+    const SKIP: Outcome = Outcome::Exit(125);
+    let walked = tree.run(table, None)?;
+    let order = [
+        (3, SKIP),
+        (4, SKIP),
+        (2, SKIP),
+        (5, SKIP),
+        (1, SKIP),
+        (6, SKIP),
+    ];
+    assert_eq!(rt; walked.used.as_slice(), order.as_slice());
+    assert!(rt; matches!(walked.ending, Some(Ending::OnlySkipped(_))));
+    Ok(())
+}
+
+#[test]
+fn a_run_of_skips(rt: HostRuntime) -> Result<(), Fail> {
+    let reach = line(rt.alloc())?;
+    let table = untold(rt.alloc())?;
+    let mut tree = planted(rt.alloc(), &reach)?;
+    skips_by_value(&rt, &mut tree, &table)?;
+    Ok(())
+}
+
 #[test]
 fn a_run_and_a_jump(rt: HostRuntime) -> Result<(), Fail> {
     let reach = line(rt.alloc())?;

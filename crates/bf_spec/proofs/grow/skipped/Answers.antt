@@ -9,7 +9,9 @@ use Rattle.bf_state.specs.Weighed.{mask_of}
 use Rattle.bf_spec.specs.declared.node.Order.{Order}
 use Rattle.bf_spec.specs.declared.node.Sight.{Sight}
 use Rattle.bf_spec.specs.Sights.{IsSight}
-use Rattle.bf_spec.proofs.Sights.{mask_asked, ranking_asked, passed_asked, mask_skipped, ranking_skipped, passed_skipped, marked_as, asked_as, child_is}
+use Rattle.bf_guesses.proofs.Rows.{mask-asked}
+use Rattle.bf_spec.specs.Nodes.{asked_of}
+use Rattle.bf_spec.proofs.Sights.{ranking_asked, passed_asked, mask_skipped, ranking_skipped, passed_skipped, marked_as, asked_as, child_is}
 use Rattle.bf_spec.proofs.grow.skipped.Goals as goal
 
 pub advance_ranked-requires-clause-mask : goal.advance_ranked-requires-clause-mask
@@ -17,7 +19,7 @@ advance_ranked-requires-clause-mask c =
     let graph = c.args.reach.now in
     let base = c.args.parent.now.state in
     let marked = marked_as base c.in_ok-state.state c.mark.new.self Skip c.args.place c.in_ok-state.ensures c.in_ok-mark.ensures.ok in
-    c.deref.ensures ∙ c.in_ok-mask.ensures ∙ c.requires.sight.mask ∙ sym (mask_skipped graph base.search c.args.place) ∙ ap (λ (v : Session). mask_of graph v.search) (sym marked)
+    c.deref.ensures ∙ c.in_ok-mask.ensures ∙ c.requires.sight.mask ∙ sym (mask_skipped graph (asked_of c.args.parent.now) c.args.place c.requires.settled) ∙ ap (λ (v : Session). mask_of graph v.search) (sym marked)
 
 pub advance_ranked-requires-clause-ranking : goal.advance_ranked-requires-clause-ranking
 advance_ranked-requires-clause-ranking c =
@@ -26,7 +28,7 @@ advance_ranked-requires-clause-ranking c =
     let ps : List ℕ = arc_value c.in_ok-before.before.ranking in
     let marked = marked_as base c.in_ok-state.state c.mark.new.self Skip c.args.place c.in_ok-state.ensures c.in_ok-mark.ensures.ok in
     subst (λ (qs : List ℕ). IsRankingOf graph c.mark.new.self.search qs) (sym c.deref-2.ensures)
-    (subst (λ (v : Session). IsRankingOf graph v.search ps) (sym marked) (ranking_skipped graph base.search c.args.place ps c.in_ok-before.ensures.ranking))
+    (subst (λ (v : Session). IsRankingOf graph v.search ps) (sym marked) (ranking_skipped graph (asked_of c.args.parent.now) c.args.place ps c.requires.settled c.in_ok-before.ensures.ranking))
 
 pub advance_ranked-requires-clause-passed : goal.advance_ranked-requires-clause-passed
 advance_ranked-requires-clause-passed c =
@@ -51,9 +53,9 @@ returns c =
     let order : Order = record { ranking = c.in_ok-before.before.ranking; passed = passed } in
     let sight : Sight = record { mask = c.in_ok-mask.mask; order = Some order } in
     let seen : IsSight graph (ask graph after).search sight = record {
-      mask = c.in_ok-mask.ensures ∙ c.requires.sight.mask ∙ sym (mask_skipped graph base.search place) ∙ sym (mask_asked graph after);
+      mask = c.in_ok-mask.ensures ∙ c.requires.sight.mask ∙ sym (mask_skipped graph (asked_of c.args.parent.now) place c.requires.settled) ∙ sym (mask-asked graph after);
       order = record {
-        ranking = ranking_asked graph after ps (ranking_skipped graph base.search place ps c.in_ok-before.ensures.ranking);
+        ranking = ranking_asked graph after ps (ranking_skipped graph (asked_of c.args.parent.now) place ps c.requires.settled c.in_ok-before.ensures.ranking);
         passed = passed_asked graph after ps passed (subst (λ (v : Session). IsPassed v.search.skips ps passed) marked here);
       };
     } in
