@@ -14,6 +14,7 @@ use Rattle.bf_search.specs.declared.asks.Step.{Step}
 use Rattle.bf_search.specs.declared.outcomes.Mark.{Mark}
 use Rattle.bf_search.specs.declared.outcomes.Mark.TheVariants.{Good, Bad, Skip}
 use Rattle.bf_search.specs.Candidates.{is_in, weights}
+use Rattle.bf_search.specs.Choice.{count_in}
 use Rattle.bf_search.specs.Reach.{in_mode, reach_row}
 use Rattle.bf_search.specs.State.{Search, Asked, ask, mark}
 use Rattle.bf_state.specs.Ranked.{IsRankingOf}
@@ -107,10 +108,13 @@ child_is graph parent child m p path asks state step sight below = record {
 -- the candidates that an ask had in hand are those of its search
 pub fresh_sight : (graph : List (List ℕ)) (s : Search) (path : List Mark) (session : Session) (next : Step) (mask : List Bool) (node : Node) → IsFresh path session next mask node → session.search ≡ (ask graph s).search → mask ≡ mask_of graph s
     → IsSight graph node.state.search node.sight
-fresh_sight graph s path session next mask node is asks m = record {
-  mask = is.mask_is ∙ m ∙ sym (mask-asked graph s) ∙ ap (λ (t : Search). mask_of graph t) (sym (ap (λ (v : Session). v.search) is.state ∙ asks));
-  order = subst (λ (o : Option Order). IfSome o (IsOrder graph node.state.search)) (sym is.no_order) tt;
-}
+fresh_sight graph s path session next mask node is asks m =
+    let here : mask ≡ mask_of graph node.state.search = m ∙ sym (mask-asked graph s) ∙ ap (λ (t : Search). mask_of graph t) (sym (ap (λ (v : Session). v.search) is.state ∙ asks)) in
+    record {
+      mask = is.mask_is ∙ here;
+      left = is.left_is ∙ ap count_in here;
+      order = subst (λ (o : Option Order). IfSome o (IsOrder graph node.state.search)) (sym is.no_order) tt;
+    }
 
 pub fresh_child : (graph : List (List ℕ)) (parent child : Node) (m : Mark) (p : ℕ) (path : List Mark) (session : Session) (next : Step) (mask : List Bool) → IsFresh path session next mask child → path ≡ path_of parent ++ m ∷ [] → parent.step.ask ≡ Test p
     → session ≡ with_search parent.state (ask graph (mark parent.state.search m p)).search → next ≡ (ask graph (mark parent.state.search m p)).step → mask ≡ mask_of graph (mark parent.state.search m p)

@@ -4,6 +4,7 @@ use Rattle.std.specs.Arc.{arc_value}
 use Rattle.bf_choice.specs.Ranking.{IsPassed}
 use Rattle.bf_search.specs.declared.asks.Step.{Step}
 use Rattle.bf_search.specs.declared.outcomes.Mark.{Mark}
+use Rattle.bf_search.specs.Choice.{count_in}
 use Rattle.bf_search.specs.State.{Search}
 use Rattle.bf_state.specs.Ranked.{IsRankingOf}
 use Rattle.bf_state.specs.Session.{Session}
@@ -17,9 +18,10 @@ pub record IsOrder (graph : List (List ℕ)) (s : Search) (order : Order) : Type
   pub ranking : IsRankingOf graph s (arc_value order.ranking)
   pub passed : IsPassed s.skips (arc_value order.ranking) order.passed
 
--- the candidates of a search and, where it is there, their order
+-- the candidates of a search, their number and, where it is there, their order
 pub record IsSight (graph : List (List ℕ)) (s : Search) (sight : Sight) : Type 0 where
   pub mask : arc_value sight.mask ≡ mask_of graph s
+  pub left : sight.left ≡ count_in (mask_of graph s)
   pub order : IfSome sight.order (IsOrder graph s)
 
 -- a node with this path, search and step, which has these candidates in sight, and not yet their order
@@ -28,4 +30,5 @@ pub record IsFresh (path : List Mark) (session : Session) (next : Step) (mask : 
   pub state : node.state ≡ session
   pub step : node.step ≡ next
   pub mask_is : arc_value node.sight.mask ≡ mask
+  pub left_is : node.sight.left ≡ count_in mask
   pub no_order : node.sight.order ≡ None

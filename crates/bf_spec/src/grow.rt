@@ -23,6 +23,7 @@ fn fresh(alloc: Global, path: Vec<Mark>, state: State, weighed: Weighed) -> Resu
     ensures { IfOk result (IsFresh path.items state weighed.step weighed.mask) }
 {
     let sight = Sight {
+        left: weighed.mask.count(),
         mask: Arc::new(alloc, weighed.mask)?,
         order: None,
     };
@@ -71,6 +72,13 @@ fn after_good(alloc: Global, reach: &Reach, parent: &Node, place: u32) -> Result
     Ok(mask)
 }
 
+/// Whether the bad side of a search follows first parents alone.
+fn mode_of(state: &State) -> bool
+    ensures { result ≡ state.now.search.first_parent }
+{
+    state.first_parent
+}
+
 /// The candidates after a bad mark of the place that a node asks: those that the place reaches.
 fn after_bad(alloc: Global, reach: &Reach, parent: &Node, place: u32) -> Result<Row, AllocError>
     requires settled { IsSettled reach.now (nodes_.asked_of parent.now) }
@@ -81,7 +89,7 @@ fn after_bad(alloc: Global, reach: &Reach, parent: &Node, place: u32) -> Result<
 {
     let mut mask = parent.sight.mask.try_clone()?;
     let mut reached = Row::new(alloc, reach.len())?;
-    reach.fill_in_mode(place, parent.state.first_parent, &mut reached);
+    reach.fill_in_mode(place, mode_of(&parent.state), &mut reached);
     mask.and_from(&reached);
     Ok(mask)
 }
@@ -181,7 +189,11 @@ fn skipped(
         path,
         state,
         step: ranked.step,
-        sight: Sight { mask, order },
+        sight: Sight {
+            mask,
+            left: parent.sight.left,
+            order,
+        },
     })
 }
 

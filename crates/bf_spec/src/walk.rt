@@ -184,7 +184,7 @@ pub(crate) fn best_from(
         Stop::Ended => Ok(None),
         Stop::Free(index, place) => Ok(Some(Found {
             place,
-            left: nodes[index].sight.mask.count(),
+            left: nodes[index].sight.left,
             depth: nodes[index].path.as_slice().len(),
         })),
         Stop::Guess(index, place) => {

@@ -1,7 +1,8 @@
-use Rattle.std.proofs.Common.{ℕ, List, Some, sym, ap, ◌∙◌, subst}
+use Rattle.std.proofs.Common.{◌≡◌, ℕ, List, Some, sym, ap, ◌∙◌, subst}
 use Rattle.std.specs.Arc.{arc_value}
 use Rattle.bf_choice.specs.Ranking.{IsPassed}
 use Rattle.bf_search.specs.declared.outcomes.Mark.TheVariants.{Skip}
+use Rattle.bf_search.specs.Choice.{count_in}
 use Rattle.bf_search.specs.State.{Search, ask, mark}
 use Rattle.bf_state.specs.Ranked.{IsRankingOf}
 use Rattle.bf_state.specs.Session.{Session, IsSearchBelow}
@@ -51,9 +52,11 @@ returns c =
     let asked = asked_as graph base c.in_ok-state.state c.mark.new.self c.advance_ranked.new.self Skip place c.in_ok-state.ensures c.in_ok-mark.ensures.ok c.in_ok-ranked.ensures.state in
     let here : IsPassed c.mark.new.self.search.skips ps passed = subst (λ (qs : List ℕ). IsPassed c.mark.new.self.search.skips qs passed) c.deref-2.ensures c.in_ok-ranked.ensures.passed in
     let order : Order = record { ranking = c.in_ok-before.before.ranking; passed = passed } in
-    let sight : Sight = record { mask = c.in_ok-mask.mask; order = Some order } in
+    let sight : Sight = record { mask = c.in_ok-mask.mask; left = c.args.parent.now.sight.left; order = Some order } in
+    let same : mask_of graph base.search ≡ mask_of graph (ask graph after).search = sym (mask_skipped graph (asked_of c.args.parent.now) place c.requires.settled) ∙ sym (mask-asked graph after) in
     let seen : IsSight graph (ask graph after).search sight = record {
-      mask = c.in_ok-mask.ensures ∙ c.requires.sight.mask ∙ sym (mask_skipped graph (asked_of c.args.parent.now) place c.requires.settled) ∙ sym (mask-asked graph after);
+      mask = c.in_ok-mask.ensures ∙ c.requires.sight.mask ∙ same;
+      left = c.requires.sight.left ∙ ap count_in same;
       order = record {
         ranking = ranking_asked graph after ps (ranking_skipped graph (asked_of c.args.parent.now) place ps c.requires.settled c.in_ok-before.ensures.ranking);
         passed = passed_asked graph after ps passed (subst (λ (v : Session). IsPassed v.search.skips ps passed) marked here);
