@@ -4,6 +4,7 @@
 # make uninstall PREFIX=FOLDER: removes what was installed
 # make test: every proof, must-fail edit, test and program of this checkout
 # make check: the tests of the scripts
+# make bench: what the programs cost, at small sizes (benches/bench.py has the others)
 PREFIX ?= /usr/local
 
 SCRIPTS = git-farmdawn farmdawn-worktree farmdawn-srun farmdawn-ssh
@@ -13,7 +14,7 @@ BASH_COMPLETIONS = $(DESTDIR)$(PREFIX)/share/bash-completion/completions
 ZSH_COMPLETIONS = $(DESTDIR)$(PREFIX)/share/zsh/site-functions
 FISH_COMPLETIONS = $(DESTDIR)$(PREFIX)/share/fish/vendor_completions.d
 
-.PHONY: demo install install-scripts uninstall test check
+.PHONY: demo install install-scripts uninstall test check bench
 demo:
 	cd crates/farmdawn && rt try -- $$(cat args) < stdin
 
@@ -41,3 +42,6 @@ test:
 
 check:
 	sh tests/check
+
+bench:
+	python3 benches/bench.py all --quick

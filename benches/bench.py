@@ -1,46 +1,74 @@
 #!/usr/bin/env python3
 """What the programs of this checkout cost, beside git where it is installed.
 
-Usage: benches/bench.py SUBJECT [NUMBER ..]    (the numbers behind a subject are its defaults)
+Usage: benches/bench.py SUBJECT [SIZE ..] [--quick] [--program FILE]
 
-  weights 20000 100000         all weights of generated histories       beside git rev-list --bisect-all
-  stream 300 1000000           MB of contents, and short commands       beside cat and git fast-import
-  forest 40 50 25 20000        single edits of a tree of many files     beside git fast-import
-  import 100000 10000 500      short commits, a folder, MB of contents  beside git fast-import
-  run 20000 100000             whole searches; 1,000 skips in a row     beside git rev-list --bisect
-  hostile 1                    streams and logs made to cost much, at a size and at twice the size; a small stack;
-                               the sizes are divided by the number
-  wall 300 40 3                commits, files of C, runs: wall time of 1, 2, 4 and 8 workers  beside git bisect run
-  real [--seed N] [--pairs N] [REPOSITORY]    a repository: the answers of farmdawn and of git bisect run must agree
+  import    COMMITS FILES MEGABYTES     short commits, a folder, contents, beside git fast-import; one mark of nine digits
+  stream    MEGABYTES COMMANDS          MB/s of contents and of short commands by bench_stream, beside cat and git fast-import
+  forest    DIRECTORIES SUBDIRECTORIES FILES EDITS    single edits of a tree by bench_forest, beside git fast-import
+  weights   COMMITS ..                  all weights of three shapes of history by bench_weights, beside git rev-list
+                                        --bisect-all
+  search    COMMITS ..                  the asks of whole searches, beside git rev-list --bisect; 1,000 skips in a row
+  workers   COMMITS                     processor time of simulate --workers 1, 2, 8 and 64
+  farm      SIZE ..                     the farm's machine alone, by bench_farm
+  run       COMMITS MILLISECONDS TESTS  searches by tests of such a length, by 1 to 8 workers, beside git bisect run; tests of
+                                        uneven length; the overhead of a test
+  wall      COMMITS FILES RUNS          git farmdawn on a project in C that is built, by 1 to 8 workers, beside git bisect run
+  sample    COMMITS ..                  farmdawn sample
+  hostile   DIVISOR                     time and memory of what was made to cost much, at a size and at twice the size; the
+                                        sizes are divided by the number
+  logs      MARKS                       whether git and farmdawn know the same behind each other's logs
+  real      REPOSITORY [PAIRS]          whether they name the same commits in a repository
+  gate      LOG ..                      the page docs/GATE.md, of logs of the merge gate
+  all                                   each of these that needs no file
 
-Ratios say how many times as fast as git a program is; they are of processor time, where nothing else is said. The
-programs are built first, with their proofs, by `rt run` in their crates; the one that FARMDAWN names stands for farmdawn.
+Sizes stand in for the full ones, or with --quick for small ones. FILE is the program that is measured: bench_weights,
+bench_stream, bench_forest or bench_farm where these are named below, else farmdawn. Without it, it is the one that a
+proved build left, which is made where there is none; FARMDAWN may name another farmdawn.
+
+Ratios say how many times as fast as git a program is; times are of processors, where nothing else is said, and memory is
+the greatest that the program alone had. The status is 1 where something is not as it must be.
 """
+import argparse
 import os
+import random
+import re
 import shutil
+import statistics
 import subprocess
 import sys
 import tempfile
+from dataclasses import dataclass
+from typing import Callable
 
-import hostile
-import real
+import agree
+import gate
+import repository
 import streams
-import wall
 from measure import measure
+from repository import git
 
 TOP = os.path.dirname(os.path.dirname(os.path.abspath(__file__)))
 HAS_GIT = shutil.which("git") is not None
+MAIN, OLD = "refs/heads/main", "refs/heads/old"
+NOTHING_TO_ASK = ["simulate", MAIN, MAIN, ""]
+
+
+class Missing(Exception):
+    """What a subject needs and is not here."""
 
 
 def program(name):
-    """The path of a program of this checkout, built anew where it has to be."""
-    if name == "farmdawn" and "FARMDAWN" in os.environ:
-        return os.path.abspath(os.environ["FARMDAWN"])
+    """The path of a program of this checkout, built where it was not."""
     crate = os.path.join(TOP, "crates", name)
     built = os.path.join(crate, "out", name)
-    done = subprocess.run(["rt", "run"], cwd=crate, stdin=subprocess.DEVNULL, stdout=subprocess.PIPE, stderr=subprocess.STDOUT)
+    if not os.path.isdir(crate):
+        raise Missing(f"a crate {name}")
     if not os.path.exists(built):
-        sys.exit(done.stdout.decode(errors="replace"))
+        done = subprocess.run(["rt", "run"], cwd=crate, stdin=subprocess.DEVNULL, stdout=subprocess.PIPE,
+                              stderr=subprocess.STDOUT)
+        if not os.path.exists(built):
+            sys.exit(done.stdout.decode(errors="replace"))
     return built
 
 
@@ -49,183 +77,447 @@ def ratio(theirs, ours):
 
 
 class Bench:
-    """A temporary folder with a stream and, where git is installed, a repository of it."""
+    """A temporary folder with a stream, and the program that is measured."""
 
-    def __init__(self, work):
-        self.work = work
-        self.stream = os.path.join(work, "stream")
+    def __init__(self, work, name, path=None):
+        self.work, self.name, self.given = work, name, path
+        self.stream = self.path("stream")
+        open(self.stream, "wb").close()
 
-    def write(self, make, *words):
-        """Writes a generated stream, and tells its size in bytes."""
-        with open(self.stream, "wb", buffering=1 << 20) as out:
+    @property
+    def program(self):
+        return self.given or program(self.name)
+
+    def path(self, name):
+        return os.path.join(self.work, name)
+
+    def write(self, make, *words, to="stream"):
+        """Writes what is generated, and tells its size in bytes."""
+        with open(self.path(to), "wb", buffering=1 << 20) as out:
             make(out, *words)
-        return os.path.getsize(self.stream)
+        return os.path.getsize(self.path(to))
 
-    def repository(self):
-        """The path of an empty repository."""
-        path = os.path.join(self.work, "repository")
-        shutil.rmtree(path, ignore_errors=True)
-        subprocess.run(["git", "init", "-q", "--bare", path], check=True)
-        subprocess.run(["git", "-C", path, "config", "core.compression", "0"], check=True)
-        return path
+    def ask(self, *words, **options):
+        """What the program costs over the stream, and its output."""
+        return measure([self.program, *words], self.stream, keep=self.path("output"), folder=self.work, **options)
 
     def git_import(self):
         """What git takes to import the stream, and the repository."""
-        path = self.repository()
-        return measure(["git", "-C", path, "fast-import", "--quiet", "--depth=0"], self.stream), path
+        folder = self.path("repository")
+        shutil.rmtree(folder, ignore_errors=True)
+        repository.empty(folder)
+        return measure(["git", "-C", folder, "fast-import", "--quiet", "--depth=0"], self.stream), folder
 
     def beside_git(self, label, ours):
         """Prints what git takes to import the stream, beside what a program took."""
         if HAS_GIT:
             theirs, _ = self.git_import()
-            print(f"{label}: git fast-import {theirs.processor:.2f} s, {theirs.peak} KiB; {ratio(theirs.processor, ours.processor)}")
+            print(f"{label}: git fast-import {theirs}; {ratio(theirs.processor, ours.processor)}")
 
 
-def weights(bench, *sizes):
-    weigher = program("bench_weights")
-    for kind in ("line", "mixed", "merges"):
-        for size in sizes or (20000, 100000):
-            given = os.path.join(bench.work, "input")
-            with open(given, "w") as file:
-                file.write(f"{kind} {size}\n")
-            ours = measure([weigher], given)
-            print(f"{kind} {size}: bench_weights {ours.processor:.3f} s, {ours.peak} KiB")
-            if not HAS_GIT:
-                continue
-            bench.write(streams.shape, kind, size)
-            _, path = bench.git_import()
-            first = subprocess.check_output(["git", "-C", path, "rev-list", "--max-parents=0", "main"], text=True).strip()
-            theirs = measure(["git", "-C", path, "rev-list", "--bisect-all", "main", f"^{first}"], limit=300)
-            print(f"{kind} {size}: git rev-list --bisect-all {theirs.processor:.2f} s, {theirs.peak} KiB; "
-                  f"{ratio(theirs.processor, ours.processor)}")
-
-
-def piped(command, stream):
-    """The clock's seconds of a command that reads a stream through a pipe."""
-    return measure(["sh", "-c", 'file=$1; shift; cat "$file" | "$@"', "sh", stream, *command]).seconds
-
-
-def stream(bench, megabytes=300, count=1000000):
-    reader = program("bench_stream")
-    for make, size in ((streams.contents, megabytes), (streams.commands, count)):
-        label = f"{make.__name__} {size}"
-        million = bench.write(make, size) / 1e6
-        ours, plain = piped([reader], bench.stream), piped(["cat"], bench.stream)
-        print(f"{label}: {million:.0f} MB; bench_stream {million / ours:.0f} MB/s, cat {million / plain:.0f} MB/s")
-        if HAS_GIT:
-            theirs = piped(["git", "-C", bench.repository(), "fast-import", "--quiet"], bench.stream)
-            print(f"{label}: git fast-import {million / theirs:.0f} MB/s; {ratio(theirs, ours)} by the clock")
-
-
-def forest(bench, *shape):
-    shape = shape or (40, 50, 25, 20000)
-    label = " ".join(map(str, shape))
-    told = os.path.join(bench.work, "tree")
-    ours = measure([program("bench_forest"), *map(str, shape)], keep=told)
-    print(f"{label}: bench_forest {ours.processor:.2f} s, {ours.peak} KiB, {ours.output.decode().strip()}")
+def needs_git():
     if not HAS_GIT:
-        return
-    bench.write(streams.forest, *shape)
-    theirs, path = bench.git_import()
-    tree = subprocess.check_output(["git", "-C", path, "rev-parse", "main^{tree}"], text=True).strip()
-    print(f"{label}: git fast-import {theirs.processor:.2f} s, {theirs.peak} KiB; {ratio(theirs.processor, ours.processor)}")
-    if ours.output.decode() != f"{shape[3]} edits: {tree}\n":
-        sys.exit(f"git has the tree {tree}")
+        raise Missing("git")
 
 
-def import_(bench, commits=100000, files=10000, megabytes=500):
-    farmdawn = program("farmdawn")
-    nothing_to_ask = [farmdawn, "simulate", "refs/heads/main", "refs/heads/main", ""]
+# ---- streams and trees
+
+
+def import_(bench, commits, files, megabytes):
     for make, size in ((streams.generated, commits), (streams.folder, files), (streams.contents, megabytes)):
         label = f"{make.__name__} {size}"
         count = bench.write(make, size)
-        ours = measure(nothing_to_ask, bench.stream)
+        ours = bench.ask(*NOTHING_TO_ASK)
         plain = measure(["sha1sum"], bench.stream)
-        print(f"{label}: {count} bytes; farmdawn {ours.processor:.2f} s, {ours.peak} KiB; sha1sum of the stream {plain.processor:.2f} s")
+        print(f"{label}: {count} bytes; farmdawn {ours}; sha1sum of the stream {plain.processor:.2f} s")
         bench.beside_git(label, ours)
-    # A mark may be any number and costs one entry; the commits behind it keep the program running long enough to be looked at.
-    bench.write(lambda out: (out.write(b"commit refs/heads/main\nmark :536870911\ncommitter a <a@b> 0 +0000\ndata 0\n"),
-                             streams.generated(out, 50000)))
-    one_mark = measure(nothing_to_ask, bench.stream)
-    print(f"mark 536870911: farmdawn {one_mark.peak} KiB")
+    bench.write(streams.mark_far, commits // 2)
+    one_mark = bench.ask(*NOTHING_TO_ASK)
+    bench.write(streams.generated, commits // 2)
+    without = bench.ask(*NOTHING_TO_ASK)
+    print(f"mark 536870911: farmdawn {one_mark}; without it {without}")
     bench.write(streams.generated, 100001)
-    answer = measure(nothing_to_ask, bench.stream, keep=os.path.join(bench.work, "answer")).output.decode().strip()
+    answer = bench.ask(*NOTHING_TO_ASK).output.decode().strip()
     print(f"100001 commits: {answer}")
-    if one_mark.peak > 51200 or answer != "too large: commits":
-        sys.exit("more than 50 MB for one mark, or one commit more than the limit is taken")
+    return one_mark.peak < without.peak + 10240 and answer == "too large: commits"
 
 
-def searched(bench, farmdawn, plan):
-    """The tests of a search over a plan, and its processor seconds above those of the import."""
-    words = [farmdawn, "simulate", "refs/heads/main"]
-    import_alone = measure([*words, "refs/heads/main", ""], bench.stream)
-    whole = measure([*words, "refs/heads/old", plan], bench.stream, keep=os.path.join(bench.work, "log"))
-    marks = whole.output.count(b"\ngit bisect ") - 1
-    return marks, max(whole.processor - import_alone.processor, 0)
+def stream(bench, megabytes, count):
+    def piped(*command):
+        return measure(["sh", "-c", 'file=$1; shift; cat "$file" | "$@"', "sh", bench.stream, *command]).seconds
+
+    for make, size in ((streams.contents, megabytes), (streams.commands, count)):
+        label = f"{make.__name__} {size}"
+        million = bench.write(make, size) / 1e6
+        ours, plain = piped(bench.program), piped("cat")
+        print(f"{label}: {million:.0f} MB; bench_stream {million / ours:.0f} MB/s, cat {million / plain:.0f} MB/s, by the clock")
+        if HAS_GIT:
+            theirs = piped("git", "-C", repository.empty(bench.path(make.__name__)), "fast-import", "--quiet")
+            print(f"{label}: git fast-import {million / theirs:.0f} MB/s; {ratio(theirs, ours)}")
 
 
-def run(bench, *sizes):
-    farmdawn = program("farmdawn")
-    for make in (streams.line, streams.generated):
-        for size in sizes or (20000, 100000):
-            label = f"{make.__name__} {size}"
-            bench.write(make, size)
-            tests, ours = searched(bench, farmdawn, "g" * (size * 2 // 3) + "b" * (size - size * 2 // 3))
-            print(f"{label}: {tests} tests; farmdawn {ours:.3f} s for all their asks")
+def shaped(bench, shape):
+    """What the program takes for the numbers of its shape, and what it prints."""
+    ours = bench.ask(*map(str, shape))
+    print(f"{' '.join(map(str, shape))}: {bench.name} {ours}, {ours.output.decode().strip()}")
+    return ours
+
+
+def forest(bench, *shape):
+    ours = shaped(bench, shape)
+    if not HAS_GIT:
+        return True
+    bench.write(streams.forest, *shape)
+    theirs, folder = bench.git_import()
+    due = f"{shape[3]} edits: {git(folder, 'rev-parse', 'main^{tree}')}\n"
+    print(f"{' '.join(map(str, shape))}: git fast-import {theirs}; {ratio(theirs.processor, ours.processor)}")
+    return ours.output.decode() == due
+
+
+def farm(bench, *shape):
+    return shaped(bench, shape).status == 0
+
+
+# ---- searches
+
+
+def weights(bench, *sizes):
+    for kind in ("line", "mixed", "merges"):
+        for size in sizes:
+            with open(bench.stream, "w") as file:
+                file.write(f"{kind} {size}\n")
+            ours = bench.ask()
+            print(f"{kind} {size}: bench_weights {ours}")
             if HAS_GIT:
-                _, path = bench.git_import()
-                theirs = measure(["git", "-C", path, "rev-list", "--bisect", "main", "^old"], limit=300)
-                print(f"{label}: git rev-list --bisect {theirs.processor:.2f} s for the first of them")
-    bench.write(streams.line, 20000)
-    tests, ours = searched(bench, farmdawn, "g" * 9500 + "s" * 1000 + "b" * 9500)
-    print(f"line 20000 with skips: {tests} tests; farmdawn {ours:.3f} s for all their asks")
+                bench.write(streams.shape, kind, size)
+                _, folder = bench.git_import()
+                first = git(folder, "rev-list", "--max-parents=0", "main")
+                theirs = measure(["git", "-C", folder, "rev-list", "--bisect-all", "main", f"^{first}"], limit=300)
+                print(f"{kind} {size}: git rev-list --bisect-all {theirs}; {ratio(theirs.processor, ours.processor)}")
 
 
-def hostile_costs(bench, label, make, size, words, given):
-    """The costs at a size and at twice the size; whether they grow as they may, and the program ended by itself."""
-    command = ["sh", "-c", 'ulimit -s 1024; cd "$1"; shift; exec "$@"', "sh", bench.work, *words]
-    costs, counts = [], []
-    for times in (1, 2):
-        with open(given, "wb", buffering=1 << 20) as out:
-            make(out, size * times)
-        counts.append(os.path.getsize(given))
-        costs.append(measure(command, bench.stream, limit=120))
-    first, second = costs
-    slower = second.processor / max(first.processor, 0.02)
-    right = slower <= 2.5 and first.status in range(18) and second.status in range(18)
-    print(f"{label} {size}: {counts[0]} and {counts[1]} bytes; {first.processor:.2f} and {second.processor:.2f} s, {slower:.1f} times; "
-          f"{first.peak} and {second.peak} KiB, {max(second.peak - first.peak, 0) * 1024 / (counts[1] - counts[0]):.1f} bytes a byte; "
-          f"status {first.status} and {second.status}{'' if right else '; NOT AS IT MAY BE'}", flush=True)
+def marks_of(output):
+    """How many marks a log has behind its start."""
+    return len(re.findall(rb"^git bisect (?!start)", output, re.M))
+
+
+def plan_of(size):
+    """The last third is bad."""
+    return "g" * (size * 2 // 3) + "b" * (size - size * 2 // 3)
+
+
+def searched(bench, plan):
+    """How many tests a search over a plan makes, and its processor seconds above those of the import."""
+    alone = bench.ask(*NOTHING_TO_ASK)
+    whole = bench.ask("simulate", MAIN, OLD, plan)
+    return f"{marks_of(whole.output)} tests; farmdawn {max(whole.processor - alone.processor, 0):.3f} s for all their asks"
+
+
+def search(bench, *sizes):
+    for make in (streams.line, streams.generated):
+        for size in sizes:
+            bench.write(make, size)
+            print(f"{make.__name__} {size}: {searched(bench, plan_of(size))}")
+            if HAS_GIT:
+                _, folder = bench.git_import()
+                theirs = measure(["git", "-C", folder, "rev-list", "--bisect", "main", "^old"], limit=300)
+                print(f"{make.__name__} {size}: git rev-list --bisect {theirs} for the first of them")
+    size = sizes[0]
+    bench.write(streams.line, size)
+    side = max(size // 2 - 500, 0)
+    print(f"line {size} with skips: {searched(bench, 'g' * side + 's' * (size - 2 * side) + 'b' * side)}")
+
+
+def workers(bench, size):
+    bench.write(streams.generated, size)
+    one, same = None, True
+    for count in (1, 2, 8, 64):
+        ours = bench.ask("simulate", "--workers", str(count), MAIN, OLD, plan_of(size))
+        one = one or ours
+        same &= (ours.status, ours.output) == (one.status, one.output)
+        of_one = ours.processor / max(one.processor, 0.001)
+        print(f"{size} commits, {count} workers: farmdawn {ours}, {of_one:.2f} times one worker's, "
+              f"{ours.seconds:.2f} s by the clock{'' if same else '; ANOTHER OUTPUT'}")
+    return same
+
+
+def sample(bench, *sizes):
+    for size in sizes:
+        ours = bench.ask("sample", "1", str(size))
+        print(f"sample 1 {size}: farmdawn {ours}; {'; '.join(ours.output.decode().splitlines()[:2])}")
+
+
+# ---- tests
+
+# Each line of the table is the name of a commit, its status, and the seconds of its test.
+TEST = """commit=${1:-$(git rev-parse HEAD)}
+set -- $(grep "^$commit" '%s')
+sleep "$3"
+exit "$2"
+"""
+COUNTS = (1, 2, 4, 8)
+
+
+def table(bench, folder, seconds):
+    """Writes the script of a test, whose seconds a call gives; the last third of the commits is bad. The script's path."""
+    names = git(folder, "rev-list", "--reverse", "main").split()
+    with open(bench.path("table"), "w") as file:
+        for place, name in enumerate(names):
+            file.write(f"{name} {int(place >= len(names) * 2 // 3)} {seconds():.3f}\n")
+    with open(bench.path("test.sh"), "w") as file:
+        file.write(TEST % bench.path("table"))
+    return bench.path("test.sh")
+
+
+def by_bisect_run(bench, folder, command):
+    """What `git bisect run` costs, how many tests it makes, and its answer."""
+    git(folder, "bisect", "start", "main", git(folder, "rev-list", "--max-parents=0", "main"))
+    cost = measure(["git", "-C", folder, "bisect", "run", *command], keep=bench.path("output"), environment=repository.CALM)
+    git(folder, "bisect", "reset")
+    return cost, len(re.findall(rb"^running", cost.output, re.M)), answer_of(cost.output)
+
+
+def workers_text(count):
+    return f"{count} worker{'s' * (count > 1)}"
+
+
+def answer_of(output):
+    return re.findall(rb"^([0-9a-f]{40}) is the first bad commit$", output, re.M)
+
+
+def run_tests(bench, label, folder, seconds):
+    """The clock of a search by tests, for each number of workers, beside git."""
+    command = ["sh", table(bench, folder, seconds)]
+    theirs, count, due = by_bisect_run(bench, folder, command)
+    print(f"{label}: git bisect run {theirs.seconds:.2f} s by the clock, {count} tests")
+    right = True
+    for number in COUNTS:
+        ours = bench.ask("run", "--workers", str(number), MAIN, OLD, "--", *command)
+        right &= answer_of(ours.output) == due
+        print(f"{label}: farmdawn with {workers_text(number)} {ours.seconds:.2f} s by the clock, {marks_of(ours.output)} tests "
+              f"in its log; {ratio(theirs.seconds, ours.seconds)}{'' if right else '; ANOTHER ANSWER'}", flush=True)
     return right
 
 
-def hostile_(bench, divisor=1):
-    farmdawn, log = program("farmdawn"), os.path.join(bench.work, "log")
-    question = [farmdawn, "simulate", "refs/heads/main", "refs/heads/main", ""]
-    wrong = [make.__name__ for make, size in hostile.KINDS.items()
-             if not hostile_costs(bench, make.__name__, make, size // divisor, question, bench.stream)]
-    bench.write(hostile.history)
-    wrong += [make.__name__ for make, size in hostile.LOGS.items()
-              if not hostile_costs(bench, f"log of {make.__name__}", make, size // divisor,
-                                [farmdawn, "replay", "--replay", log], log)]
-    print(f"{len(hostile.KINDS) + len(hostile.LOGS)} kinds, not as they may be: {' '.join(wrong) or 'none'}")
-    sys.exit(1 if wrong else 0)
+def overhead(bench, count):
+    """What a test costs beside its command, where each of so many commits is skipped."""
+    bench.write(streams.line, count)
+    folder = repository.filled(bench.path("skipped"), bench.stream)
+    command = ["sh", "-c", "exit 125"]
+    plain = measure(["sh", "-c", f"i=0; while [ $i -lt {count} ]; do sh -c 'exit 125'; i=$((i + 1)); done"])
+    search_alone, ours = bench.ask("simulate", MAIN, OLD, ""), bench.ask("run", MAIN, OLD, "--", *command)
+    theirs, tests, _ = by_bisect_run(bench, folder, command)
+    alone = plain.processor / count
+    per_test = max(ours.processor - search_alone.processor, 0) / max(marks_of(ours.output), 1) - alone
+    of_git = theirs.processor / max(tests, 1) - alone
+    print(f"overhead of a test: farmdawn {1000 * per_test:.2f} ms, git bisect run {1000 * of_git:.2f} ms; "
+          f"ratio {of_git / max(per_test, 0.0001):.1f}; its command alone {1000 * alone:.2f} ms")
 
 
-SUBJECTS = {"weights": weights, "stream": stream, "forest": forest, "import": import_, "run": run, "hostile": hostile_}
+def run(bench, commits, milliseconds, tests):
+    needs_git()
+    if bench.ask("run", MAIN, OLD, "--", "true").output == b"not built yet\n":
+        raise Missing("a farmdawn that runs tests")
+    bench.write(streams.line, commits)
+    folder = repository.filled(bench.path("tested"), bench.stream)
+    length, choice = milliseconds / 1000, random.Random(1)
+    even = run_tests(bench, f"{commits} commits, tests of {length} s", folder, lambda: length)
+    uneven = run_tests(bench, f"{commits} commits, tests of {length / 4:g} to {length * 3:g} s", folder,
+                       lambda: length * choice.choice([0.25, 0.25, 0.5, 3]))
+    overhead(bench, tests)
+    return even and uneven
+
+
+def machine():
+    """The machine in a line."""
+    with open("/proc/cpuinfo") as file:
+        model = re.findall(r"model name\s*: (.*)", file.read())[:1] or ["an unknown processor"]
+    with open("/proc/meminfo") as file:
+        memory = int(file.readline().split()[1]) // 1048576
+    return f"{os.cpu_count()} processors ({model[0]}), {memory} GB, {git('.', '--version')}"
+
+
+BUILD = ["sh", "-c", "make -s && ./check"]
+
+
+def by_git_farmdawn(bench, folder, commits, count):
+    """What `git farmdawn` costs, how many tests it makes, and its answer."""
+    words = [os.path.join(TOP, "tools", "git-farmdawn"), "--workers", str(count), "main", f"main~{commits - 1}", "--", *BUILD]
+    with open(bench.path("told"), "wb") as told:
+        cost = measure(["sh", "-c", 'exec 2>"$1"; shift; exec "$@"', "sh", told.name, *words], keep=bench.path("output"),
+                       folder=folder, environment={**repository.CALM, "FARMDAWN": os.path.abspath(bench.program)})
+    with open(bench.path("told"), "rb") as told:
+        return cost, len(re.findall(rb": testing ", told.read())), answer_of(cost.output)
+
+
+def wall(bench, commits, files, runs):
+    needs_git()
+    columns = {"`git bisect run`": lambda folder: by_bisect_run(bench, folder, BUILD)}
+    columns.update({workers_text(count): lambda folder, count=count: by_git_farmdawn(bench, folder, commits, count)
+                    for count in COUNTS})
+    seconds, tests = {name: [] for name in columns}, {name: [] for name in columns}
+    for turn in range(runs):
+        bug = max(1, commits * (2 * turn + 1) // (2 * runs))
+        bench.write(streams.project, commits, files, bug, 1, turn)
+        for name, search_by in columns.items():
+            folder = repository.filled(bench.path("project"), bench.stream)
+            cost, count, answer = search_by(folder)
+            due = git(folder, "rev-parse", f"main~{commits - 1 - bug}").encode()
+            shutil.rmtree(folder)
+            if answer != [due]:
+                print(f"{name} says {answer}; the first bad commit is {due}")
+                return False
+            seconds[name].append(cost.seconds)
+            tests[name].append(count)
+            print(f"run {turn + 1}, {name}: {cost.seconds:.1f} s, {count} tests", file=sys.stderr, flush=True)
+    print(f"{commits} commits, {files} files of C, a second of processor time in each test; "
+          f"the middle of {runs} runs, by the clock.")
+    print(f"{machine()}.\n")
+    print("| | " + " | ".join(columns) + " |")
+    print("|---" * (len(columns) + 1) + "|")
+    print("| seconds | " + " | ".join(f"{statistics.median(seconds[name]):.1f}" for name in columns) + " |")
+    print("| tests run | " + " | ".join(f"{statistics.median(tests[name]):.0f}" for name in columns) + " |")
+    return True
+
+
+# ---- what was made to cost much
+
+GROWTH = 2.5  # what time and memory may grow by, where the size doubles
+
+
+def costly(bench, divisor):
+    """Each kind with its smaller size, and a call that writes one of a size and gives its bytes and the words that ask."""
+    for make, size in streams.KINDS.items():
+        yield make.__name__, size // divisor, lambda n, make=make: (bench.write(make, n), NOTHING_TO_ASK)
+    yield "skips in a plan", 50000 // divisor, lambda n: (bench.write(streams.line, n), ["simulate", MAIN, OLD, "s" * n])
+    for make, size in streams.LOGS.items():
+        yield f"log of {make.__name__}", size // divisor, lambda n, make=make: (
+            bench.write(streams.ten) and bench.write(make, n, to="log"), ["replay", "--replay", "log"])
+
+
+def grown(first, second, least):
+    return max(second, least) / max(first, least)
+
+
+def costs_of(bench, make, size):
+    """The bytes and the costs at a size and at twice the size, with a stack of 1 MiB."""
+    counts, costs = [], []
+    for times in (1, 2):
+        count, words = make(size * times)
+        counts.append(count)
+        costs.append(bench.ask(*words, limit=60, stack=1 << 20))
+    return counts, costs
+
+
+def hostile(bench, divisor):
+    wrong, tried = [], 0
+    for label, size, make in costly(bench, divisor):
+        counts, (first, second) = costs_of(bench, make, size)
+        slower, larger = grown(first.processor, second.processor, 0.05), grown(first.peak, second.peak, 1024)
+        if slower > GROWTH:  # once more, as another program may have come between
+            _, again = costs_of(bench, make, size)
+            slower = min(slower, grown(again[0].processor, again[1].processor, 0.05))
+        ended = all(cost.status in range(18) and cost.status != 15 for cost in (first, second))
+        right = slower <= GROWTH and larger <= GROWTH and ended
+        print(f"{label} {size}: {counts[0]} and {counts[1]} bytes; {first} and {second}; time grows by {slower:.1f}, "
+              f"memory by {larger:.1f}; status {first.status} and {second.status}"
+              f"{'' if right else '; NOT AS IT MUST BE'}", flush=True)
+        tried += 1
+        wrong += [] if right else [label]
+    print(f"{tried} kinds, not as they must be: {', '.join(wrong) or 'none'}")
+    return not wrong
+
+
+# ---- the command line
+
+
+def logs(bench, turns):
+    needs_git()
+    return agree.logs(bench, turns)
+
+
+@dataclass
+class Subject:
+    call: Callable
+    full: tuple
+    quick: tuple
+    program: str = "farmdawn"
+    is_list: bool = False  # whether any number of sizes will do
+
+
+SUBJECTS = {
+    "import": Subject(import_, (100000, 10000, 500), (5000, 500, 20)),
+    "stream": Subject(stream, (300, 1000000), (20, 50000), "bench_stream"),
+    "forest": Subject(forest, (40, 50, 25, 20000), (10, 10, 10, 1000), "bench_forest"),
+    "weights": Subject(weights, (20000, 100000), (2000,), "bench_weights", is_list=True),
+    "search": Subject(search, (20000, 100000), (3000,), is_list=True),
+    "workers": Subject(workers, (100000,), (5000,)),
+    "farm": Subject(farm, (), (), "bench_farm", is_list=True),
+    "run": Subject(run, (1000, 200, 300), (60, 100, 20)),
+    "wall": Subject(wall, (300, 40, 3), (30, 8, 1)),
+    "sample": Subject(sample, (20000, 100000), (3000,), is_list=True),
+    "hostile": Subject(hostile, (1,), (20,)),
+    "logs": Subject(logs, (10,), (3,)),
+}
+
+
+def measured(name, words, is_quick, path=None):
+    """Measures a subject; whether all is as it must be."""
+    subject = SUBJECTS[name]
+    sizes = tuple(map(int, words)) or (subject.quick if is_quick else subject.full)
+    if len(sizes) != len(subject.full) and not subject.is_list:
+        sys.exit(f"the sizes of {name} are {len(subject.full)}")
+    if subject.program == "farmdawn":
+        path = path or os.environ.get("FARMDAWN")
+    with tempfile.TemporaryDirectory() as work:
+        return subject.call(Bench(work, subject.program, path and os.path.abspath(path)), *sizes) is not False
+
+
+def all_measured(is_quick, path):
+    """Measures each subject whose needs are here; whether all is as it must be."""
+    right = True
+    for name, subject in SUBJECTS.items():
+        print(f"-- {name}", flush=True)
+        try:
+            right &= measured(name, [], is_quick, path if subject.program == "farmdawn" else None)
+        except Missing as missing:
+            print(f"passed over, as {missing} is not here")
+    return right
+
+
+def real(words, is_quick, path):
+    folder, pairs = (*words, 3 if is_quick else 10)[:2]
+    path = path or os.environ.get("FARMDAWN")
+    with tempfile.TemporaryDirectory() as work:
+        return agree.real(Bench(work, "farmdawn", path and os.path.abspath(path)), folder, int(pairs))
+
+
+def read_arguments():
+    parser = argparse.ArgumentParser(usage="benches/bench.py SUBJECT [SIZE ..] [--quick] [--program FILE]", add_help=False)
+    parser.add_argument("subject", choices=[*SUBJECTS, "real", "gate", "all"])
+    parser.add_argument("words", nargs="*")
+    parser.add_argument("--quick", action="store_true")
+    parser.add_argument("--program")
+    return parser.parse_intermixed_args()
 
 
 def main():
-    subject, *words = sys.argv[1:] or ["--help"]
-    if subject == "real":
-        real.main(words, program("farmdawn"))
-    elif subject == "wall":
-        wall.main(words, program("farmdawn"))
-    elif subject in SUBJECTS:
-        with tempfile.TemporaryDirectory() as work:
-            SUBJECTS[subject](Bench(work), *map(int, words))
-    else:
+    if len(sys.argv) < 2 or sys.argv[1] in ("-h", "--help"):
         print(__doc__)
+        return True
+    given = read_arguments()
+    if given.subject == "gate":
+        print(gate.page(TOP, given.words), end="")
+        return True
+    if given.subject == "all":
+        return all_measured(given.quick, given.program)
+    try:
+        if given.subject == "real":
+            return real(given.words, given.quick, given.program)
+        return measured(given.subject, given.words, given.quick, given.program)
+    except Missing as missing:
+        sys.exit(f"{given.subject} needs {missing}")
 
 
-main()
+if __name__ == "__main__":
+    sys.exit(not main())

@@ -1,5 +1,6 @@
 """What a command costs: seconds, processor seconds, and the peak memory of the command alone."""
 import os
+import resource
 import subprocess
 import time
 from dataclasses import dataclass
@@ -8,10 +9,13 @@ from dataclasses import dataclass
 @dataclass
 class Cost:
     seconds: float      # by the clock
-    processor: float    # seconds of all processors
+    processor: float    # seconds of all processors, with those of the children that the command waited for
     peak: int           # KiB
     status: int         # what the command ended with; negative where a signal ended it
     output: bytes       # its standard output, where it was wanted
+
+    def __str__(self):
+        return f"{self.processor:.2f} s, {self.peak / 1024:.1f} MiB"
 
 
 def peak_of(process):
@@ -26,16 +30,21 @@ def peak_of(process):
     return 0
 
 
-def measure(command, given=os.devnull, limit=600.0, keep=None):
-    """Runs a command on a file as standard input. Its standard output goes to the file `keep`, or is dropped.
+def measure(command, given=os.devnull, limit=600.0, keep=None, folder=None, stack=None, environment=None):
+    """Runs a command on a file as standard input, in a folder, with a stack of so many bytes. Its standard output goes to the
+    file `keep`, or is dropped.
 
     The peak is the high-water mark that the system keeps for the running program, read again and again while it
     runs, so that the size of this script does not count. A command that reaches the limit is stopped, and the
     limit stands for its seconds.
     """
+    def limit_stack():
+        resource.setrlimit(resource.RLIMIT_STACK, (stack, stack))
+
     began = time.time()
     with open(given, "rb") as text, open(keep or os.devnull, "wb") as output:
-        child = subprocess.Popen(command, stdin=text, stdout=output, stderr=subprocess.DEVNULL)
+        child = subprocess.Popen(command, stdin=text, stdout=output, stderr=subprocess.DEVNULL, cwd=folder, env=environment,
+                                 preexec_fn=limit_stack if stack else None)
     peak, pause = 0, 0.0005
     while True:
         peak = max(peak, peak_of(child.pid))
@@ -49,8 +58,9 @@ def measure(command, given=os.devnull, limit=600.0, keep=None):
         time.sleep(pause)
         pause = min(pause * 1.5, 0.02)
     seconds = time.time() - began
+    child.returncode = os.waitstatus_to_exitcode(status)
     kept = b""
     if keep:
         with open(keep, "rb") as file:
             kept = file.read()
-    return Cost(seconds, usage.ru_utime + usage.ru_stime, peak, os.waitstatus_to_exitcode(status), kept)
+    return Cost(seconds, usage.ru_utime + usage.ru_stime, peak, child.returncode, kept)

@@ -32,7 +32,7 @@ from concurrent.futures import ThreadPoolExecutor
 TOP = os.path.dirname(os.path.dirname(os.path.abspath(__file__)))
 sys.path.insert(0, os.path.join(TOP, "benches"))
 
-import hostile
+import streams
 
 NAME = rb"[0-9a-f]{40}"
 # What stands at the end of the text of each status; a status that is not here is none of the manual.
@@ -127,7 +127,7 @@ def valid_stream(choice, only=None):
 
 def small_shape(choice):
     """A shape of the benchmarks, from an empty one to one of some hundred."""
-    make = choice.choice(sorted(hostile.KINDS, key=lambda kind: kind.__name__))
+    make = choice.choice(sorted(streams.KINDS, key=lambda kind: kind.__name__))
 
     class Sink:
         parts = []
@@ -371,7 +371,7 @@ class Summary:
 def large_case(make):
     """A shape of the benchmarks at its smaller size, with a question that asks for no test."""
     with tempfile.TemporaryFile() as file:
-        make(file, hostile.KINDS[make])
+        make(file, streams.KINDS[make])
         file.seek(0)
         return Case("large", [b"simulate", b"refs/heads/main", b"refs/heads/main", b""], file.read(), b"")
 
@@ -379,7 +379,7 @@ def large_case(make):
 def cases_of(arguments):
     """The label of each case, and what makes it."""
     if arguments.large:
-        return [(make.__name__, functools.partial(large_case, make)) for make in hostile.KINDS]
+        return [(make.__name__, functools.partial(large_case, make)) for make in streams.KINDS]
     numbers = range(arguments.first, arguments.first + arguments.count)
     return [(str(number), functools.partial(make_case, arguments.seed, number)) for number in numbers]
 

@@ -1,0 +1,51 @@
+#!/usr/bin/env python3
+"""Whether the pages say what stands: that each file that they name is there, that each name in a file stands in that file,
+and that the code of docs/LIBRARY.md is that of its files. Prints what is not so."""
+import glob
+import os
+import re
+import sys
+
+TOP = os.path.dirname(os.path.dirname(os.path.abspath(__file__)))
+FILE = r"`((?:crates/|benches/|tests/|docs/|tools/|man/)?[\w-]+(?:/[\w.-]+)+\.(?:rt|antt|edit|py|sh|md))`"
+# `name`, `name` in `file`, and `name` (`file`)
+NAMED = r"((?:`[\w:<>-]+`(?:, | and )?)+) (?:in |\()" + FILE
+
+
+def path_of(name):
+    """Files are named from the top, or from the folder of the crates."""
+    return next((path for path in (os.path.join(TOP, name), os.path.join(TOP, "crates", name)) if os.path.exists(path)), None)
+
+
+def read(path):
+    with open(path) as file:
+        return file.read()
+
+
+def missing_in(text):
+    """The files that a page names and are not there, and the names that are not in their files."""
+    for name in re.findall(FILE, text):
+        if not path_of(name):
+            yield f"there is no {name}"
+    for names, file in re.findall(NAMED, text):
+        for name in re.findall(r"`([^`]+)`", names):
+            if path_of(file) and name.split("::")[-1] not in read(path_of(file)):
+                yield f"there is no {name} in {file}"
+
+
+def other_code(text):
+    """The pieces of code that are not those of the file that is named before them."""
+    for file, code in re.findall(FILE + r"[^`]*\n\n```rust\n(.*?)```", text, re.S):
+        if not path_of(file) or code.strip() not in read(path_of(file)):
+            yield f"{file} does not have the code that is shown: {code.strip().splitlines()[0]}"
+
+
+def main():
+    wrong = [f"{os.path.relpath(page, TOP)}: {fault}" for page in sorted(glob.glob(os.path.join(TOP, "docs", "*.md")))
+             for fault in [*missing_in(read(page)), *other_code(read(page))]]
+    print(*wrong, sep="\n")
+    return not wrong
+
+
+if __name__ == "__main__":
+    sys.exit(not main())
