@@ -33,6 +33,7 @@ TOP = os.path.dirname(os.path.dirname(os.path.abspath(__file__)))
 sys.path.insert(0, os.path.join(TOP, "benches"))
 
 import streams
+from measure import peak_of
 
 NAME = rb"[0-9a-f]{40}"
 # What stands at the end of the text of each status; a status that is not here is none of the manual.
@@ -294,21 +295,22 @@ def run(program, case, limit):
         for name, content in (("log", case.log), ("stream", case.stream)):
             with open(os.path.join(folder, name), "wb") as file:
                 file.write(content)
-        began = time.time()
+        began, peak = time.time(), 0
         with open(os.path.join(folder, "stream"), "rb") as stream, open(os.path.join(folder, "output"), "wb") as output:
             child = subprocess.Popen([program, *case.words], stdin=stream, stdout=output, stderr=subprocess.DEVNULL, cwd=folder)
             while True:
-                process, status, usage = os.wait4(child.pid, os.WNOHANG)
+                peak = max(peak, peak_of(child.pid))
+                process, status = os.waitpid(child.pid, os.WNOHANG)
                 if process:
                     break
                 if time.time() - began > limit:
                     child.kill()
-                    os.wait4(child.pid, 0)
+                    os.waitpid(child.pid, 0)
                     return None
                 time.sleep(0.001)
         child.returncode = os.waitstatus_to_exitcode(status)
         with open(os.path.join(folder, "output"), "rb") as file:
-            return Ran(child.returncode, file.read(), time.time() - began, usage.ru_maxrss)
+            return Ran(child.returncode, file.read(), time.time() - began, peak)
 
 
 def fault_of(case, ours, arguments):

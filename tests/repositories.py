@@ -199,12 +199,17 @@ def without_given_skips(folder, question, said):
 
 
 def same_search(folder, question, tool, whole):
-    """Whether both ended alike after the same marks; with several merge bases, after the same number of them."""
+    """Whether both ended alike after the same marks. Several merge bases may be tested in any order; the first bad one ends a run,
+    whatever was tested before it."""
     if (tool.status, tool.answer) != (whole.status, whole.answer):
         return False
     ours, theirs = without_given_skips(folder, question, tool), without_given_skips(folder, question, whole)
     bases = git(folder, "merge-base", "--all", question.bad, *question.goods)
-    return ours == theirs or len(bases) > 1 and sorted(set(ours)) == sorted(set(theirs))
+    if ours == theirs or len(bases) < 2:
+        return ours == theirs
+    if tool.status == 3 and all(marks[-1][0] == question.terms[0] and marks[-1][1] in bases for marks in (ours, theirs)):
+        ours, theirs = ([mark for mark in marks if mark[1] not in bases] for marks in (ours, theirs))
+    return sorted(set(ours)) == sorted(set(theirs))
 
 
 def is_right(folder, question, said):

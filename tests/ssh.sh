@@ -63,7 +63,8 @@ test_interrupts() {
     for pause in 0.2 0.6 1; do
         by_ssh 127.0.0.1 -- sleep 77.5 name &
         sleep $pause
-        kill -TERM "$(pgrep -f '^/bin/sh .*farmdawn-ssh' | head -n 1)" 2>/dev/null
+        # the script is the only child of the shell that runs the function
+        kill -TERM "$(pgrep -P $!)" 2>/dev/null
         wait $!
     done
     sleep 1
