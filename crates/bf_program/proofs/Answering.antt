@@ -11,6 +11,7 @@ use Rattle.bf_output.specs.Told.{Told}
 use Rattle.bf_words.specs.declared.request.Request.{Request}
 use Rattle.bf_words.specs.declared.request.WordFault.{WordFault}
 use Rattle.bf_words.specs.declared.request.WordFault.TheVariants.{At}
+use Rattle.bf_words.specs.declared.request.WordFault.TheVariants as words
 use Rattle.bf_words.specs.Words as asked
 use Rattle.bf_program.specs.declared.answer.Cut.{Cut}
 use Rattle.bf_program.specs.declared.answer.Cut.TheVariants.{Read, Shelf, NoMemory}
@@ -119,6 +120,11 @@ refused_words met fault word result is read r f refused =
     (mapped (λ told. told ≡ usage word) (λ t. IsOutput met.given met.left t) met.before met.after result
     (λ t same. subst (λ (q : Result Request ℕ). IsOutputFor q met.given met.left t) (sym read) same)
     (subst (λ (x : WordFault). IsRefused x met.before met.after result) is refused))
+
+pub refused_any : (met : Met) (fault : WordFault) (result : Status) → asked.IsRead (asked.request met.given.words) (Err fault)
+    → (result ≢ status.ReadFault) × (result ≢ status.ShelfFault) → IsRefused fault met.before met.after result → Answers met result
+refused_any met (At word) result read own refused = refused_words met (At word) word result refl read own.0 own.1 refused
+refused_any met words.NoMemory result read own (e, kept) = subst (Answers met) (sym e) (inl kept)
 
 -- ---- causes
 

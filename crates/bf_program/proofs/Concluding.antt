@@ -27,10 +27,12 @@ use Rattle.bf_output.specs.Told.{Told}
 use Rattle.bf_program.proofs.Answering.{whole_cause}
 use Rattle.bf_program.proofs.Running.{nothing_cut}
 use Rattle.bf_program.specs.Answers.{IsWhole, HasCause, IsFailedTest}
-use Rattle.bf_program.specs.Searching.{IsCutIn, IsToldSoFar, IsSearchSoFar, IsSearchCut, IsConcluded, Tells, verb_of}
+use Rattle.bf_program.specs.Searching.{IsCutIn, IsToldSoFar, IsSearchSoFar, IsSearchCut, IsConcluded, IsSound, Concludes, Tells, verb_of}
 use Rattle.bf_program.specs.Tellings.{begun_of, told_of}
 use Rattle.bf_program.specs.Writes.{IsWritten}
 use Rattle.bf_program.specs.declared.answer.Answer.{Answer}
+use Rattle.bf_program.specs.declared.answer.Cut.{Cut}
+use Rattle.bf_program.specs.declared.ready.Ready.{Ready}
 use Rattle.bf_program.specs.declared.ready.Ready.TheVariants.{Told as ToldAnswer, Search}
 use Rattle.bf_program.specs.declared.ready.Started.{Started}
 
@@ -253,3 +255,36 @@ whole_no_test before after text s result place w (inr (cut, front)) is = cut_is_
 pub whole_write : (R : Type 0) (s : Status) → IsWhole s → (s ≡ status.WriteFault) ⊎ R → R
 whole_write R s w (inl e) = absurd (subst IsWhole e w)
 whole_write R s w (inr r) = r
+
+-- the line of a fault that was written
+pub fault_is_no_test : (before after : Option (List ℕ)) (text : List ℕ) (s result : Status) (place : ℕ) → s ≢ status.TestFault place
+    → IsWritten before after text s result → result ≡ status.TestFault place → ⊥
+fault_is_no_test before after text s result place other (inl (e, a)) is = other (sym e ∙ is)
+fault_is_no_test before after text s result place other (inr (cut, front)) is = cut_is_no_test result place cut is
+
+-- the refusal of the words was written
+pub refused_written : (meaning : Told) (answer : Answer) (before after : Option (List ℕ)) (result : Status) → told_of answer ≡ meaning
+    → IsWritten before after answer.text answer.status result → IsConcluded (λ told. told ≡ meaning) before after result
+refused_written meaning answer before after result is written = inl (told_of answer, is, written)
+
+-- ---- as it was matched
+
+pub sound_search : (request : Request) (ready : Result Ready Cut) (found : Ready) (started : Started) → ready ≡ Ok found → found ≡ Search started
+    → IfOk ready (IsSound request) → verb_of started.means ≡ request.verb
+sound_search request ready found started is of sound =
+    (subst (IsSound request) of (subst (λ (r : Result Ready Cut). IfOk r (IsSound request)) is sound)).1
+
+pub sound_answer : (request : Request) (ready : Result Ready Cut) (found : Ready) (answer : Answer) → ready ≡ Ok found → found ≡ ToldAnswer answer
+    → IfOk ready (IsSound request) → IsWhole answer.status
+sound_answer request ready found answer is of sound =
+    subst (IsSound request) of (subst (λ (r : Result Ready Cut). IfOk r (IsSound request)) is sound)
+
+pub concludes : (request : Request) (words : List (List ℕ)) (tested : Tested) (ready : Result Ready Cut) (found matched : Ready) (before after : Option (List ℕ)) (result : Status)
+    → ready ≡ Ok found → found ≡ matched → IsConcluded (Tells request words tested matched) before after result
+    → Concludes request words tested ready before after result
+concludes request words tested ready found matched before after result is of told =
+    subst (λ (r : Result Ready Cut). Concludes request words tested r before after result) (sym (is ∙ ap (λ (r : Ready). Ok r) of)) told
+
+pub if_ok : {T E : Type 0} (P : Type 0) (result : Result T E) → P → IfOk result (λ t. P)
+if_ok P (Ok t) p = p
+if_ok P (Err e) p = tt

@@ -1,5 +1,5 @@
 -- From what an import answers to what the program answers.
-use Rattle.std.proofs.Common.{◌≡◌, ℕ, List, Option, Some, None, Result, Ok, Err, IfOk, refl, sym, subst, ◌∙◌}
+use Rattle.std.proofs.Common.{◌≡◌, ℕ, List, [], Option, Some, None, Result, Ok, Err, IfOk, refl, sym, ap, subst, ◌∙◌}
 use Rattle.bf_grammar.specs.declared.fault.StreamFault.TheVariants as stream
 use Rattle.bf_grammar.specs.Limits.{standard_limits}
 use Rattle.bf_history.specs.declared.fault.ImportFault.{ImportFault}
@@ -21,9 +21,16 @@ use Rattle.bf_program.specs.declared.answer.Cut.{Cut}
 use Rattle.bf_program.specs.declared.ready.Ready.{Ready}
 use Rattle.bf_program.specs.declared.ready.Ready.TheVariants.{Told as Told_, Search}
 use Rattle.bf_program.specs.declared.ready.Started.{Started}
-use Rattle.bf_program.specs.Searching.{AllTold, IsToldBy, verb_of}
+use Rattle.bf_program.specs.Searching.{AllTold, IsSound, IsToldBy, verb_of}
+use Rattle.bf_program.specs.Steps.{IsStep}
+use Rattle.bf_program.specs.declared.answer.Stop.{Stop}
+use Rattle.bf_program.specs.declared.answer.Stop.TheVariants.{Refused, NoMemory}
+use Rattle.bf_output.specs.declared.status.Status.TheVariants as status
+use Rattle.bf_output.specs.Told.{told_by}
 use Rattle.bf_output.specs.Beginning.{Begun}
-use Rattle.bf_output.specs.Output.{IsSearchedFrom}
+use Rattle.bf_output.specs.Output.{IsSearched, IsSearchedFrom}
+use Rattle.bf_program.specs.declared.begin.Beginning.{Beginning}
+use Rattle.bf_program.specs.declared.ready.Means.{Means}
 use Rattle.bf_words.specs.declared.verb.Verb.{Verb}
 use Rattle.bf_program.specs.Answers.{IsWhole}
 use Rattle.bf_program.specs.Tellings.{begun_of, told_of}
@@ -85,15 +92,44 @@ all_over_file request words files history file (Ok ready) is over = λ tested to
 -- ---- before the tests
 
 -- a search that has begun is told as one that begins so
-pub started_told : (request : Request) (words : List (List ℕ)) (meant : Result Begun Told) (started : Started) → meant ≡ Ok (begun_of started.first)
-    → AllTold request words (Search started) (λ tested told. IsSearchedFrom meant (verb_of started.means) request words tested started.history told)
-started_told request words meant started is = λ tested told tells.
-    subst (λ (m : Result Begun Told). IsSearchedFrom m (verb_of started.means) request words tested started.history told) (sym is) tells
+pub started_told : (request : Request) (words : List (List ℕ)) (meant : Result Begun Told) (history : History) (first : Beginning) (means : Means) → meant ≡ Ok (begun_of first)
+    → (tested : Tested) (told : Told) → IsSearched (verb_of means) request words tested history (begun_of first) told
+    → IsSearchedFrom meant (verb_of means) request words tested history told
+started_told request words meant history first means is = λ tested told tells.
+    subst (λ (m : Result Begun Told). IsSearchedFrom m (verb_of means) request words tested history told) (sym is) tells
 
-pub refused_told : (request : Request) (words : List (List ℕ)) (meant : Result Begun Told) (verb : Verb) (history : History) (answer : Answer) → meant ≡ Err (told_of answer)
-    → AllTold request words (Told_ answer) (λ tested told. IsSearchedFrom meant verb request words tested history told)
-refused_told request words meant verb history answer is = λ tested told tells.
-    subst (λ (m : Result Begun Told). IsSearchedFrom m verb request words tested history told) (sym is) tells
+-- a refusal is told as it is
+refused_by : (request : Request) (words : List (List ℕ)) (meant : Result Begun Told) (verb : Verb) (history : History) (refusal : Told) (result : Result Ready Cut)
+    → meant ≡ Err refusal → IfOk result (λ ready. IsToldBy ready refusal)
+    → IfOk result (λ ready. AllTold request words ready (λ tested told. IsSearchedFrom meant verb request words tested history told))
+refused_by request words meant verb history refusal (Err cut) is told = tt
+refused_by request words meant verb history refusal (Ok (Search started)) is told = absurd told
+refused_by request words meant verb history refusal (Ok (Told_ answer)) is told = λ tested t tells.
+    subst (λ (m : Result Begun Told). IsSearchedFrom m verb request words tested history t) (sym is) (tells ∙ told)
+
+-- what ends with want of memory is told in no way
+never_told : (result : Result Ready Cut) → ((meant : Result Told Told) → IfOk result (λ ready. IsToldBy ready (told_by meant))) → IfOk result (λ ready. ⊥)
+never_told (Err cut) told = tt
+never_told (Ok (Search started)) told = told (Ok (record { status = status.Done; text = [] }))
+never_told (Ok (Told_ answer)) told =
+    clash (ap (λ (t : Told). t.status) (sym (told (Ok (record { status = status.Done; text = [] }))) ∙ told (Ok (record { status = status.Waiting; text = [] }))))
+  where
+    clash : status.Done ≡ status.Waiting → ⊥
+    clash e = cc e
+
+pub refused_told : (request : Request) (words : List (List ℕ)) (meant : Result Begun Told) (verb : Verb) (history : History) (stop : Stop) (result : Result Ready Cut)
+    → IsStep begun_of (Err stop) meant → ((told : Result Told Told) → IsStep told_of (Err stop) told → IfOk result (λ ready. IsToldBy ready (told_by told)))
+    → IfOk result (λ ready. AllTold request words ready (λ tested told. IsSearchedFrom meant verb request words tested history told))
+refused_told request words meant verb history (Refused answer) result step told =
+    refused_by request words meant verb history (told_of answer) result step.0 (told (Err (told_of answer)) (refl, step.1))
+refused_told request words meant verb history NoMemory (Err cut) step told = tt
+refused_told request words meant verb history NoMemory (Ok ready) step told = absurd (never_told (Ok ready) (λ meant. told meant tt))
+
+-- whose answer it is
+pub refused_sound : (request : Request) (meant : Result Begun Told) (stop : Stop) (result : Result Ready Cut) → IsStep begun_of (Err stop) meant
+    → ((told : Result Told Told) → IsStep told_of (Err stop) told → Unit {0} → (request : Request) → IfOk result (IsSound request)) → IfOk result (IsSound request)
+refused_sound request meant (Refused answer) result step sound = sound (Err (told_of answer)) (refl, step.1) tt request
+refused_sound request meant NoMemory result step sound = sound (Ok (record { status = status.Done; text = [] })) tt tt request
 
 -- what says this is told so, whatever a tester shows
 pub all_told_by : (request : Request) (words : List (List ℕ)) (meaning : Told) (result : Result Ready Cut) → IfOk result (λ ready. IsToldBy ready meaning)

@@ -63,8 +63,7 @@ pub(crate) fn start(
             first,
             means,
         })),
-        Err(Stop::Refused(answer)) => Ok(Ready::Told(answer)),
-        Err(Stop::NoMemory) => Err(Cut::NoMemory),
+        Err(stop) => told(Err(stop)),
     }
 }
 
