@@ -4,7 +4,7 @@
 FARMDAWN=$farmdawn
 export FARMDAWN
 
-needs_all() { has git flock setsid && has_run; }
+needs_all() { has git flock setsid && has_program; }
 
 # The first bad commit by git bisect run, over the same words.
 git_answer() {

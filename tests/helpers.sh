@@ -36,13 +36,6 @@ has_program() {
     [ -x "$farmdawn" ]
 }
 
-# The built program tests commits by commands.
-has_run() {
-    has_program || return 1
-    missing='a farmdawn that runs tests'
-    [ "$("$farmdawn" run a b -- true </dev/null 2>/dev/null)" != 'not built yet' ]
-}
-
 # A Slurm is at hand.
 has_slurm() {
     has srun sinfo || return 1

@@ -4,7 +4,7 @@
 # the manual.
 . "$(dirname "$0")/helpers.sh"
 
-needs_all() { has git pgrep && has_run; }
+needs_all() { has git pgrep && has_program; }
 
 # A history of forty commits with a branch, and what is due over it, in the file `due`. By the commits' names the tests
 # are good, bad or skipped, each a seventh of a second long; the words of a test have the name of this run.

@@ -3,10 +3,10 @@
 # beside which programs.
 . "$(dirname "$0")/helpers.sh"
 
-needs_hostile() { has python3 && has_run; }
+needs_hostile() { has python3 && has_program; }
 test_hostile() { expect 'hostile input' python3 "$top/tests/hostile.py" --count 100 "$farmdawn"; }
 
-needs_repositories() { has python3 git flock setsid && has_run; }
+needs_repositories() { has python3 git flock setsid && has_program; }
 test_repositories() { FARMDAWN=$farmdawn expect 'repositories' python3 "$top/tests/repositories.py" --count 10; }
 
 [ $# -gt 0 ] || set -- hostile repositories

@@ -94,7 +94,7 @@ run_page() {
     nothing_left
 }
 
-needs_page() { has git flock setsid make cc timeout && has_run; }
+needs_page() { has git flock setsid make cc timeout && has_program; }
 test_page() { run_page; }
 
 needs_ccache() { has ccache && needs_page; }

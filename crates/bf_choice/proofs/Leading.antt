@@ -21,7 +21,7 @@ abbrev pub Leader : (ℕ → Bool) → (ℕ → ℕ) → ℕ → Option Choice �
 Leader test value n None = (q : ℕ) → q < n → test q ≡ false
 Leader test value n (Some choice) = Leads test value n choice
 
-never : {b : Bool} {P : Type 0} → b ≡ false → b ≡ true → P
+pub never : {b : Bool} {P : Type 0} → b ≡ false → b ≡ true → P
 never fails passes = absurd (true≢false (sym passes ∙ fails))
 
 pub leader_stays : (test : ℕ → Bool) (value : ℕ → ℕ) (n m : ℕ) (leader : Option Choice) → Leader test value n leader → n ≤ m → ((q : ℕ) → n ≤ q → q < m → test q ≡ false) → Leader test value m leader

@@ -1,2 +1,3 @@
 pub mod Greatest
 pub mod Leading
+pub mod Ranked

@@ -7,7 +7,10 @@ ghost use Rattle.std.specs.Option.{option_map};
 ghost use Rattle.bf_search.specs.Choice.{best, count_in, value_of};
 ghost use Rattle.bf_choice.specs.Leader.{better_of};
 
+mod ranking;
+
 use bf_rows::Row;
+pub use ranking::{Chosen, Ranking};
 
 /// A place that may be asked, and how many candidates its test rules out at least.
 #[derive(Clone, Copy)]

@@ -134,6 +134,7 @@ pub(crate) fn go_on<R: Host, T: Tester>(
     ensures first { OnOk result (board.new.first ≡ board.old.first) }
     ensures manner { manner_by T.told T.command T.is_lenient T.grounds T.recalled tester.new ≡ manner_by T.told T.command T.is_lenient T.grounds T.recalled tester.old }
     ensures is_split { T.is_split tester.new ≡ T.is_split tester.old }
+    ensures later { T.faults tester.old ≤ T.faults tester.new }
     ensures ends { IfOk result (EndsWith board.new.core (T.faults tester.old) (T.faults tester.new) (T.failed tester.new)) }
     ensures claims { OnOk result (board.new.core.farm.claims ≡ []) }
     ensures len { OnOk result (length board.new.core.farm.table ≡ length board.old.core.farm.table) }
@@ -163,6 +164,7 @@ pub(crate) fn finish<R: Host, T: Tester>(
     ensures history { IfOk result (HasHistory board.entry.core.setting board.entry.first) }
     ensures sound { IfOk result (IsSoundReport (T.told tester.old) names.now (T.answers tester.new)) }
     ensures fault { IfOk result (HasFault (T.faults tester.old) (T.faults tester.new) (T.failed tester.new)) }
+    ensures later { T.faults tester.old ≤ T.faults tester.new }
     ensures lacking { IfOk result (λ report. T.answers tester.new ≡ T.answers tester.old ++ lacking board.entry.core.farm.table report.used.items) }
     ensures halving { IfOk result (Halves board.entry.core.setting) }
     ensures alone { IfOk result (λ report. AreAlone board.entry.events → IsAlone report) }
@@ -196,6 +198,7 @@ pub fn run_alone<R: Host, T: Tester>(
     ensures history { IfOk result (HasHistory (setting_at case.entry.reach.now case.entry.state case.entry.leg) case.entry.table) }
     ensures sound { IfOk result (IsSoundReport (T.told tester.old) case.entry.names.now (T.answers tester.new)) }
     ensures fault { IfOk result (HasFault (T.faults tester.old) (T.faults tester.new) (T.failed tester.new)) }
+    ensures later { T.faults tester.old ≤ T.faults tester.new }
     ensures lacking { IfOk result (λ report. T.answers tester.new ≡ T.answers tester.old ++ lacking case.entry.table report.used.items) }
     ensures halving { IfOk result (Halves (setting_at case.entry.reach.now case.entry.state case.entry.leg)) }
     ensures alone { IfOk result IsAlone }

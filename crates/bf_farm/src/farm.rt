@@ -135,6 +135,7 @@ pub fn run_farm<R: Host, T: Tester>(
     ensures history { IfOk result (HasHistory (setting_at case.entry.reach.now case.entry.state case.entry.leg) case.entry.table) }
     ensures sound { IfOk result (IsSoundReport (T.told tester.old) case.entry.names.now (T.answers tester.new)) }
     ensures fault { IfOk result (HasFault (T.faults tester.old) (T.faults tester.new) (T.failed tester.new)) }
+    ensures later { T.faults tester.old ≤ T.faults tester.new }
     ensures manner { manner_by T.told T.command T.is_lenient T.grounds T.recalled tester.new ≡ manner_by T.told T.command T.is_lenient T.grounds T.recalled tester.old }
     ensures is_split { T.is_split tester.new ≡ false }
 {

@@ -1,2 +1,3 @@
 pub mod Labels
 pub mod StateLines
+pub mod Trace

@@ -116,7 +116,7 @@ fn put_waiting_for_new(out: &mut Bytes, sides: Sides<'_>, good_count: u64) -> Re
 }
 
 /// Adds how a test ended.
-fn put_outcome(out: &mut Bytes, outcome: Outcome) -> Result<(), AllocError>
+pub(crate) fn put_outcome(out: &mut Bytes, outcome: Outcome) -> Result<(), AllocError>
     ensures { OnOk result (out.new ≡ out.old ++ texts.outcome_text outcome) }
 {
     match outcome {

@@ -1,12 +1,12 @@
 //! What is known of the ends of a search.
-ghost use Rattle.std.specs.Prelude.{◌≡◌, ◌++◌, [], IfOk, OnOk, OnErr};
+ghost use Rattle.std.specs.Prelude.{◌≡◌, ◌++◌, IfOk, OnOk, OnErr};
 ghost use Rattle.bf_logs.specs.Written.{known_after_all};
 ghost use Rattle.bf_texts.specs.Texts as texts;
 ghost use Rattle.bf_log.specs.Labels.{sides_of};
 
 use crate::answer::put_waiting;
 use crate::label::Sides;
-use bf_graph::Places;
+use bf_goods::Goods;
 use bf_io::Bytes;
 use bf_search::{Entry, Mark};
 use std::alloc::{AllocError, Global};
@@ -16,7 +16,7 @@ use std::marker::Model;
 #[derive(Drop)]
 pub struct Known {
     bad: bool,
-    goods: Places,
+    goods: Goods,
 }
 
 impl Model for Known {
@@ -34,7 +34,7 @@ impl Known {
     {
         Known {
             bad: false,
-            goods: Places::new(alloc),
+            goods: Goods::new(alloc),
         }
     }
 
@@ -58,7 +58,7 @@ impl Known {
         match entry {
             Entry::Start { bad, goods, .. } => {
                 self.bad = bad.is_some();
-                self.goods = distinct(goods)?;
+                self.goods = Goods::each_once(goods.allocator(), goods.as_slice())?;
             }
             Entry::Marked {
                 mark: Mark::Bad,
@@ -67,7 +67,7 @@ impl Known {
             Entry::Marked {
                 mark: Mark::Good,
                 place,
-            } => add_good(&mut self.goods, *place)?,
+            } => self.goods.add(*place)?,
             _ => {}
         }
         Ok(())
@@ -99,27 +99,6 @@ impl Known {
         put_waiting(out, sides, self.bad, self.goods.len() as u64)?;
         out.append(b"\n")
     }
-}
-
-/// These places, each once.
-fn distinct(places: &Places) -> Result<Places, AllocError>
-    ensures { IfOk result (λ once. once ≡ texts.with_goods [] places.now) }
-{
-    let mut once = Places::new(places.allocator());
-    for place in places.as_slice() {
-        add_good(&mut once, *place)?;
-    }
-    Ok(once)
-}
-
-/// Adds a good place, where it is not there yet.
-fn add_good(goods: &mut Places, place: u32) -> Result<(), AllocError>
-    ensures { OnOk result (goods.new ≡ texts.with_good goods.old place) }
-{
-    if goods.as_slice().contains(&place) {
-        return Ok(());
-    }
-    goods.push(place)
 }
 
 /// Whether an entry may have a status line.

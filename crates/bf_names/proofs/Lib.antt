@@ -1,5 +1,6 @@
 mod Abbreviating
 mod Forming
+mod Meant
 mod Naming
 mod Ranging
 mod Walking

@@ -5,6 +5,7 @@ mod base;
 mod digits;
 mod fault;
 mod form;
+pub mod laws;
 mod name;
 mod range;
 mod step;

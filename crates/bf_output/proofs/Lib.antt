@@ -1,3 +1,3 @@
 mod Outputs
-mod Runs
+pub mod Runs
 mod Unused

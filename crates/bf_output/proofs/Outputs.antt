@@ -1,8 +1,7 @@
 -- All words and bytes have one output.
-use Rattle.std.proofs.Common.{◌≡◌, ℕ, suc, Bool, true, false, List, [], length, Contains, IfSome, Option, Some, None, Result, Ok, Err, refl, sym, subst, ◌∙◌, ap, arith}
-use Rattle.std.specs.List.{slice_get}
+use Rattle.std.proofs.Common.{◌≡◌, ◌≢◌, ℕ, suc, Bool, true, false, List, [], length, map, replicate, IfSome, Option, Some, None, Result, Ok, Err, inl, inr, refl, sym, subst, ◌∙◌, ap, arith}
 use Rattle.std.proofs.lemmas.Bool.{both_ways}
-use Rattle.std.proofs.lemmas.List.Elements.{All-nil}
+use Rattle.std.proofs.lemmas.List.Elements.{All-nil, All-push}
 use Rattle.bf_grammar.specs.declared.command.Command.{Command}
 use Rattle.bf_grammar.specs.declared.fault.Limits.{Limits}
 use Rattle.bf_grammar.specs.declared.fault.StreamFault.{StreamFault}
@@ -18,18 +17,26 @@ use Rattle.bf_words.specs.declared.request.Request.{Request}
 use Rattle.bf_words.specs.declared.verb.Verb.{Verb}
 use Rattle.bf_words.specs.declared.verb.Verb.TheVariants.{Simulate, Run, Next, Replay, Gen, Sample}
 use Rattle.bf_search.specs.declared.outcomes.Outcome.{Outcome}
-use Rattle.bf_search.specs.Outcomes.{outcomes_of_plan, outcomes_of_pairs}
+use Rattle.bf_farm.specs.Answering.{pair_of}
+use Rattle.bf_farm.specs.Ends.{AreAlone, worker_of}
+use Rattle.bf_runs.specs.Legs.{Legs, LegsLead}
+use Rattle.bf_runs.proofs.Fresh.{none_known, fresh_in, fresh_follows}
+use Rattle.bf_search.specs.declared.farm.Event.{Event}
+use Rattle.bf_search.specs.Outcomes.{outcomes_of_plan, outcomes_of_table}
+use Rattle.bf_state.specs.Runs.{IsPartOf}
 use Rattle.bf_state.proofs.Tables.{seq_ends_alike, seq_goes_on}
 use Rattle.bf_tester.specs.declared.answer.Answer.{Answer}
 use Rattle.bf_output.specs.Beginning.{Begun, begun_with_skips}
 use Rattle.bf_output.specs.Gen.{generated, made_stream}
 use Rattle.bf_output.specs.Next.{next_told}
-use Rattle.bf_output.specs.Output.{Given, IsOverFile, IsOverLog, IsOverLoaded, file_of, IsOverBytes, IsOutputOf, IsOutputIf, IsOutputFor, is_built, is_run, tests}
-use Rattle.bf_output.specs.Refusals.{usage, refusal, unbuilt}
+use Rattle.bf_output.specs.Output.{Given, IsOverFile, IsOverLog, IsOverLoaded, file_of, IsOverBytes, IsSearchedFrom, IsOutputOf, IsOutputFor, is_run, tests, traces}
+use Rattle.bf_output.specs.Refusals.{usage, refusal}
 use Rattle.bf_output.specs.Replay.{replay_told}
 use Rattle.bf_output.specs.Sample.{sampled}
-use Rattle.bf_output.specs.Simulate.{simulated, run_over}
-use Rattle.bf_output.specs.Tested.{Tested, IsTested, IsTestedFrom, IsFrontOf, run_on, told_of_run}
+use Rattle.bf_output.specs.Simulate.{IsRunTold, IsSimulated, plan_of, ran, run_over}
+use Rattle.bf_output.specs.declared.status.Status.TheVariants as status
+use Rattle.bf_output.specs.Tested.{Tested, IsTested, IsFrontOf, IsFrontIfTold, run_on, told_of_run}
+use Rattle.bf_output.specs.Traces.{traced_if}
 use Rattle.bf_output.proofs.Unused.{none_used}
 use Rattle.bf_output.specs.Told.{Told, told_by}
 
@@ -53,135 +60,153 @@ some_loading bytes limits =
 abbrev pub told_given : List (List ℕ) → List ShelfFile → Tested → Given
 told_given words files tested = record { words = words; files = Some files; tested = tested }
 
+-- without a trace, a run over a plan that was not cut short is told in one way
+pub run_text : (request : Request) (words : List (List ℕ)) (history : History) (first : Begun) (told : Told) → request.trace ≡ false
+    → told.status ≢ status.WriteFault → IsSimulated request words history first told
+    → told ≡ ran history first (run_over history first (plan_of request words))
+run_text request words history first told untraced whole (inl is) =
+    subst (λ (is_asked : Bool). IsRunTold is_asked request (plan_of request words) history first told) untraced is
+run_text request words history first told untraced whole (inr cut) = absurd (whole (ap (λ (t : Told). t.status) cut))
+
+module _ (told other : Told) (whole : told.status ≢ status.WriteFault) (also_whole : other.status ≢ status.WriteFault)
+    (words : List (List ℕ)) (files : List ShelfFile) (tested : Tested) where
+  abbrev given : Given
+  given = told_given words files tested
+
+  one_from : (begun : Result Begun Told) (request : Request) (history : History) → request.trace ≡ false
+      → IsSearchedFrom begun Simulate request words tested history told → IsSearchedFrom begun Simulate request words tested history other → told ≡ other
+  one_from (Err refusal) request history untraced is also = is ∙ sym also
+  one_from (Ok first) request history untraced is also =
+      run_text request words history first told untraced whole is ∙ sym (run_text request words history first other untraced also_whole also)
+
+  one_over : (verb : Verb) (request : Request) (file : Option (Result (List ℕ) LoadFault)) (history : History) → is_run verb ≡ false → request.trace ≡ false
+      → IsOverFile verb request words tested file history told → IsOverFile verb request words tested file history other → told ≡ other
+  one_over Simulate request file history untested untraced is also = one_from (begun_with_skips request words file history) request history untraced is also
+  one_over Run request file history untested untraced is also = absurd (both_ways true untested refl)
+  one_over Next request file history untested untraced is also = is ∙ sym also
+  one_over Replay request file history untested untraced is also = is ∙ sym also
+  one_over Gen request file history untested untraced is also = is ∙ sym also
+  one_over Sample request file history untested untraced is also = is ∙ sym also
+
+  one_log : (replay : Option ℕ) (request : Request) (history : History) → is_run request.verb ≡ false → request.trace ≡ false
+      → IsOverLog replay request given history told → IsOverLog replay request given history other → told ≡ other
+  one_log None request history untested untraced is also = one_over request.verb request None history untested untraced is also
+  one_log (Some i) request history untested untraced is also =
+      one_over request.verb request (Some (file_of words i files)) history untested untraced is also
+
+  one_loaded : (request : Request) (result : Result History ImportFault) → is_run request.verb ≡ false → request.trace ≡ false
+      → IsOverLoaded request given result told → IsOverLoaded request given result other → told ≡ other
+  one_loaded request (Ok history) untested untraced is also = one_log request.replay request history untested untraced is also
+  one_loaded request (Err fault) untested untraced is also = is ∙ sym also
+
+  one_over_bytes : (request : Request) (bytes : List ℕ) → is_run request.verb ≡ false → request.trace ≡ false
+      → IsOverBytes request given bytes told → IsOverBytes request given bytes other → told ≡ other
+  one_over_bytes request bytes untested untraced (result, loads, is) (again, reloads, also) =
+      one_loaded request again untested untraced
+      (subst (λ (r : Result History ImportFault). IsOverLoaded request given r told) (one_loading bytes standard_limits result again loads reloads) is) also
+
+  one_of : (verb : Verb) (request : Request) (bytes : List ℕ) → is_run request.verb ≡ false → request.trace ≡ false
+      → IsOutputOf verb request given (Some bytes) told → IsOutputOf verb request given (Some bytes) other → told ≡ other
+  one_of Simulate request bytes untested untraced is also = one_over_bytes request bytes untested untraced is also
+  one_of Run request bytes untested untraced is also = one_over_bytes request bytes untested untraced is also
+  one_of Next request bytes untested untraced is also = one_over_bytes request bytes untested untraced is also
+  one_of Replay request bytes untested untraced is also = one_over_bytes request bytes untested untraced is also
+  one_of Gen request bytes untested untraced is also = is ∙ sym also
+  one_of Sample request bytes untested untraced is also = one_over_bytes request (made_stream request) untested untraced is also
+
+  pub one_for : (read : Result Request ℕ) (bytes : List ℕ) → tests read ≡ false → traces read ≡ false
+      → IsOutputFor read given (Some bytes) told → IsOutputFor read given (Some bytes) other → told ≡ other
+  one_for (Err word) bytes untested untraced is also = is ∙ sym also
+  one_for (Ok request) bytes untested untraced is also = one_of request.verb request bytes untested untraced is also
+
+-- ---- some output
+
+abbrev nothing : History → List (Option Outcome)
+nothing history = replicate (length history.parents) None
+
+abbrev no_legs : Legs
+no_legs = record { whole = []; last = [] }
+
 -- the run on no answer at all
-nothing_tested : (workers : ℕ) (tested : Tested) (history : History) (first : Begun) → tested.answers ≡ []
-    → IsTested workers tested history first (told_of_run history first (run_on history first []))
-nothing_tested workers tested history first none = record {
-  used = [];
-  given = All-nil (λ (a : Answer). Contains tested.answers a);
-  named = All-nil (λ (a : Answer). slice_get history.names a.place ≡ Some a.name);
-  once = λ i j d low high same. omega arith;
-  asked = sym (none_used history.parents first.search 0);
-  alone = λ h. none;
-  tells = refl;
+nothing_tested : (request : Request) (tested : Tested) (history : History) (first : Begun) → tested.answers ≡ []
+    → IsTested request tested history first (traced_if request.trace history no_legs (told_of_run history first (run_on history first (nothing history))))
+unfolding LegsLead
+nothing_tested request tested history first none = record {
+  table = nothing history;
+  legs = no_legs;
+  over = record {
+      are = record { stand = _; whole = refl; last = refl };
+      is = refl;
+      known = record {
+          answered = fresh_in history.names tested.answers (length history.parents) (nothing history) refl;
+          planned = fresh_follows tested.plan (length history.parents) (nothing history) refl;
+      };
+      alone = λ one. record {
+          given = ap (λ (xs : List Answer). map pair_of xs) none ∙ sym (none_used history.parents (outcomes_of_table (nothing history))
+              (none_known (length history.parents)) first.search 0);
+          own = All-push AreAlone [] [] (All-nil AreAlone) (All-nil (λ (e : Event). worker_of e ≡ 0));
+      };
+  };
   planned = by_plan tested.plan;
+  tells = refl;
 }
   where
-    by_plan : (plan : Option (List Outcome)) → IfSome plan (λ plan. IsFrontOf (run_on history first []) (run_over history first plan))
+    part : (plan : List Outcome) → IsPartOf (outcomes_of_table (nothing history)) (outcomes_of_plan plan)
+    part plan = λ p. subst (λ (o : Option Outcome). IfSome o (λ x. outcomes_of_plan plan p ≡ Some x)) (sym (none_known (length history.parents) p)) tt
+
+    by_plan : (plan : Option (List Outcome)) → IsFrontIfTold plan history first (run_on history first (nothing history))
     by_plan None = tt
     by_plan (Some plan) = record {
-      begins = seq_goes_on history.parents first.search (outcomes_of_pairs []) (outcomes_of_plan plan) 0 (λ p. tt);
-      ended = λ closed. sym (seq_ends_alike history.parents first.search (outcomes_of_pairs []) (outcomes_of_plan plan) 0 (λ p. tt) closed);
+      begins = seq_goes_on history.parents first.search (outcomes_of_table (nothing history)) (outcomes_of_plan plan) 0 (part plan);
+      ended = λ closed. sym (seq_ends_alike history.parents first.search (outcomes_of_table (nothing history)) (outcomes_of_plan plan) 0 (part plan) closed);
     }
 
-some_from : (begun : Result Begun Told) (workers : ℕ) (tested : Tested) (history : History) → tested.answers ≡ []
-    → (told : Told) × IsTestedFrom begun workers tested history told
-some_from (Err refusal) workers tested history none = (refusal, refl)
-some_from (Ok first) workers tested history none =
-    (told_of_run history first (run_on history first []), nothing_tested workers tested history first none)
+module _ (words : List (List ℕ)) (files : List ShelfFile) (tested : Tested) (none : tested.answers ≡ []) where
+  abbrev some_given : Given
+  some_given = told_given words files tested
 
-one_over : (verb : Verb) (request : Request) (words : List (List ℕ)) (tested : Tested) (file : Option (Result (List ℕ) LoadFault)) (history : History)
-    (told other : Told) → is_run verb ≡ false → IsOverFile verb request words tested file history told
-    → IsOverFile verb request words tested file history other → told ≡ other
-one_over Simulate request words tested file history told other untested is also = is ∙ sym also
-one_over Run request words tested file history told other untested is also = absurd (both_ways true untested refl)
-one_over Next request words tested file history told other untested is also = is ∙ sym also
-one_over Replay request words tested file history told other untested is also = is ∙ sym also
-one_over Gen request words tested file history told other untested is also = is ∙ sym also
-one_over Sample request words tested file history told other untested is also = is ∙ sym also
+  some_simulated : (begun : Result Begun Told) (request : Request) (history : History) → request.trace ≡ false
+      → (told : Told) × IsSearchedFrom begun Simulate request words tested history told
+  some_simulated (Err refusal) request history untraced = (refusal, refl)
+  some_simulated (Ok first) request history untraced =
+      let told = ran history first (run_over history first (plan_of request words)) in
+      (told, inl (subst (λ (is_asked : Bool). IsRunTold is_asked request (plan_of request words) history first told) (sym untraced) refl))
 
-some_over : (verb : Verb) (request : Request) (words : List (List ℕ)) (tested : Tested) (file : Option (Result (List ℕ) LoadFault)) (history : History)
-    → tested.answers ≡ [] → (told : Told) × IsOverFile verb request words tested file history told
-some_over Simulate request words tested file history none = (told_by (simulated request words file history), refl)
-some_over Run request words tested file history none = some_from (begun_with_skips request words file history) request.workers tested history none
-some_over Next request words tested file history none = (told_by (next_told request words file history), refl)
-some_over Replay request words tested file history none = (told_by (replay_told file history), refl)
-some_over Gen request words tested file history none = (generated request, refl)
-some_over Sample request words tested file history none = (sampled request history, refl)
+  some_tested : (begun : Result Begun Told) (request : Request) (history : History) → (told : Told) × IsSearchedFrom begun Run request words tested history told
+  some_tested (Err refusal) request history = (refusal, refl)
+  some_tested (Ok first) request history = (_, inl (nothing_tested request tested history first none))
 
-one_log : (replay : Option ℕ) (request : Request) (words : List (List ℕ)) (files : List ShelfFile) (tested : Tested) (history : History) (told other : Told)
-    → is_run request.verb ≡ false → IsOverLog replay request (told_given words files tested) history told
-    → IsOverLog replay request (told_given words files tested) history other → told ≡ other
-one_log None request words files tested history told other untested is also =
-    one_over request.verb request words tested None history told other untested is also
-one_log (Some i) request words files tested history told other untested is also =
-    one_over request.verb request words tested (Some (file_of words i files)) history told other untested is also
+  some_over : (verb : Verb) (request : Request) (file : Option (Result (List ℕ) LoadFault)) (history : History) → request.trace ≡ false
+      → (told : Told) × IsOverFile verb request words tested file history told
+  some_over Simulate request file history untraced = some_simulated (begun_with_skips request words file history) request history untraced
+  some_over Run request file history untraced = some_tested (begun_with_skips request words file history) request history
+  some_over Next request file history untraced = (told_by (next_told request words file history), refl)
+  some_over Replay request file history untraced = (told_by (replay_told file history), refl)
+  some_over Gen request file history untraced = (generated request, refl)
+  some_over Sample request file history untraced = (sampled request history, refl)
 
-some_log : (replay : Option ℕ) (request : Request) (words : List (List ℕ)) (files : List ShelfFile) (tested : Tested) (history : History)
-    → tested.answers ≡ [] → (told : Told) × IsOverLog replay request (told_given words files tested) history told
-some_log None request words files tested history none = some_over request.verb request words tested None history none
-some_log (Some i) request words files tested history none = some_over request.verb request words tested (Some (file_of words i files)) history none
+  some_log : (replay : Option ℕ) (request : Request) (history : History) → request.trace ≡ false → (told : Told) × IsOverLog replay request some_given history told
+  some_log None request history untraced = some_over request.verb request None history untraced
+  some_log (Some i) request history untraced = some_over request.verb request (Some (file_of words i files)) history untraced
 
-one_loaded : (request : Request) (words : List (List ℕ)) (files : List ShelfFile) (tested : Tested) (result : Result History ImportFault) (told other : Told)
-    → is_run request.verb ≡ false → IsOverLoaded request (told_given words files tested) result told
-    → IsOverLoaded request (told_given words files tested) result other → told ≡ other
-one_loaded request words files tested (Ok history) told other untested is also =
-    one_log request.replay request words files tested history told other untested is also
-one_loaded request words files tested (Err fault) told other untested is also = is ∙ sym also
+  some_loaded : (request : Request) (result : Result History ImportFault) → request.trace ≡ false → (told : Told) × IsOverLoaded request some_given result told
+  some_loaded request (Ok history) untraced = some_log request.replay request history untraced
+  some_loaded request (Err fault) untraced = (refusal fault, refl)
 
-some_loaded : (request : Request) (words : List (List ℕ)) (files : List ShelfFile) (tested : Tested) (result : Result History ImportFault)
-    → tested.answers ≡ [] → (told : Told) × IsOverLoaded request (told_given words files tested) result told
-some_loaded request words files tested (Ok history) none = some_log request.replay request words files tested history none
-some_loaded request words files tested (Err fault) none = (refusal fault, refl)
+  some_over_bytes : (request : Request) (bytes : List ℕ) → request.trace ≡ false → (told : Told) × IsOverBytes request some_given bytes told
+  some_over_bytes request bytes untraced =
+      let found = some_loading bytes standard_limits in
+      let answer = some_loaded request found.0 untraced in
+      (answer.0, (found.0, found.1, answer.1))
 
-one_over_bytes : (request : Request) (words : List (List ℕ)) (files : List ShelfFile) (tested : Tested) (bytes : List ℕ) (told other : Told)
-    → is_run request.verb ≡ false → IsOverBytes request (told_given words files tested) bytes told
-    → IsOverBytes request (told_given words files tested) bytes other → told ≡ other
-one_over_bytes request words files tested bytes told other untested (result, loads, is) (again, reloads, also) =
-    one_loaded request words files tested again told other untested
-    (subst (λ (r : Result History ImportFault). IsOverLoaded request (told_given words files tested) r told)
-    (one_loading bytes standard_limits result again loads reloads) is) also
+  some_of : (verb : Verb) (request : Request) (bytes : List ℕ) → request.trace ≡ false → (told : Told) × IsOutputOf verb request some_given (Some bytes) told
+  some_of Simulate request bytes untraced = some_over_bytes request bytes untraced
+  some_of Run request bytes untraced = some_over_bytes request bytes untraced
+  some_of Next request bytes untraced = some_over_bytes request bytes untraced
+  some_of Replay request bytes untraced = some_over_bytes request bytes untraced
+  some_of Gen request bytes untraced = (generated request, refl)
+  some_of Sample request bytes untraced = some_over_bytes request (made_stream request) untraced
 
-some_over_bytes : (request : Request) (words : List (List ℕ)) (files : List ShelfFile) (tested : Tested) (bytes : List ℕ)
-    → tested.answers ≡ [] → (told : Told) × IsOverBytes request (told_given words files tested) bytes told
-some_over_bytes request words files tested bytes none =
-    let found = some_loading bytes standard_limits in
-    let answer = some_loaded request words files tested found.0 none in
-    (answer.0, (found.0, found.1, answer.1))
-
--- ---- by the words
-
-one_of : (verb : Verb) (request : Request) (words : List (List ℕ)) (files : List ShelfFile) (tested : Tested) (bytes : List ℕ) (told other : Told)
-    → is_run request.verb ≡ false
-    → IsOutputOf verb request (told_given words files tested) (Some bytes) told → IsOutputOf verb request (told_given words files tested) (Some bytes) other
-    → told ≡ other
-one_of Simulate request words files tested bytes told other untested is also = one_over_bytes request words files tested bytes told other untested is also
-one_of Run request words files tested bytes told other untested is also = one_over_bytes request words files tested bytes told other untested is also
-one_of Next request words files tested bytes told other untested is also = one_over_bytes request words files tested bytes told other untested is also
-one_of Replay request words files tested bytes told other untested is also = one_over_bytes request words files tested bytes told other untested is also
-one_of Gen request words files tested bytes told other untested is also = is ∙ sym also
-one_of Sample request words files tested bytes told other untested is also =
-    one_over_bytes request words files tested (made_stream request) told other untested is also
-
-one_if : (built : Bool) (request : Request) (words : List (List ℕ)) (files : List ShelfFile) (tested : Tested) (bytes : List ℕ) (told other : Told)
-    → is_run request.verb ≡ false
-    → IsOutputIf built request (told_given words files tested) (Some bytes) told → IsOutputIf built request (told_given words files tested) (Some bytes) other
-    → told ≡ other
-one_if false request words files tested bytes told other untested is also = is ∙ sym also
-one_if true request words files tested bytes told other untested is also = one_of request.verb request words files tested bytes told other untested is also
-
-pub one_for : (read : Result Request ℕ) (words : List (List ℕ)) (files : List ShelfFile) (tested : Tested) (bytes : List ℕ) (told other : Told)
-    → tests read ≡ false
-    → IsOutputFor read (told_given words files tested) (Some bytes) told → IsOutputFor read (told_given words files tested) (Some bytes) other → told ≡ other
-one_for (Err word) words files tested bytes told other untested is also = is ∙ sym also
-one_for (Ok request) words files tested bytes told other untested is also =
-    one_if (is_built request) request words files tested bytes told other untested is also
-
-some_of : (verb : Verb) (request : Request) (words : List (List ℕ)) (files : List ShelfFile) (tested : Tested) (bytes : List ℕ)
-    → tested.answers ≡ [] → (told : Told) × IsOutputOf verb request (told_given words files tested) (Some bytes) told
-some_of Simulate request words files tested bytes none = some_over_bytes request words files tested bytes none
-some_of Run request words files tested bytes none = some_over_bytes request words files tested bytes none
-some_of Next request words files tested bytes none = some_over_bytes request words files tested bytes none
-some_of Replay request words files tested bytes none = some_over_bytes request words files tested bytes none
-some_of Gen request words files tested bytes none = (generated request, refl)
-some_of Sample request words files tested bytes none = some_over_bytes request words files tested (made_stream request) none
-
-some_if : (built : Bool) (request : Request) (words : List (List ℕ)) (files : List ShelfFile) (tested : Tested) (bytes : List ℕ)
-    → tested.answers ≡ [] → (told : Told) × IsOutputIf built request (told_given words files tested) (Some bytes) told
-some_if false request words files tested bytes none = (unbuilt, refl)
-some_if true request words files tested bytes none = some_of request.verb request words files tested bytes none
-
-pub some_for : (read : Result Request ℕ) (words : List (List ℕ)) (files : List ShelfFile) (tested : Tested) (bytes : List ℕ)
-    → tested.answers ≡ [] → (told : Told) × IsOutputFor read (told_given words files tested) (Some bytes) told
-some_for (Err word) words files tested bytes none = (usage word, refl)
-some_for (Ok request) words files tested bytes none = some_if (is_built request) request words files tested bytes none
+  pub some_for : (read : Result Request ℕ) (bytes : List ℕ) → traces read ≡ false → (told : Told) × IsOutputFor read some_given (Some bytes) told
+  some_for (Err word) bytes untraced = (usage word, refl)
+  some_for (Ok request) bytes untraced = some_of request.verb request bytes untraced

@@ -2,6 +2,7 @@ pub mod Told
 pub mod Statuses
 pub mod Refusals
 pub mod Beginning
+pub mod Traces
 pub mod Simulate
 pub mod Next
 pub mod Gen

@@ -1,5 +1,5 @@
 -- A log that is replayed: its file is loaded, read and replayed, in this order.
-use Rattle.std.specs.Prelude.{ℕ, List, Result, Ok, Err}
+use Rattle.std.specs.Prelude.{ℕ, List, Option, Some, None, Result, Ok, Err}
 use Rattle.bf_grammar.specs.declared.fault.Limit.TheVariants.{Log}
 use Rattle.bf_history.specs.Meanings.{History}
 use Rattle.bf_logs.specs.Replay.{Replayed, ReplayFault, Name, NotStarted, Term}

@@ -1,6 +1,6 @@
 -- What the program answers for its words, its stream and its files, in the order of its refusals: the words, the stream to its
 -- end, the log that is replayed, the names, an end that is missing, and then the run.
-use Rattle.std.specs.Prelude.{◌≡◌, ℕ, ◌==◌, Bool, true, false, ◌&&◌, not, List, Option, Some, None, IfSome, is_some, Result, Ok, Err}
+use Rattle.std.specs.Prelude.{◌≡◌, ◌⊎◌, ℕ, Bool, true, false, List, Option, Some, None, IfSome, is_some, Result, Ok, Err}
 use Rattle.bf_grammar.specs.Limits.{standard_limits}
 use Rattle.bf_history.specs.declared.fault.ImportFault.{ImportFault}
 use Rattle.bf_history.specs.Imports.{Loads}
@@ -12,29 +12,16 @@ use Rattle.bf_shelf.specs.declared.shelf.LoadFault.{LoadFault}
 use Rattle.bf_shelf.specs.declared.shelf.ShelfFile.{ShelfFile}
 use Rattle.bf_shelf.specs.Files.{loaded}
 use Rattle.bf_words.specs.Words.{request, word_at}
-use Rattle.bf_output.specs.Beginning.{begun_with_skips}
+use Rattle.bf_output.specs.Beginning.{Begun, begun_with_skips}
 use Rattle.bf_output.specs.Gen.{generated, made_stream}
 use Rattle.bf_output.specs.Logs.{longest_log}
 use Rattle.bf_output.specs.Next.{next_told}
-use Rattle.bf_output.specs.Refusals.{usage, refusal, unbuilt}
+use Rattle.bf_output.specs.Refusals.{usage, refusal}
 use Rattle.bf_output.specs.Replay.{replay_told}
 use Rattle.bf_output.specs.Sample.{sampled}
-use Rattle.bf_output.specs.Simulate.{simulated}
-use Rattle.bf_output.specs.Tested.{Tested, IsTestedFrom, IsUsed}
+use Rattle.bf_output.specs.Simulate.{IsSimulated}
+use Rattle.bf_output.specs.Tested.{Tested, IsTested, IsTestCut, IsUsed}
 use Rattle.bf_output.specs.Told.{Told, told_by}
-
--- what is not built yet: commands, and options
-abbrev pub is_built_verb : Verb → Bool
-is_built_verb Simulate = true
-is_built_verb Run = true
-is_built_verb Next = true
-is_built_verb Replay = true
-is_built_verb Gen = true
-is_built_verb Sample = true
-
-abbrev pub is_built : Request → Bool
-is_built request =
-    is_built_verb request.verb && (request.leg == 0) && not request.trace
 
 -- what the program is given beside its stream: its words, the files of its shelf, and what its tester shows
 pub record Given : Type 0 where
@@ -44,10 +31,27 @@ pub record Given : Type 0 where
 
 -- ---- over a history
 
+-- what a search tells that has begun: over a plan that is written, or by tests; the other commands begin none
+abbrev pub IsSearched : Verb → Request → List (List ℕ) → Tested → History → Begun → Told → Type 0
+IsSearched Simulate request words tested history first told = IsSimulated request words history first told
+IsSearched Run request words tested history first told =
+    IsTested request tested history first told ⊎ IsTestCut tested.plan history first told
+IsSearched Next request words tested history first told = ⊥
+IsSearched Replay request words tested history first told = ⊥
+IsSearched Gen request words tested history first told = ⊥
+IsSearched Sample request words tested history first told = ⊥
+
+-- a search that did not begin is refused
+abbrev pub IsSearchedFrom : Result Begun Told → Verb → Request → List (List ℕ) → Tested → History → Told → Type 0
+IsSearchedFrom (Err refusal) verb request words tested history told = told ≡ refusal
+IsSearchedFrom (Ok first) verb request words tested history told = IsSearched verb request words tested history first told
+
 -- what a command answers over a history and the file that it is given; `gen` looks at none
 abbrev pub IsOverFile : Verb → Request → List (List ℕ) → Tested → Option (Result (List ℕ) LoadFault) → History → Told → Type 0
-IsOverFile Simulate request words tested file history told = told ≡ told_by (simulated request words file history)
-IsOverFile Run request words tested file history told = IsTestedFrom (begun_with_skips request words file history) request.workers tested history told
+IsOverFile Simulate request words tested file history told =
+    IsSearchedFrom (begun_with_skips request words file history) Simulate request words tested history told
+IsOverFile Run request words tested file history told =
+    IsSearchedFrom (begun_with_skips request words file history) Run request words tested history told
 IsOverFile Next request words tested file history told = told ≡ told_by (next_told request words file history)
 IsOverFile Replay request words tested file history told = told ≡ told_by (replay_told file history)
 IsOverFile Gen request words tested file history told = told ≡ generated request
@@ -98,14 +102,10 @@ IsOutputOf Replay request given stream told = IsOverStream request given stream 
 IsOutputOf Gen request given stream told = told ≡ generated request
 IsOutputOf Sample request given stream told = IsOverBytes request given (made_stream request) told
 
-abbrev pub IsOutputIf : Bool → Request → Given → Option (List ℕ) → Told → Type 0
-IsOutputIf false request given stream told = told ≡ unbuilt
-IsOutputIf true request given stream told = IsOutputOf request.verb request given stream told
-
 -- the words come first
 abbrev pub IsOutputFor : Result Request ℕ → Given → Option (List ℕ) → Told → Type 0
 IsOutputFor (Err word) given stream told = told ≡ usage word
-IsOutputFor (Ok request) given stream told = IsOutputIf (is_built request) request given stream told
+IsOutputFor (Ok request) given stream told = IsOutputOf request.verb request given stream told
 
 abbrev pub IsOutput : Given → Option (List ℕ) → Told → Type 0
 IsOutput given stream told = IsOutputFor (request given.words) given stream told
@@ -132,6 +132,11 @@ is_run Sample = false
 abbrev pub tests : Result Request ℕ → Bool
 tests (Err word) = false
 tests (Ok request) = is_run request.verb
+
+-- whether the words ask for a trace
+abbrev pub traces : Result Request ℕ → Bool
+traces (Err word) = false
+traces (Ok request) = request.trace
 
 -- the tester is used as the words say, where they ask for tests; else it is as it was
 abbrev pub IsUsedIf : Bool → Request → List (List ℕ) → Tested → Tested → Type 0

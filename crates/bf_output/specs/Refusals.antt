@@ -52,9 +52,6 @@ file_fault = record { status = status.ShelfFault; text = codes "file fault\n" }
 abbrev pub no_memory : Told
 no_memory = record { status = status.NoMemory; text = [] }
 
-abbrev pub unbuilt : Told
-unbuilt = record { status = status.Unbuilt; text = codes "not built yet\n" }
-
 abbrev pub refusal_of_stream : StreamFault → Told
 refusal_of_stream (stream.Syntax line) = refused_at line kind.Syntax
 refusal_of_stream (stream.Unsupported line) = refused_at line kind.Unsupported

@@ -1,20 +1,23 @@
 -- The command `simulate`: a search over a plan that is written as letters.
-use Rattle.std.specs.Prelude.{ℕ, Bool, if◌then◌else◌, List, Option, [], ◌++◌, map, unwrap_or, Result, Ok}
+use Rattle.std.specs.Prelude.{◌≡◌, ◌⊎◌, ℕ, ◌≤◌, Bool, true, false, if◌then◌else◌, List, All, Option, Some, [], ◌++◌, map, unwrap_or}
+use Rattle.bf_farm.specs.Ends.{AreAlone}
+use Rattle.bf_farm.specs.Reports.{TableFollows}
 use Rattle.bf_history.specs.Meanings.{History}
 use Rattle.bf_search.specs.declared.asks.Ask.{Ask}
 use Rattle.bf_search.specs.declared.asks.Ask.TheVariants as ask
 use Rattle.bf_search.specs.declared.outcomes.Outcome.{Outcome}
 use Rattle.bf_search.specs.declared.outcomes.Outcome.TheVariants.{Exit}
-use Rattle.bf_search.specs.Outcomes.{lenient, outcome_of_letter, outcomes_of_plan}
+use Rattle.bf_runs.specs.Legs.{Legs, AreLegs, all_of}
+use Rattle.bf_search.specs.Outcomes.{lenient, outcome_of_letter, outcomes_of_plan, outcomes_of_table}
 use Rattle.bf_search.specs.Run.{End, Answered, Leg, Open, Aborted, Run, seq}
-use Rattle.bf_shelf.specs.declared.shelf.LoadFault.{LoadFault}
 use Rattle.bf_texts.specs.Texts.{answer_lines}
 use Rattle.bf_words.specs.declared.request.Request.{Request}
 use Rattle.bf_words.specs.Words.{word_or}
 use Rattle.bf_output.specs.declared.status.Status.{Status}
 use Rattle.bf_output.specs.declared.status.Status.TheVariants as status
-use Rattle.bf_output.specs.Beginning.{Begun, commits_of, log_on, begun_with_skips}
-use Rattle.bf_output.specs.Told.{Told, ◌>>=◌}
+use Rattle.bf_output.specs.Beginning.{Begun, commits_of, log_on}
+use Rattle.bf_output.specs.Told.{Told}
+use Rattle.bf_output.specs.Traces.{course_of, traced}
 
 -- ---- the plan
 
@@ -58,6 +61,28 @@ ran history first run = record {
 abbrev pub run_over : History → Begun → List Outcome → Run
 run_over history first plan = seq history.parents first.search (outcomes_of_plan plan) 0
 
-unfoldable pub simulated : Request → List (List ℕ) → Option (Result (List ℕ) LoadFault) → History → Result Told Told
-simulated request words file history =
-    begun_with_skips request words file history >>= λ first. Ok (ran history first (run_over history first (plan_of request words)))
+-- ---- a search over a plan, leg by leg and with several workers
+
+-- The run is that of the plan, whatever the workers did: they posted the outcomes of the plan alone, and all that the run
+-- asked for. Their events are told behind it.
+pub record IsTracedRun (request : Request) (plan : List Outcome) (history : History) (first : Begun) (told : Told) : Type 0 where
+  pub table : List (Option Outcome)
+  pub legs : Legs
+  pub are : AreLegs (course_of request history first) legs table
+  pub planned : TableFollows (Some plan) table
+  pub knows : seq history.parents first.search (outcomes_of_table table) 0 ≡ run_over history first plan
+  pub alone : request.workers ≤ 1 → All AreAlone (all_of legs)
+  pub tells : told ≡ traced history legs (ran history first (run_over history first plan))
+
+abbrev pub IsRunTold : Bool → Request → List Outcome → History → Begun → Told → Type 0
+IsRunTold false request plan history first told = told ≡ ran history first (run_over history first plan)
+IsRunTold true request plan history first told = IsTracedRun request plan history first told
+
+-- a run that was cut short after a leg: its log was due
+abbrev pub cut_short : History → Begun → Run → Told
+cut_short history first run = record { status = status.WriteFault; text = log_on history first run.entries }
+
+abbrev pub IsSimulated : Request → List (List ℕ) → History → Begun → Told → Type 0
+IsSimulated request words history first told =
+    let plan = plan_of request words in
+    IsRunTold request.trace request plan history first told ⊎ (told ≡ cut_short history first (run_over history first plan))

@@ -6,7 +6,7 @@ use Rattle.bf_grammar.specs.declared.fault.Limit.TheVariants as limit
 use Rattle.bf_names.specs.declared.fault.NameFault.{NameFault}
 use Rattle.bf_names.specs.declared.fault.NameFault.TheVariants as name
 use Rattle.bf_output.specs.declared.status.Status.{Status}
-use Rattle.bf_output.specs.declared.status.Status.TheVariants.{Done, Usage, OnlySkipped, MergeBaseBad, GoodNotAncestor, BothSides, Aborted, StreamRefused, NameRefused, TooLarge, LogRefused, TestFault, ReadFault, WriteFault, ShelfFault, NoMemory, NoFile, Waiting, Unbuilt}
+use Rattle.bf_output.specs.declared.status.Status.TheVariants.{Done, Usage, OnlySkipped, MergeBaseBad, GoodNotAncestor, BothSides, Aborted, StreamRefused, NameRefused, TooLarge, LogRefused, TestFault, ReadFault, WriteFault, ShelfFault, NoMemory, NoFile, Waiting}
 use Rattle.bf_output.specs.declared.status.StreamKind.{StreamKind}
 use Rattle.bf_output.specs.declared.status.StreamKind.TheVariants as kind
 
@@ -29,7 +29,6 @@ number_of ShelfFault = 14
 number_of NoMemory = 15
 number_of NoFile = 16
 number_of Waiting = 17
-number_of Unbuilt = 18
 
 abbrev pub words_of_kind : StreamKind → List ℕ
 words_of_kind kind.Syntax = codes "syntax"

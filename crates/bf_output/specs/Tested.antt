@@ -1,21 +1,22 @@
 -- A search whose commits are tested: what it answers by the answers that a tester gave.
-use Rattle.std.specs.Prelude.{◌≡◌, ◌≢◌, ℕ, Bool, true, false, ◌||◌, List, [], ◌++◌, codes, drop, map, All, Contains, Option, Some, None, IfSome, Result, Ok, Err, ◌⊎◌}
-use Rattle.std.specs.List.{slice_get, AllPairs}
+use Rattle.std.specs.Prelude.{◌≡◌, ℕ, Bool, true, false, ◌||◌, List, [], ◌++◌, drop, Option, Some, None, IfSome, ◌⊎◌}
 use Rattle.bf_history.specs.Meanings.{History}
-use Rattle.bf_search.specs.declared.entries.Entry.{Entry}
+use Rattle.bf_log.specs.Trace.{failed_test_line}
+use Rattle.bf_runs.specs.Legs.{Legs, IsOver}
 use Rattle.bf_search.specs.declared.outcomes.Outcome.{Outcome}
-use Rattle.bf_search.specs.Outcomes.{outcomes_of_pairs}
+use Rattle.bf_search.specs.Outcomes.{outcomes_of_table}
 use Rattle.bf_search.specs.Run.{End, Answered, Leg, Open, Aborted, Run, seq}
 use Rattle.bf_state.specs.Runs.{GoesOn, is_open}
 use Rattle.bf_tester.specs.declared.answer.Answer.{Answer}
 use Rattle.bf_tester.specs.Plans.{PreparesTold}
-use Rattle.bf_texts.specs.Texts.{Commits, text_line, hex_of}
+use Rattle.bf_texts.specs.Texts.{Commits, Sides, answer_lines}
 use Rattle.bf_words.specs.declared.request.Request.{Request}
 use Rattle.bf_output.specs.declared.status.Status.{Status}
 use Rattle.bf_output.specs.declared.status.Status.TheVariants as status
 use Rattle.bf_output.specs.Beginning.{Begun, commits_of, log_on}
-use Rattle.bf_output.specs.Simulate.{ran, run_over}
+use Rattle.bf_output.specs.Simulate.{run_over, status_of_end, cut_short}
 use Rattle.bf_output.specs.Told.{Told}
+use Rattle.bf_output.specs.Traces.{course_of, traced_if}
 
 -- what a tester shows: the outcomes by place, where it tells them, how it tests, the answers that it gave, and its faults
 pub record Tested : Type 0 where
@@ -32,55 +33,53 @@ abbrev pub tested_by : {T : Type 0} → (T → Option (List Outcome)) → (T →
 tested_by told command is_lenient answers faults failed is_split t =
     record { plan = told t; command = command t; is_lenient = is_lenient t; answers = answers t; faults = faults t; failed = failed t; is_split = is_split t }
 
--- the run on answers, each of which tells the outcome of its place
-abbrev pub pairs_of : List Answer → List (ℕ × Outcome)
-pairs_of used = map (λ a. (a.place, a.outcome)) used
+-- the run on what is known
+abbrev pub run_on : History → Begun → List (Option Outcome) → Run
+run_on history first table = seq history.parents first.search (outcomes_of_table table) 0
 
-abbrev pub run_on : History → Begun → List Answer → Run
-run_on history first used = seq history.parents first.search (outcomes_of_pairs (pairs_of used)) 0
+-- how a run ends: one that waits for an outcome ends with the fault of that test
+abbrev pub status_at_end : End → Status
+status_at_end (Answered a) = status_of_end (Answered a)
+status_at_end Leg = status_of_end Leg
+status_at_end (Open p) = status.TestFault p
+status_at_end (Aborted p outcome) = status_of_end (Aborted p outcome)
 
--- the test of a place could not be made: the log so far, and a line that says so
-unfoldable pub fault_line : Commits → ℕ → List ℕ
-fault_line commits p = text_line (codes "test fault on " ++ hex_of commits p)
+abbrev pub lines_at_end : Commits → Sides → End → List ℕ
+lines_at_end commits sides (Answered a) = answer_lines commits sides (Answered a)
+lines_at_end commits sides Leg = answer_lines commits sides Leg
+lines_at_end commits sides (Open p) = failed_test_line commits p
+lines_at_end commits sides (Aborted p outcome) = answer_lines commits sides (Aborted p outcome)
 
-abbrev pub failed_test : History → Begun → List Entry → ℕ → Told
-failed_test history first entries p = record {
-  status = status.TestFault p;
-  text = log_on history first entries ++ fault_line (commits_of history) p;
-}
-
--- a run that waits for an outcome ends with the fault of that test
-abbrev pub told_at_end : History → Begun → Run → End → Told
-told_at_end history first run (Answered a) = ran history first run
-told_at_end history first run Leg = ran history first run
-told_at_end history first run (Open p) = failed_test history first run.entries p
-told_at_end history first run (Aborted p outcome) = ran history first run
-
+-- the log so far, and how the run ended
 abbrev pub told_of_run : History → Begun → Run → Told
-told_of_run history first run = told_at_end history first run run.end
+told_of_run history first run = record {
+  status = status_at_end run.end;
+  text = log_on history first run.entries ++ lines_at_end (commits_of history) first.sides run.end;
+}
 
 -- a run on some of the outcomes of another: its entries are a front of the other's, and all of them where none was lacking
 pub record IsFrontOf (run whole : Run) : Type 0 where
   pub begins : GoesOn run.entries whole.entries
   pub ended : is_open run.end ≡ false → run ≡ whole
 
--- The run on answers of the tester is told, each with the name of its commit. They are what the run asked for, each place
--- once, and one worker tested nothing else. Where outcomes are told, the run is that on these, or a front of it if a test
--- failed.
-pub record IsTested (workers : ℕ) (tested : Tested) (history : History) (first : Begun) (told : Told) : Type 0 where
-  pub used : List Answer
-  pub given : All (λ a. Contains tested.answers a) used
-  pub named : All (λ a. slice_get history.names a.place ≡ Some a.name) used
-  pub once : AllPairs (λ a b. a.place ≢ b.place) used
-  pub asked : pairs_of used ≡ (run_on history first used).used
-  pub alone : workers ≡ 1 → tested.answers ≡ used
-  pub tells : told ≡ told_of_run history first (run_on history first used)
-  pub planned : IfSome tested.plan (λ plan. IsFrontOf (run_on history first used) (run_over history first plan))
+-- where outcomes are told, a run is that on these, or a front of it
+abbrev pub IsFrontIfTold : Option (List Outcome) → History → Begun → Run → Type 0
+IsFrontIfTold told history first run = IfSome told (λ plan. IsFrontOf run (run_over history first plan))
 
--- a search that did not begin is refused
-abbrev pub IsTestedFrom : Result Begun Told → ℕ → Tested → History → Told → Type 0
-IsTestedFrom (Err refusal) workers tested history told = told ≡ refusal
-IsTestedFrom (Ok first) workers tested history told = IsTested workers tested history first told
+-- What is known is answered by the tester, with the names of the commits; the run on it is told, and behind it the events
+-- of the workers where they are asked for. One worker tested what the run asked for, and nothing else.
+pub record IsTested (request : Request) (tested : Tested) (history : History) (first : Begun) (told : Told) : Type 0 where
+  pub table : List (Option Outcome)
+  pub legs : Legs
+  pub over : IsOver (course_of request history first) tested.plan tested.answers table legs (run_on history first table)
+  pub planned : IsFrontIfTold tested.plan history first (run_on history first table)
+  pub tells : told ≡ traced_if request.trace history legs (told_of_run history first (run_on history first table))
+
+-- A search that was cut short after a leg: the log of a run on some outcomes was due and, where outcomes are told, on these.
+pub record IsTestCut (told : Option (List Outcome)) (history : History) (first : Begun) (cut : Told) : Type 0 where
+  pub table : List (Option Outcome)
+  pub planned : IsFrontIfTold told history first (run_on history first table)
+  pub tells : cut ≡ cut_short history first (run_on history first table)
 
 -- ---- the tester itself
 
@@ -123,4 +122,3 @@ is_test_fault status.ShelfFault = false
 is_test_fault status.NoMemory = false
 is_test_fault status.NoFile = false
 is_test_fault status.Waiting = false
-is_test_fault status.Unbuilt = false

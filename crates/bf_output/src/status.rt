@@ -85,8 +85,6 @@ pub enum Status {
     NoFile,
     /// No bad or no good commit is known.
     Waiting,
-    /// The words ask for something that is not built yet.
-    Unbuilt,
 }
 
 impl Status {
@@ -113,7 +111,6 @@ impl Status {
             Status::NoMemory => 15,
             Status::NoFile => 16,
             Status::Waiting => 17,
-            Status::Unbuilt => 18,
         }
     }
 }

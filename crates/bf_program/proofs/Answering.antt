@@ -1,14 +1,23 @@
 -- From an answer and what was written of it to what the program answers.
-use Rattle.std.proofs.Common.{◌≡◌, ◌≢◌, ℕ, Bool, List, Option, Result, Ok, Err, IfOk, IsErrOf, ◌⊎◌, inl, inr, refl, subst, sym, ◌∙◌}
+use Rattle.std.proofs.Common.{◌≡◌, ◌≢◌, ℕ, Bool, List, Option, Result, Ok, Err, IfOk, IsErrOf, IsTrue, is_some, ◌⊎◌, inl, inr, refl, subst, sym, ◌∙◌}
 use Rattle.bf_io.specs.Told.{Appends, AppendsFront}
+use Rattle.bf_io.proofs.Told.{AppendsFront-all}
 use Rattle.bf_output.specs.declared.status.Status.{Status}
 use Rattle.bf_output.specs.declared.status.Status.TheVariants as status
+use Rattle.bf_output.specs.Output.{IsOutput, IsOutputFor, IsOutputOf, asks_file, reads, reads_stream}
+use Rattle.bf_output.specs.Refusals.{usage}
 use Rattle.bf_output.specs.Tested.{Tested}
-use Rattle.bf_program.specs.declared.answer.Answer.{Answer}
+use Rattle.bf_output.specs.Told.{Told}
+use Rattle.bf_words.specs.declared.request.Request.{Request}
+use Rattle.bf_words.specs.declared.request.WordFault.{WordFault}
+use Rattle.bf_words.specs.declared.request.WordFault.TheVariants.{At}
+use Rattle.bf_words.specs.declared.request.WordFault.TheVariants as words
+use Rattle.bf_words.specs.Words as asked
 use Rattle.bf_program.specs.declared.answer.Cut.{Cut}
 use Rattle.bf_program.specs.declared.answer.Cut.TheVariants.{Read, Shelf, NoMemory}
-use Rattle.bf_program.specs.Answers.{Met, HasFailed, OutputOf, IsUnread, IsUnloaded, IsDue, Answers, IsWhole, IsFailedTest, HasCause}
-use Rattle.bf_program.specs.Writes.{IsTold, IsWritten}
+use Rattle.bf_program.specs.declared.ready.Ready.{Ready}
+use Rattle.bf_program.specs.Answers.{Met, HasFailed, OutputOf, IsUnread, IsUnloaded, IsDue, Answers, IsWhole, HasCause, given_to}
+use Rattle.bf_program.specs.Searching.{AllTold, Tells, Concludes, IsConcluded, IsRefused}
 
 -- a whole answer has its cause
 pub whole_cause : (asks : Bool) (before : ℕ) (after : Tested) (s : Status) → IsWhole s → HasCause asks before after s
@@ -30,44 +39,30 @@ whole_cause asks before after (status.LogRefused line) w = w
 whole_cause asks before after (status.TestFault place) w = absurd w
 whole_cause asks before after status.NoFile w = w
 whole_cause asks before after status.Waiting w = w
-whole_cause asks before after status.Unbuilt w = w
 
-pub whole_causes : (asks : Bool) (before : ℕ) (after : Tested) (result : Result Answer Cut) → IfOk result (λ answer. IsWhole answer.status)
-    → IfOk result (λ answer. HasCause asks before after answer.status)
-whole_causes asks before after (Ok answer) w = whole_cause asks before after answer.status w
-whole_causes asks before after (Err cut) w = tt
+-- ---- what was written
 
--- a failed write is no whole answer
-unwritten : (asks : Bool) (before : ℕ) (after : Tested) (s : Status) → HasCause asks before after s → s ≢ status.WriteFault
-unwritten asks before after s cause e = subst (HasCause asks before after) e cause
-
-pub unwritten_answer : (asks : Bool) (before : ℕ) (after : Tested) (result : Result Answer Cut)
-    → IfOk result (λ answer. HasCause asks before after answer.status)
-    → IfOk result (λ answer. answer.status ≢ status.WriteFault)
-unwritten_answer asks before after (Ok answer) cause = unwritten asks before after answer.status cause
-unwritten_answer asks before after (Err cut) cause = tt
-
-whole_answer : (met : Met) (asks : Bool) (before : ℕ) (after : Tested) (text : List ℕ) (s : Status)
-    → HasCause asks before after s → OutputOf met.given met.left s text → Appends met.before met.after text → Answers met s
-whole_answer met asks before after text status.ReadFault w o a = absurd w
-whole_answer met asks before after text status.WriteFault w o a = absurd w
-whole_answer met asks before after text status.NoMemory w o a = absurd w
-whole_answer met asks before after text status.ShelfFault w o a = absurd w
-whole_answer met asks before after text status.Done w o a = (text, o, a)
-whole_answer met asks before after text (status.Usage word) w o a = (text, o, a)
-whole_answer met asks before after text status.OnlySkipped w o a = (text, o, a)
-whole_answer met asks before after text status.MergeBaseBad w o a = (text, o, a)
-whole_answer met asks before after text status.GoodNotAncestor w o a = (text, o, a)
-whole_answer met asks before after text status.BothSides w o a = (text, o, a)
-whole_answer met asks before after text status.Aborted w o a = (text, o, a)
-whole_answer met asks before after text (status.StreamRefused line kind) w o a = (text, o, a)
-whole_answer met asks before after text (status.NameRefused word fault) w o a = (text, o, a)
-whole_answer met asks before after text (status.TooLarge what) w o a = (text, o, a)
-whole_answer met asks before after text (status.LogRefused line) w o a = (text, o, a)
-whole_answer met asks before after text (status.TestFault place) w o a = (text, o, a)
-whole_answer met asks before after text status.NoFile w o a = (text, o, a)
-whole_answer met asks before after text status.Waiting w o a = (text, o, a)
-whole_answer met asks before after text status.Unbuilt w o a = (text, o, a)
+-- the whole text of an output
+written_whole : (met : Met) (text : List ℕ) (s : Status) → s ≢ status.ReadFault → s ≢ status.ShelfFault → OutputOf met.given met.left s text
+    → Appends met.before met.after text → Answers met s
+written_whole met text status.ReadFault r f o a = absurd (r refl)
+written_whole met text status.ShelfFault r f o a = absurd (f refl)
+written_whole met text status.WriteFault r f o a = (text, inl (status.WriteFault, o), AppendsFront-all met.before met.after text a)
+written_whole met text status.NoMemory r f o a = inr (text, inl (status.NoMemory, o), AppendsFront-all met.before met.after text a)
+written_whole met text status.Done r f o a = (text, o, a)
+written_whole met text (status.Usage word) r f o a = (text, o, a)
+written_whole met text status.OnlySkipped r f o a = (text, o, a)
+written_whole met text status.MergeBaseBad r f o a = (text, o, a)
+written_whole met text status.GoodNotAncestor r f o a = (text, o, a)
+written_whole met text status.BothSides r f o a = (text, o, a)
+written_whole met text status.Aborted r f o a = (text, o, a)
+written_whole met text (status.StreamRefused line kind) r f o a = (text, o, a)
+written_whole met text (status.NameRefused word fault) r f o a = (text, o, a)
+written_whole met text (status.TooLarge what) r f o a = (text, o, a)
+written_whole met text (status.LogRefused line) r f o a = (text, o, a)
+written_whole met text (status.TestFault place) r f o a = (text, o, a)
+written_whole met text status.NoFile r f o a = (text, o, a)
+written_whole met text status.Waiting r f o a = (text, o, a)
 
 -- a front of a text that was due
 cut_answer : (met : Met) (text : List ℕ) (result : Status) → IsDue met text → (result ≡ status.WriteFault) ⊎ (result ≡ status.NoMemory)
@@ -75,30 +70,63 @@ cut_answer : (met : Met) (text : List ℕ) (result : Status) → IsDue met text 
 cut_answer met text result due (inl e) front = subst (Answers met) (sym e) (text, due, front)
 cut_answer met text result due (inr e) front = subst (Answers met) (sym e) (inr (text, due, front))
 
-written_answer : (met : Met) (asks : Bool) (before : ℕ) (after : Tested) (text : List ℕ) (s result : Status)
-    → HasCause asks before after s → OutputOf met.given met.left s text → IsWritten met.before met.after text s result → Answers met result
-written_answer met asks before after text s result w o (inl (e, a)) = subst (Answers met) (sym e) (whole_answer met asks before after text s w o a)
-written_answer met asks before after text s result w o (inr (e, front)) = cut_answer met text result (inl (s, o)) e front
+-- an output was written, or a front of it, or nothing
+written_output : (met : Met) (result : Status) → result ≢ status.ReadFault → result ≢ status.ShelfFault
+    → IsConcluded (λ told. IsOutput met.given met.left told) met.before met.after result → Answers met result
+written_output met result r f (inl (told, is, inl (e, all))) =
+    subst (Answers met) (sym e)
+    (written_whole met told.text told.status (λ k. r (e ∙ k)) (λ k. f (e ∙ k)) is all)
+written_output met result r f (inl (told, is, inr (cut, front))) = cut_answer met told.text result (inl (told.status, is)) cut front
+written_output met result r f (inr (e, kept)) = subst (Answers met) (sym e) (inl kept)
 
-written_fault : (met : Met) (result : Status) → IsUnread met
-    → IsTold met.before met.after (Err Read) result → Answers met result
-written_fault met result unread (inl (e, a)) = subst (Answers met) (sym e) (unread, a)
-written_fault met result unread (inr (e, front)) = cut_answer met _ result (inr (inl (unread, refl))) e front
+mapped : (Is Other : Told → Type 0) (before after : Option (List ℕ)) (result : Status) → ((told : Told) → Is told → Other told)
+    → IsConcluded Is before after result → IsConcluded Other before after result
+mapped Is Other before after result h (inl (told, is, written)) = inl (told, h told is, written)
+mapped Is Other before after result h (inr rest) = inr rest
 
-written_shelf : (met : Met) (result : Status) → IsUnloaded met
-    → IsTold met.before met.after (Err Shelf) result → Answers met result
-written_shelf met result unloaded (inl (e, a)) = subst (Answers met) (sym e) (unloaded, a)
-written_shelf met result unloaded (inr (e, front)) = cut_answer met _ result (inr (inr (unloaded, refl))) e front
+-- ---- the words ask for something
 
-pub answered : (met : Met) (asks : Bool) (before : ℕ) (after : Tested) (answer : Result Answer Cut) (result : Status)
-    → IfOk answer (λ a. OutputOf met.given met.left a.status a.text) → IfOk answer (λ a. HasCause asks before after a.status)
-    → (IsErrOf answer Read → IsUnread met) → (IsErrOf answer Shelf → IsUnloaded met) → IsTold met.before met.after answer result
-    → Answers met result
-answered met asks before after (Ok answer) result output whole unread unloaded told =
-    written_answer met asks before after answer.text answer.status result whole output told
-answered met asks before after (Err Read) result output whole unread unloaded told = written_fault met result (unread refl) told
-answered met asks before after (Err Shelf) result output whole unread unloaded told = written_shelf met result (unloaded refl) told
-answered met asks before after (Err NoMemory) result output whole unread unloaded (e, kept) = subst (Answers met) (sym e) (inl kept)
+module _ (met : Met) (request : Request) (result : Status) (read : asked.request met.given.words ≡ Ok request) where
+  is_output : (told : Told) → IsOutputOf request.verb request met.given met.left told → IsOutput met.given met.left told
+  is_output told is = subst (λ (r : Result Request ℕ). IsOutputFor r met.given met.left told) (sym read) is
+
+  pub unread : IsTrue (reads_stream request.verb) → HasFailed met.stream → IsUnread met
+  unread h failed = (subst (λ (r : Result Request ℕ). IsTrue (reads r)) (sym read) h, failed)
+
+  pub unloaded : IsTrue (is_some request.replay) → HasFailed met.shelf → IsUnloaded met
+  unloaded h failed = (subst (λ (r : Result Request ℕ). IsTrue (asks_file r)) (sym read) h, failed)
+
+  pub answered : (ready : Result Ready Cut)
+      → IfOk ready (λ r. AllTold request met.given.words r (λ tested told. IsOutputOf request.verb request (given_to met.given.words met.given.files tested) met.left told))
+      → (IsErrOf ready Read → IsUnread met) → (IsErrOf ready Shelf → IsUnloaded met)
+      → IfOk ready (λ _. (result ≢ status.ReadFault) × (result ≢ status.ShelfFault))
+      → Concludes request met.given.words met.given.tested ready met.before met.after result → Answers met result
+  answered (Ok ready) output no_read no_file own told =
+      written_output met result own.0 own.1
+      (mapped (Tells request met.given.words met.given.tested ready) (λ t. IsOutput met.given met.left t) met.before met.after result
+      (λ t is. is_output t (output met.given.tested t is)) told)
+  answered (Err Read) output is_unread no_file own (inl (e, a)) = subst (Answers met) (sym e) (is_unread refl, a)
+  answered (Err Read) output is_unread no_file own (inr (e, front)) = cut_answer met _ result (inr (inl (is_unread refl, refl))) e front
+  answered (Err Shelf) output no_read is_unloaded own (inl (e, a)) = subst (Answers met) (sym e) (is_unloaded refl, a)
+  answered (Err Shelf) output no_read is_unloaded own (inr (e, front)) = cut_answer met _ result (inr (inr (is_unloaded refl, refl))) e front
+  answered (Err NoMemory) output no_read no_file own (e, kept) = subst (Answers met) (sym e) (inl kept)
+
+-- ---- the words are refused
+
+pub refused_words : (met : Met) (fault : WordFault) (word : ℕ) (result : Status) → fault ≡ At word → asked.request met.given.words ≡ Err word
+    → result ≢ status.ReadFault → result ≢ status.ShelfFault → IsRefused fault met.before met.after result → Answers met result
+refused_words met fault word result is read r f refused =
+    written_output met result r f
+    (mapped (λ told. told ≡ usage word) (λ t. IsOutput met.given met.left t) met.before met.after result
+    (λ t same. subst (λ (q : Result Request ℕ). IsOutputFor q met.given met.left t) (sym read) same)
+    (subst (λ (x : WordFault). IsRefused x met.before met.after result) is refused))
+
+pub refused_any : (met : Met) (fault : WordFault) (result : Status) → asked.IsRead (asked.request met.given.words) (Err fault)
+    → (result ≢ status.ReadFault) × (result ≢ status.ShelfFault) → IsRefused fault met.before met.after result → Answers met result
+refused_any met (At word) result read own refused = refused_words met (At word) word result refl read own.0 own.1 refused
+refused_any met words.NoMemory result read own (e, kept) = subst (Answers met) (sym e) (inl kept)
+
+-- ---- causes
 
 -- a read fault is answered only where the source failed
 pub read_cause : (met : Met) (result : Status) → Answers met result → result ≡ status.ReadFault → HasFailed met.stream
@@ -107,27 +135,3 @@ read_cause met result answers e = (subst (Answers met) e answers).0.1
 -- a fault of the shelf is answered only where it failed
 pub shelf_cause : (met : Met) (result : Status) → Answers met result → result ≡ status.ShelfFault → HasFailed met.shelf
 shelf_cause met result answers e = (subst (Answers met) e answers).0.1
-
--- an answer has another status than a write that failed
-pub write_cause : (R : Type 0) (s : Status) → s ≢ status.WriteFault → (s ≡ status.WriteFault) ⊎ R → R
-write_cause R s whole (inl e) = absurd (whole e)
-write_cause R s whole (inr r) = r
-
-test_written : (asks : Bool) (old : ℕ) (new : Tested) (place : ℕ) (before after : Option (List ℕ)) (text : List ℕ) (s result : Status)
-    → (s ≡ status.TestFault place → IsFailedTest asks old new place) → IsWritten before after text s result
-    → result ≡ status.TestFault place → IsFailedTest asks old new place
-test_written asks old new place before after text s result cause (inl (e, a)) is = cause (sym e ∙ is)
-test_written asks old new place before after text s result cause (inr (inl e, front)) is = cc (sym e ∙ is)
-test_written asks old new place before after text s result cause (inr (inr e, front)) is = cc (sym e ∙ is)
-
--- a test fault is answered only where a test failed
-pub test_cause : (asks : Bool) (old : ℕ) (new : Tested) (place : ℕ) (before after : Option (List ℕ)) (answer : Result Answer Cut) (result : Status)
-    → IfOk answer (λ a. HasCause asks old new a.status) → IsTold before after answer result → result ≡ status.TestFault place
-    → IsFailedTest asks old new place
-test_cause asks old new place before after (Ok answer) result cause told is =
-    test_written asks old new place before after answer.text answer.status result (λ e. subst (HasCause asks old new) e cause) told is
-test_cause asks old new place before after (Err Read) result cause told is =
-    test_written asks old new place before after _ status.ReadFault result (λ e. cc e) told is
-test_cause asks old new place before after (Err Shelf) result cause told is =
-    test_written asks old new place before after _ status.ShelfFault result (λ e. cc e) told is
-test_cause asks old new place before after (Err NoMemory) result cause (e, kept) is = cc (sym e ∙ is)

@@ -1,4 +1,5 @@
 mod Answering
+mod Concluding
 mod Asking
 mod Ended
 mod Fronts
@@ -7,5 +8,4 @@ mod Importing
 mod Planning
 mod Running
 mod Skipping
-mod Testing
 mod Using

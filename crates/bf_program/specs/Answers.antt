@@ -7,6 +7,7 @@ use Rattle.bf_output.specs.declared.status.Status.TheVariants as status
 use Rattle.bf_output.specs.Output.{Given, IsOutput, asks_file, reads}
 use Rattle.bf_output.specs.Refusals.{file_fault, read_fault}
 use Rattle.bf_output.specs.Tested.{Tested}
+use Rattle.bf_shelf.specs.declared.shelf.ShelfFile.{ShelfFile}
 use Rattle.bf_words.specs.Words.{request}
 
 -- the faults that a device has counted before a call and after it
@@ -26,6 +27,9 @@ pub record Met : Type 0 where
   pub shelf : Counts
   pub before : Option (List ℕ)
   pub after : Option (List ℕ)
+
+abbrev pub given_to : List (List ℕ) → Option (List ShelfFile) → Tested → Given
+given_to words files tested = record { words = words; files = files; tested = tested }
 
 -- a status is answered with its text
 abbrev pub OutputOf : Given → Option (List ℕ) → Status → List ℕ → Type 0
@@ -81,7 +85,6 @@ Answers met (status.LogRefused line) = IsAnswered met (status.LogRefused line)
 Answers met (status.TestFault place) = IsAnswered met (status.TestFault place)
 Answers met status.NoFile = IsAnswered met status.NoFile
 Answers met status.Waiting = IsAnswered met status.Waiting
-Answers met status.Unbuilt = IsAnswered met status.Unbuilt
 
 -- an answer that no device cut short, and no test
 abbrev pub IsWhole : Status → Type 0
@@ -103,7 +106,6 @@ IsWhole (status.LogRefused line) = Unit {0}
 IsWhole (status.TestFault place) = ⊥
 IsWhole status.NoFile = Unit {0}
 IsWhole status.Waiting = Unit {0}
-IsWhole status.Unbuilt = Unit {0}
 
 -- the words ask for tests, the count of faults of the tester rose, and its latest failed test is that of the place
 pub record IsFailedTest (asks : Bool) (before : ℕ) (after : Tested) (place : ℕ) : Type 0 where
@@ -131,4 +133,3 @@ HasCause asks before after (status.TooLarge what) = Unit {0}
 HasCause asks before after (status.LogRefused line) = Unit {0}
 HasCause asks before after status.NoFile = Unit {0}
 HasCause asks before after status.Waiting = Unit {0}
-HasCause asks before after status.Unbuilt = Unit {0}

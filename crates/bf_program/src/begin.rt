@@ -58,7 +58,7 @@ pub(crate) fn between_ends(
         first_parent: request.first_parent,
         terms_given: request.terms.is_some(),
         bad,
-        goods: state.goods.try_clone()?,
+        goods: state.goods.to_places()?,
     })?;
     Ok(Beginning {
         state,

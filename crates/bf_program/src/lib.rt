@@ -5,23 +5,28 @@
 mod answer;
 mod begin;
 mod file;
+mod legs;
 mod line;
 mod made;
 mod named;
 mod next;
 mod plan;
+mod prepare;
+mod ready;
 mod refusals;
 mod replay;
-mod run;
 mod sample;
-mod simulate;
+mod search;
 mod skips;
 mod tell;
+mod telling;
 mod top;
+mod write;
 
 pub use bf_names::NameFault;
 pub use bf_output::{Status, StreamKind};
-pub use top::{bisect_main, say};
+pub use top::bisect_main;
+pub use write::say;
 
 #[cfg(test)]
 mod log_tests;

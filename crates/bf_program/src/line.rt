@@ -1,4 +1,4 @@
-//! Words, and lines of words that ask for something.
+//! Lines of words that ask for something.
 use bf_io::Word;
 use bf_words::Request;
 use std::alloc::Global;
@@ -8,12 +8,5 @@ use std::alloc::Global;
 pub(crate) struct Line<'a> {
     pub alloc: Global,
     pub request: &'a Request,
-    pub words: &'a [Word],
-}
-
-/// The words of the command line before they are read; and where the answer has its memory.
-#[derive(Clone, Copy)]
-pub(crate) struct Typed<'a> {
-    pub alloc: Global,
     pub words: &'a [Word],
 }

@@ -24,6 +24,7 @@ fn letters_of(words: &[Word], index: Option<u32>) -> &[u8]
 pub(crate) fn tester_of(alloc: Global, line: Line<'_>) -> Result<PlanTester, AllocError>
     requires plan { HasPlan line.request.now line.words.now }
     ensures told { IfOk result (λ tester. ⟦<PlanTester as Tester>⟧.told tester ≡ Some (simulate.plan_of line.entry.request.now line.entry.words.now)) }
+    ensures fresh { IfOk result (λ tester. ⟦<PlanTester as Tester>⟧.answers tester ≡ []) }
     ensures is_split { IfOk result (λ tester. ⟦<PlanTester as Tester>⟧.is_split tester ≡ false) }
 {
     let letters = letters_of(line.words, line.request.plan);

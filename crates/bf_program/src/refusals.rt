@@ -140,17 +140,6 @@ pub(crate) fn too_long(alloc: Global) -> Result<Answer, AllocError>
     })
 }
 
-/// The answer to words that ask for something that is not built yet.
-pub(crate) fn unbuilt(alloc: Global) -> Result<Answer, AllocError>
-    ensures tells { IfOk result (λ answer. told_of answer ≡ refusals.unbuilt) }
-    ensures whole { IfOk result (λ answer. IsWhole answer.status) }
-{
-    Ok(Answer {
-        status: Status::Unbuilt,
-        text: Bytes::from_slice(alloc, b"not built yet\n")?,
-    })
-}
-
 fn words_of_kind(kind: StreamKind) -> &'static [u8]
     ensures { result.now ≡ words.words_of_kind kind }
 {

@@ -166,8 +166,38 @@ struct Row {
     text: &'static [u8],
 }
 
-// Searches, each with its end. Past the end of the plan a test is skipped. Some are made by several workers.
-static SEARCHES: [Row; 10] = [
+// Searches, each with its end. Past the end of the plan a test is skipped. Some are made by several workers, or in
+// legs, and the trace of one worker tells the tests of the log.
+static SEARCHES: [Row; 12] = [
+    Row {
+        words: &[
+            b"simulate",
+            b"--leg",
+            b"2",
+            b"--workers",
+            b"8",
+            b"main",
+            b"main~7",
+            b"ggggbbbb",
+        ],
+        stream: EIGHT,
+        status: 0,
+        text: TESTED,
+    },
+    Row {
+        words: &[
+            b"simulate",
+            b"--trace",
+            b"--leg",
+            b"1",
+            b"main",
+            b"main~7",
+            b"ggggbbbb",
+        ],
+        stream: EIGHT,
+        status: 0,
+        text: TRACED,
+    },
     Row {
         words: &[b"simulate", b"refs/heads/main", b"refs/heads/old", b"ggbb"],
         stream: FIRST,
@@ -608,6 +638,19 @@ fn answers_are_flushed(rt: HostRuntime) -> Result<(), Fail> {
     Ok(())
 }
 
+// After each leg its lines are written and flushed: the write of the second leg, which is the third call, fails.
+#[test]
+fn legs_go_out(rt: HostRuntime) -> Result<(), Fail> {
+    let alloc = rt.alloc();
+    let words = SEARCHES[1].words;
+    let mut stream = MemSource::new(Bytes::from_slice(alloc, EIGHT)?, 65_536, Vec::new(alloc));
+    let mut out = MemSink::new(alloc, 65_536, [3].to_vec(alloc)?);
+    let status = run(&rt, alloc, words, &mut stream, &mut out)?;
+    assert_eq!(rt; status, Status::WriteFault);
+    assert_eq!(rt; out.bytes(), FIRST_LEG);
+    Ok(())
+}
+
 /// The status and the text of `run` by so many workers over the line of eight, where the tests of a place
 /// fail on a side.
 fn tested<R>(
@@ -658,6 +701,35 @@ git bisect bad 3dff7cbfbc1ec2409d1dc7dba41ba991437e56aa
 git bisect bad 271bb9a08b2d5aa03871aa65fdadc01c488fa408
 # first bad commit: [271bb9a08b2d5aa03871aa65fdadc01c488fa408] c4
 271bb9a08b2d5aa03871aa65fdadc01c488fa408 is the first bad commit
+";
+
+const TRACED: &[u8] = b"# bad: [38d7eeaa2c641133c0a59de3e3515352366303d6] c7
+# good: [56b29d9c130e2ec4b506a48d4fe5a18d92d8d1e3] c0
+git bisect start '38d7eeaa2c641133c0a59de3e3515352366303d6' '56b29d9c130e2ec4b506a48d4fe5a18d92d8d1e3'
+# good: [771edca49728d8c78d5b371976ec2debc7c92b35] c3
+git bisect good 771edca49728d8c78d5b371976ec2debc7c92b35
+# bad: [3dff7cbfbc1ec2409d1dc7dba41ba991437e56aa] c5
+git bisect bad 3dff7cbfbc1ec2409d1dc7dba41ba991437e56aa
+# bad: [271bb9a08b2d5aa03871aa65fdadc01c488fa408] c4
+git bisect bad 271bb9a08b2d5aa03871aa65fdadc01c488fa408
+# first bad commit: [271bb9a08b2d5aa03871aa65fdadc01c488fa408] c4
+271bb9a08b2d5aa03871aa65fdadc01c488fa408 is the first bad commit
+claim 0 771edca49728d8c78d5b371976ec2debc7c92b35
+post 0 771edca49728d8c78d5b371976ec2debc7c92b35 exit 0
+leg
+claim 0 3dff7cbfbc1ec2409d1dc7dba41ba991437e56aa
+post 0 3dff7cbfbc1ec2409d1dc7dba41ba991437e56aa exit 1
+leg
+claim 0 271bb9a08b2d5aa03871aa65fdadc01c488fa408
+post 0 271bb9a08b2d5aa03871aa65fdadc01c488fa408 exit 1
+leg
+";
+
+const FIRST_LEG: &[u8] = b"# bad: [38d7eeaa2c641133c0a59de3e3515352366303d6] c7
+# good: [56b29d9c130e2ec4b506a48d4fe5a18d92d8d1e3] c0
+git bisect start '38d7eeaa2c641133c0a59de3e3515352366303d6' '56b29d9c130e2ec4b506a48d4fe5a18d92d8d1e3'
+# good: [771edca49728d8c78d5b371976ec2debc7c92b35] c3
+git bisect good 771edca49728d8c78d5b371976ec2debc7c92b35
 ";
 
 const FAILED: &[u8] = b"# bad: [38d7eeaa2c641133c0a59de3e3515352366303d6] c7

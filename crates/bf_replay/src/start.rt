@@ -129,7 +129,7 @@ fn begin(
         first_parent: start.first_parent,
         terms_given: start.names_terms(),
         bad,
-        goods: state.goods.try_clone()?,
+        goods: state.goods.to_places()?,
     })?;
     Ok(Replayed { state, entries })
 }

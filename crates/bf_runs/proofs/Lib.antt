@@ -1,2 +1,3 @@
-pub mod Following
+pub mod Fresh
 pub mod Ran
+pub mod Sequences

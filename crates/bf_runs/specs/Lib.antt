@@ -1,1 +1,3 @@
-pub mod OverPlans
+pub mod Legs
+pub mod Courses
+pub mod Within

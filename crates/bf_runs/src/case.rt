@@ -1,15 +1,12 @@
 //! A search over a history, whose commits are tested.
 ghost use Rattle.std.specs.Prelude.{◌≡◌, ◌≤◌, ◌++◌, false, length, IfOk};
-ghost use Rattle.bf_farm.specs.Answering.{IsReport, IsSoundReport, HasHistory, HasFault, IsAlone, setting_at, lacking};
+ghost use Rattle.bf_farm.specs.Answering.{IsReport, IsSoundReport, HasHistory, HasFault, IsAlone, lacking, setting_at};
 ghost use Rattle.bf_farm.specs.Reports.{manner_by, TableIn, TableFollows};
 ghost use Rattle.bf_guesses.specs.Ends.{HasEnds};
-ghost use Rattle.std.specs.Prelude.{replicate, None};
 
 use bf_farm::{Case, Report, run_alone, run_farm};
 use bf_import::History;
 use bf_reach::Reach;
-use bf_spec::Table;
-use bf_state::State;
 use bf_tester::{Host, Tester};
 use std::alloc::{AllocError, Global};
 
@@ -46,6 +43,7 @@ pub fn run_case<R: Host, T: Tester>(
     ensures history { IfOk result (HasHistory (setting_at case.entry.reach.now case.entry.state case.entry.leg) case.entry.table) }
     ensures sound { IfOk result (IsSoundReport (T.told tester.old) case.entry.names.now (T.answers tester.new)) }
     ensures fault { IfOk result (HasFault (T.faults tester.old) (T.faults tester.new) (T.failed tester.new)) }
+    ensures later { T.faults tester.old ≤ T.faults tester.new }
     ensures alone { workers ≤ 1 → IfOk result IsAlone }
     ensures lacking { workers ≤ 1 → IfOk result (λ report. T.answers tester.new ≡ T.answers tester.old ++ lacking case.entry.table report.used.items) }
     ensures manner { manner_by T.told T.command T.is_lenient T.grounds T.recalled tester.new ≡ manner_by T.told T.command T.is_lenient T.grounds T.recalled tester.old }
@@ -56,37 +54,4 @@ pub fn run_case<R: Host, T: Tester>(
     } else {
         run_alone(rt, alloc, case, tester)
     }
-}
-
-/// Tests what a search asks for, until it has ended or a test fails. No outcome is known before.
-pub fn test_all<R: Host, T: Tester>(
-    rt: &R,
-    alloc: Global,
-    search: Search<'_>,
-    state: State,
-    tester: &mut T,
-) -> Result<Report, AllocError>
-    requires reach { search.reach.now ≡ search.history.now.parents }
-    requires len { state.len ≡ length search.history.now.parents }
-    requires ends { HasEnds state.search }
-    requires is_split { T.is_split tester.old ≡ false }
-    ensures report { IfOk result (IsReport (setting_at search.entry.reach.now state search.entry.leg) state search.entry.history.now.names) }
-    ensures history { IfOk result (HasHistory (setting_at search.entry.reach.now state search.entry.leg) (replicate state.len None)) }
-    ensures sound { IfOk result (IsSoundReport (T.told tester.old) search.entry.history.now.names (T.answers tester.new)) }
-    ensures fault { IfOk result (HasFault (T.faults tester.old) (T.faults tester.new) (T.failed tester.new)) }
-    ensures alone { search.entry.workers ≤ 1 → IfOk result IsAlone }
-    ensures tested { search.entry.workers ≤ 1 → IfOk result (λ report. T.answers tester.new ≡ T.answers tester.old ++ report.used.items) }
-    ensures manner { manner_by T.told T.command T.is_lenient T.grounds T.recalled tester.new ≡ manner_by T.told T.command T.is_lenient T.grounds T.recalled tester.old }
-    ensures is_split { T.is_split tester.new ≡ false }
-{
-    let table = Table::new(alloc, search.history.len())?;
-    let case = Case {
-        reach: search.reach,
-        names: search.history.names(),
-        state,
-        table,
-        leg: search.leg,
-    };
-    let report = run_case(rt, alloc, case, search.workers, tester)?;
-    Ok(report)
 }

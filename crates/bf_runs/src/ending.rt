@@ -1,6 +1,7 @@
 //! The end of a run as it is told.
-ghost use Rattle.std.specs.Prelude.{◌≡◌, IfOk, IfErr};
+ghost use Rattle.std.specs.Prelude.{◌≡◌, ℕ, IfOk, IfErr};
 ghost use Rattle.bf_alone.specs.Rest.{ending_of};
+ghost use Rattle.bf_runs.specs.Within.{IsEndingWithin, IsToldWithin};
 ghost use Rattle.bf_search.specs.declared.farm.Ending.TheVariants.{TestFault};
 ghost use Rattle.bf_search.specs.Farm.{end_of};
 
@@ -11,6 +12,7 @@ use bf_search::{Ask, Ending};
 pub fn told_end(ending: Ending) -> Result<alone::Ending, u32>
     ensures ended { IfOk result (λ end. ending_of end ≡ end_of ending) }
     ensures failed { IfErr result (λ place. ending ≡ TestFault place) }
+    ensures within { (len : ℕ) → IsEndingWithin len ending → IsToldWithin len result }
 {
     match ending {
         Ending::FirstBad(place) => Ok(alone::Ending::Answered(Ask::FirstBad(place))),

@@ -1,11 +1,11 @@
-//! Runs of a search over a history: its commits are tested one at a time or by several workers at once.
-//! Over a plan the run is that of the plan, for every number of workers.
+//! Runs of a search over a history, leg by leg: its commits are tested one at a time or by several workers at once.
+//! The runs of all legs are, in sequence, the run without legs, for every number of workers.
 #![tactic(auto)]
 
 mod case;
 mod ending;
-mod planned;
+mod legs;
 
-pub use case::{Search, run_case, test_all};
+pub use case::{Search, run_case};
 pub use ending::told_end;
-pub use planned::{Planned, run_planned};
+pub use legs::{Standing, run_leg};

@@ -16,6 +16,7 @@ use Rattle.bf_state.proofs.AskAgain.{ask_again}
 use Rattle.bf_spec.specs.declared.node.Node.{Node}
 use Rattle.bf_guesses.specs.Ends.{HasEnds}
 use Rattle.bf_spec.specs.Guessed.{marked_by, next_asked, asked_at, IsSettled}
+use Rattle.bf_spec.specs.Sights.{IsSight}
 use Rattle.bf_spec.specs.Nodes.{path_of, asked_of, HasPath, IsNode, IsChild, AreNodes, StaysTree, Grows, Extends}
 
 -- ---- paths
@@ -108,7 +109,7 @@ tree_push graph nodes parent child m among is = λ session root t.
       each = All-push (IsNode graph session root) nodes child t.each (record {
         asked = is.asked ∙ ap (λ (a : Asked). next_asked graph a m) here.asked ∙ sym (asked_at-append graph root (path_of parent) (m ∷ [])) ∙ ap (λ (p : List Mark). asked_at graph root p) (sym is.path);
         session = is.session ∙ ap (λ (s : Session). with_search s child.state.search) here.session;
-        mask = is.mask;
+        sight = is.sight;
         below = is.below;
         ends = subst (λ (a : Asked). HasEnds a.search) (sym is.asked) (ends_next graph (asked_of parent) m here.ends);
       });
@@ -126,6 +127,10 @@ asked_within graph nodes node p t among h =
     let here : IsNode graph t.session t.root node = All-contains (IsNode graph t.session t.root) nodes node t.tree.each among in
     let settled : IsSettled graph (asked_of node) = subst (λ (a : Asked). IsSettled graph a) (sym here.asked) (settled_at graph t.root (path_of node) t.tree.settled) in
     (asking graph node.state.search p t.tree.parents (settled.step ∙ h)).asks_for.within
+
+-- what a node has in sight are its candidates
+pub sight_of : (graph : List (List ℕ)) (nodes : List Node) (node : Node) → AreNodes graph nodes → Contains nodes node → IsSight graph node.state.search node.sight
+sight_of graph nodes node t among = (All-contains (IsNode graph t.session t.root) nodes node t.tree.each among).sight
 
 -- ---- lists of nodes that grow
 

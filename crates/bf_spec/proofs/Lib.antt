@@ -4,3 +4,4 @@ pub mod Rerooting
 pub mod Asking
 pub mod Following
 pub mod Halting
+pub mod Sights

@@ -14,7 +14,9 @@ use Rattle.bf_state.specs.Session.{Session, with_search, IsSearchBelow}
 use Rattle.bf_state.proofs.AskAgain.{ask_again}
 use Rattle.bf_spec.specs.declared.node.Node.{Node}
 use Rattle.bf_guesses.specs.Ends.{HasEnds}
-use Rattle.bf_spec.specs.Guessed.{next_asked, asked_at, IsSettled, mask_of}
+use Rattle.bf_spec.specs.Guessed.{next_asked, asked_at, IsSettled}
+use Rattle.bf_spec.specs.Sights.{IsSight}
+use Rattle.bf_spec.specs.declared.node.Sight.{Sight}
 use Rattle.bf_spec.specs.Nodes.{path_of, asked_of, HasPath, IsNode, IsChild, IsTree, Extends, IsFound}
 use Rattle.bf_spec.specs.Reroot.{is_mark, begins, IsCut}
 use Rattle.bf_search.specs.OpenPaths.{OpenPath, place_of}
@@ -82,8 +84,11 @@ begins_long (m ∷ ms) (n ∷ ns) h = omega (arith, begins_long ms ns (and_parts
 
 -- The nodes are those whose paths begin with some marks, each without them.
 pub record IsKept (prefix : List Mark) (old new : List Node) : Type 0 where
-  pub each : (node : Node) → Contains new node → (before : Node) × Contains old before × (path_of before ≡ prefix ++ path_of node) × (asked_of node ≡ asked_of before) × (node.state ≡ before.state) × (node.mask ≡ before.mask)
+  pub each : (node : Node) → Contains new node → (before : Node) × Contains old before × (path_of before ≡ prefix ++ path_of node) × (asked_of node ≡ asked_of before) × (node.state ≡ before.state) × (node.sight ≡ before.sight)
   pub all : (path : List Mark) → HasPath old (prefix ++ path) → HasPath new path
+
+sight_as : (graph : List (List ℕ)) (one other : Node) → one.state ≡ other.state → one.sight ≡ other.sight → IsSight graph one.state.search one.sight → IsSight graph other.state.search other.sight
+sight_as graph one other h k is = subst (λ (x : Sight). IsSight graph other.state.search x) k (subst (λ (s : Session). IsSight graph s.search one.sight) h is)
 
 asked_same : (one other : Node) → one.state ≡ other.state → one.step ≡ other.step → asked_of one ≡ asked_of other
 asked_same one other h k = ap (λ s. record { search = s.search; step = one.step }) h ∙ ap (λ st. record { search = other.state.search; step = st }) k
@@ -100,7 +105,7 @@ kept_by prefix old between new is len cut = record {
         begins_as prefix (path_of (get_or between c.0 node)) from.1 ∙ ap (λ (p : List Mark). prefix ++ p) (sym k.path ∙ ap path_of c.2),
         asked_same node (get_or between c.0 node) (ap (λ (n : Node). n.state) (sym c.2) ∙ k.state) (ap (λ (n : Node). n.step) (sym c.2) ∙ k.step),
         ap (λ (n : Node). n.state) (sym c.2) ∙ k.state,
-        ap (λ (n : Node). n.mask) (sym c.2) ∙ k.mask,
+        ap (λ (n : Node). n.sight) (sym c.2) ∙ k.sight,
       );
   all = λ path h.
       let in_between : Contains between h.node = subst (λ (xs : List Node). Contains xs h.node) (sym is) (filter_has (λ n. begins prefix (path_of n)) old h.node h.among (ap (λ (p : List Mark). begins prefix p) h.has ∙ begins_more prefix path)) in
@@ -130,7 +135,7 @@ kept_tree graph session root prefix old new k child t = record {
       record {
         asked = from.3 ∙ was.asked ∙ ap (λ (p : List Mark). asked_at graph root p) from.2 ∙ asked_at-append graph root prefix (path_of node);
         session = from.4 ∙ was.session ∙ ap (λ (s : Session). with_search session s.search) (sym from.4);
-        mask = from.5 ∙ was.mask ∙ ap (λ (s : Session). mask_of graph s.search) (sym from.4);
+        sight = sight_as graph from.0 node (sym from.4) (sym from.5) was.sight;
         below = subst (λ (s : Session). IsSearchBelow (length graph) s.search) (sym from.4) was.below;
         ends = subst (λ (s : Session). HasEnds s.search) (sym from.4) was.ends;
       };
@@ -206,7 +211,7 @@ rooted_as graph session root nodes t =
       rooted = t.rooted;
       each = λ i d l.
           let is : IsNode graph session root (get_or nodes i d) = t.each i d l in
-          record { asked = is.asked; session = is.session; mask = is.mask; below = is.below; ends = is.ends };
+          record { asked = is.asked; session = is.session; sight = is.sight; below = is.below; ends = is.ends };
       closed = t.closed;
     })
 
@@ -241,13 +246,13 @@ prefix_has graph session root nodes begin (m ∷ ms) t h =
 
 -- the nodes of a tree with one node
 pub one_tree : (graph : List (List ℕ)) (session : Session) (root : Asked) (node : Node) → IsGraph graph → session.len ≡ length graph → IsSettled graph root → path_of node ≡ [] → asked_of node ≡ root
-    → node.state ≡ with_search session node.state.search → node.mask ≡ mask_of graph node.state.search → IsSearchBelow (length graph) node.state.search → HasEnds node.state.search → IsTree graph session root (node ∷ [])
-one_tree graph session root node g len settled path asked is mask below ends = record {
+    → node.state ≡ with_search session node.state.search → IsSight graph node.state.search node.sight → IsSearchBelow (length graph) node.state.search → HasEnds node.state.search → IsTree graph session root (node ∷ [])
+one_tree graph session root node g len settled path asked is sight below ends = record {
   parents = g;
   len = len;
   settled = settled;
   rooted = record { node = node; among = (0, omega arith, refl); has = path };
-  each = only (record { asked = asked ∙ ap (λ (p : List Mark). asked_at graph root p) (sym path); session = is; mask = mask; below = below; ends = ends });
+  each = only (record { asked = asked ∙ ap (λ (p : List Mark). asked_at graph root p) (sym path); session = is; sight = sight; below = below; ends = ends });
   closed = λ p m h. absurd (snoc_some p m (sym h.has ∙ ap path_of (sym (alone h.node h.among)) ∙ path));
 }
   where
@@ -304,12 +309,12 @@ asks_at graph session root nodes i d p t found h =
     ap (λ (a : Asked). a.step.ask) (root_node graph session root nodes (get_or nodes i d) t (Contains-get_or nodes i d found.0) (found.1 d)) ∙ h
 
 pub moved_tree : (graph : List (List ℕ)) (nodes : List Node) (i : ℕ) (node child new : Node) (m : Mark) → (i < length nodes) × ((e : Node) → path_of (get_or nodes i e) ≡ []) → node ≡ get_or nodes i node → IsChild graph node m child
-    → path_of new ≡ [] → new.state ≡ child.state → new.step ≡ child.step → new.mask ≡ child.mask → (session : Session) (root : Asked) → IsTree graph session root nodes → IsTree graph session (next_asked graph root m) (new ∷ [])
-moved_tree graph nodes i node child new m found read is path state step mask session root t =
+    → path_of new ≡ [] → new.state ≡ child.state → new.step ≡ child.step → new.sight ≡ child.sight → (session : Session) (root : Asked) → IsTree graph session root nodes → IsTree graph session (next_asked graph root m) (new ∷ [])
+moved_tree graph nodes i node child new m found read is path state step sight session root t =
     one_tree graph session (next_asked graph root m) new t.parents t.len (settled_child graph root m t.settled) path
     (asked_same new child state step ∙ is.asked ∙ ap (λ (a : Asked). next_asked graph a m) (root_node graph session root nodes node t among (ap path_of read ∙ found.1 node)))
     (state ∙ is.session ∙ ap (λ (s : Session). with_search s child.state.search) here.session ∙ ap (λ (s : Session). with_search session s.search) (sym state))
-    (mask ∙ is.mask ∙ ap (λ (s : Session). mask_of graph s.search) (sym state))
+    (sight_as graph child new (sym state) (sym sight) is.sight)
     (subst (λ (s : Session). IsSearchBelow (length graph) s.search) (sym state) is.below)
     (subst (λ (s : Session). HasEnds s.search) (sym state) (subst (λ (a : Asked). HasEnds a.search) (sym is.asked) (ends_next graph (asked_of node) m here.ends)))
   where

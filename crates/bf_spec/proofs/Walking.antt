@@ -32,7 +32,9 @@ use Rattle.bf_spec.specs.declared.node.Node.{Node}
 use Rattle.bf_spec.specs.declared.walk.Found.{Found}
 use Rattle.bf_spec.specs.declared.walk.Look.{Look}
 use Rattle.bf_spec.specs.declared.walk.Look.TheVariants.{Ended, Free, Known, Guess}
-use Rattle.bf_spec.specs.Guessed.{marked_by, next_asked, asked_at, IsSettled, row_below, mask_of, prefixed, look_of, look_of_outcome, look_of_verdict}
+use Rattle.std.specs.Arc.{arc_value}
+use Rattle.bf_state.specs.Weighed.{row_below, mask_of}
+use Rattle.bf_spec.specs.Guessed.{marked_by, next_asked, asked_at, IsSettled, prefixed, look_of, look_of_outcome, look_of_verdict}
 use Rattle.bf_spec.specs.Nodes.{path_of, asked_of, IsNode, AreNodes, Extends, left_below, left_at, best_at, IsFound, wins, better_found}
 use Rattle.bf_spec.proofs.Growing.{asked_at-append, settled_at, extends_nodes, extends_length, extends_at, extends_has, extends_trans, read_as}
 
@@ -374,7 +376,7 @@ count_mask graph s = by_bad s.bad
     by_bad (Some bad) = count_map (λ p. is_candidate graph bad s.goods s.first_parent p) (places graph)
 
 pub free_found : (graph : List (List ℕ)) (nodes : List Node) (i p : ℕ) (one two : Node) (left depth : ℕ) (best : Option OpenPath) → AreNodes graph nodes → i < length nodes → one ≡ get_or nodes i one → two ≡ get_or nodes i two
-    → left ≡ count_by (λ (v : Bool). v) one.mask → depth ≡ length (path_of two)
+    → left ≡ count_by (λ (v : Bool). v) (arc_value one.sight.mask) → depth ≡ length (path_of two)
     → ((d : Node) → best ≡ Some (record { marks = path_of (get_or nodes i d); place = p; left = left_of graph (get_or nodes i d).state.search }))
     → IsFound nodes (Some (record { place = p; left = left; depth = depth })) best
 free_found graph nodes i p one two left depth best t l e f is_left is_depth h =
@@ -382,4 +384,4 @@ free_found graph nodes i p one two left depth best t l e f is_left is_depth h =
     let same : two ≡ one = f ∙ read_as nodes i one two l e in
     subst (λ (x : Option OpenPath). IsFound nodes (Some (record { place = p; left = left; depth = depth })) x)
     (sym (h one ∙ ap (λ (n : Node). Some (record { marks = path_of n; place = p; left = left_of graph n.state.search })) (sym e)))
-    (refl, is_left ∙ ap (λ (row : List Bool). count_by (λ (v : Bool). v) row) here.mask ∙ count_mask graph one.state.search, is_depth ∙ ap (λ (n : Node). length (path_of n)) same, record { node = one; among = (i, l, sym e); has = refl })
+    (refl, is_left ∙ ap (λ (row : List Bool). count_by (λ (v : Bool). v) row) here.sight.mask ∙ count_mask graph one.state.search, is_depth ∙ ap (λ (n : Node). length (path_of n)) same, record { node = one; among = (i, l, sym e); has = refl })

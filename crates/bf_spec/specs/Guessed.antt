@@ -1,12 +1,11 @@
 -- Searches at the ends of paths.
-use Rattle.std.specs.Prelude.{◌≡◌, ℕ, Bool, false, if◌then◌else◌, List, [], ◌∷◌, ◌++◌, length, replicate, Option, Some, None}
+use Rattle.std.specs.Prelude.{◌≡◌, ℕ, if◌then◌else◌, List, [], ◌∷◌, ◌++◌, Option, Some, None}
 use Rattle.bf_search.specs.declared.asks.Ask.{Ask}
 use Rattle.bf_search.specs.declared.asks.Ask.TheVariants.{Test}
 use Rattle.bf_search.specs.declared.outcomes.Mark.{Mark}
 use Rattle.bf_search.specs.declared.outcomes.Outcome.{Outcome}
 use Rattle.bf_search.specs.declared.outcomes.Verdict.{Verdict}
 use Rattle.bf_search.specs.declared.outcomes.Verdict.TheVariants.{Mark as MarkOf, Abort}
-use Rattle.bf_search.specs.Candidates.{candidate_row}
 use Rattle.bf_search.specs.Outcomes.{Outcomes, verdict_of}
 use Rattle.bf_search.specs.State.{Search, Asked, ask, mark}
 use Rattle.bf_search.specs.declared.farm.Claim.{Claim}
@@ -33,14 +32,6 @@ pub record IsSettled (graph : List (List ℕ)) (a : Asked) : Type 0 where
   pub search : (ask graph a.search).search ≡ a.search
   pub step : (ask graph a.search).step.ask ≡ a.step.ask
   pub warned : (ask graph a.search).step.warned ≡ []
-
-abbrev pub row_below : List (List ℕ) → Option ℕ → Search → List Bool
-row_below graph None s = replicate (length graph) false
-row_below graph (Some bad) s = candidate_row graph bad s.goods s.first_parent
-
--- the candidates of a search, by place
-abbrev pub mask_of : List (List ℕ) → Search → List Bool
-mask_of graph s = row_below graph s.bad s
 
 -- a path behind these marks
 abbrev pub prefixed : List Mark → Option OpenPath → Option OpenPath

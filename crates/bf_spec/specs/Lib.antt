@@ -5,3 +5,4 @@ pub mod Tree
 pub mod Paths
 pub mod Ways
 pub mod Walks
+pub mod Sights

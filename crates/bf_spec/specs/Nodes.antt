@@ -15,7 +15,8 @@ use Rattle.bf_spec.specs.declared.walk.Stop.{Stop}
 use Rattle.bf_spec.specs.declared.walk.Stop.TheVariants.{Ended, Free, Guess}
 use Rattle.bf_spec.specs.declared.walk.Look.TheVariants.{Guess as LookGuess}
 use Rattle.bf_guesses.specs.Ends.{HasEnds}
-use Rattle.bf_spec.specs.Guessed.{next_asked, asked_at, IsSettled, mask_of, prefixed, look_of}
+use Rattle.bf_spec.specs.Guessed.{next_asked, asked_at, IsSettled, prefixed, look_of}
+use Rattle.bf_spec.specs.Sights.{IsSight}
 
 abbrev pub path_of : Node → List Mark
 path_of node = node.path.items
@@ -29,11 +30,11 @@ pub record HasPath (nodes : List Node) (path : List Mark) : Type 0 where
   pub among : Contains nodes node
   pub has : path_of node ≡ path
 
--- The rule of a node: what it asked is what is asked at the end of its path, and its mask has the candidates there.
+-- The rule of a node: what it asked is what is asked at the end of its path, and what it has in sight are the candidates there.
 pub record IsNode (graph : List (List ℕ)) (base : Session) (root : Asked) (node : Node) : Type 0 where
   pub asked : asked_of node ≡ asked_at graph root (path_of node)
   pub session : node.state ≡ with_search base node.state.search
-  pub mask : node.mask ≡ mask_of graph node.state.search
+  pub sight : IsSight graph node.state.search node.sight
   pub below : IsSearchBelow (length graph) node.state.search
   pub ends : HasEnds node.state.search
 
@@ -42,7 +43,7 @@ pub record IsChild (graph : List (List ℕ)) (parent : Node) (m : Mark) (child :
   pub path : path_of child ≡ path_of parent ++ m ∷ []
   pub asked : asked_of child ≡ next_asked graph (asked_of parent) m
   pub session : child.state ≡ with_search parent.state child.state.search
-  pub mask : child.mask ≡ mask_of graph child.state.search
+  pub sight : IsSight graph child.state.search child.sight
   pub below : IsSearchBelow (length graph) child.state.search
 
 -- The nodes of a tree: the first is the root, each follows the rule, and before each stands the one that it follows.

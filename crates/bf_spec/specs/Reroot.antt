@@ -22,4 +22,4 @@ pub record IsCut (count : ℕ) (old new : Node) : Type 0 where
   pub path : path_of new ≡ drop count (path_of old)
   pub state : new.state ≡ old.state
   pub step : new.step ≡ old.step
-  pub mask : new.mask ≡ old.mask
+  pub sight : new.sight ≡ old.sight

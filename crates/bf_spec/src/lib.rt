@@ -3,6 +3,7 @@
 
 mod asked;
 mod follow;
+mod grow;
 mod node;
 mod reroot;
 mod table;

@@ -19,10 +19,11 @@ ghost use Rattle.bf_spec.specs.Tree.{Guesses, HasNode, run_of, paths_of, root_of
 
 use crate::asked::is_asked_from;
 use crate::follow::{Walked, run_from};
+use crate::grow::{first, grown};
 use crate::node::Node;
 use crate::reroot::reroot;
 use crate::table::Table;
-use crate::walk::{Found, best_from, find, first, grown};
+use crate::walk::{Found, best_from, find};
 use bf_reach::Reach;
 use bf_search::{Ask, Claim, Mark, Step};
 use bf_state::State;

@@ -7,17 +7,15 @@ ghost use Rattle.bf_search.specs.State.{Asked, ask};
 ghost use Rattle.bf_state.specs.Session.{Session};
 ghost use Rattle.bf_search.specs.OpenPaths.{is_claimed};
 ghost use Rattle.bf_guesses.specs.Ends.{HasEnds};
-ghost use Rattle.bf_spec.specs.Guessed.{mask_of, look_of};
+ghost use Rattle.bf_spec.specs.Guessed.{look_of};
 ghost use Rattle.bf_spec.specs.Nodes as nodes_;
 ghost use Rattle.bf_spec.specs.declared.node.Node.{Node as NodeValue};
 
+use crate::grow::grown;
 use crate::node::Node;
 use crate::table::Table;
-use bf_cands::candidates;
 use bf_reach::Reach;
-use bf_rows::Row;
 use bf_search::{Ask, Claim, Mark, Verdict};
-use bf_state::State;
 use bf_terms::verdict_of;
 use std::alloc::{AllocError, Global};
 
@@ -70,70 +68,6 @@ pub(crate) fn find(nodes: &[Node], path: &[Mark]) -> Option<usize>
         }
     }
     None
-}
-
-/// The candidates of a search.
-fn mask_of(alloc: Global, reach: &Reach, state: &State) -> Result<Row, AllocError>
-    requires { length reach.now ≡ state.now.len }
-    ensures { IfOk result (λ mask. mask ≡ mask_of reach.now state.now.search) }
-{
-    prove!(state.len() == reach.len());
-    match state.bad {
-        None => Row::new(alloc, reach.len()),
-        Some(bad) => candidates(
-            alloc,
-            reach,
-            bad,
-            state.goods.as_slice(),
-            state.first_parent,
-        ),
-    }
-}
-
-/// The root of a tree: a search that asks.
-pub(crate) fn first(alloc: Global, reach: &Reach, mut state: State) -> Result<Node, AllocError>
-    requires len { length reach.now ≡ state.len }
-    requires ends { HasEnds state.search }
-    ensures tree { IfOk result (λ node. nodes_.IsTree reach.now state (ask reach.now state.search) (node ∷ [])) }
-    ensures path { IfOk result (λ node. nodes_.path_of node ≡ []) }
-{
-    let step = state.advance(reach)?;
-    prove!(state.len() == reach.len());
-    let mask = mask_of(alloc, reach, &state)?;
-    Ok(Node {
-        path: Vec::new(alloc),
-        state,
-        step,
-        mask,
-    })
-}
-
-/// The node that follows another by one mark of the place that it asks.
-pub(crate) fn grown(
-    alloc: Global,
-    reach: &Reach,
-    parent: &Node,
-    mark: Mark,
-    place: u32,
-) -> Result<Node, AllocError>
-    requires len { length reach.now ≡ parent.now.state.len }
-    requires asks { parent.now.step.ask ≡ Test place }
-    requires below { place < length reach.now }
-    ensures { IfOk result (λ child. nodes_.IsChild reach.now parent.now mark child) }
-{
-    let mut state = parent.state.try_clone()?;
-    state.mark(mark, place)?;
-    let step = state.advance(reach)?;
-    prove!(state.len() == reach.len());
-    let candidates_there = mask_of(alloc, reach, &state)?;
-    let mut path = Vec::from_slice(alloc, parent.path.as_slice())?;
-    path.push(mark)?;
-    Ok(Node {
-        path,
-        state,
-        step,
-        mask: candidates_there,
-    })
 }
 
 fn is_claimed(claims: &[Claim], place: u32) -> bool
@@ -250,7 +184,7 @@ pub(crate) fn best_from(
         Stop::Ended => Ok(None),
         Stop::Free(index, place) => Ok(Some(Found {
             place,
-            left: nodes[index].mask.count(),
+            left: nodes[index].sight.mask.count(),
             depth: nodes[index].path.as_slice().len(),
         })),
         Stop::Guess(index, place) => {

@@ -8,3 +8,4 @@ pub mod Tables
 pub mod Parted
 pub mod Within
 pub mod Passing
+pub mod Ranks

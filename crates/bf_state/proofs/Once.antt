@@ -1,14 +1,13 @@
 -- Lemmas on lists of good places, each of which stands there once.
-use Rattle.std.proofs.Common.{◌≡◌, ◌≢◌, ℕ, ◌<◌, Bool, true, false, ◌||◌, ◌==◌, List, [], ◌∷◌, ◌++◌, length, get_or, set, refl, ap, sym, ◌∙◌, subst, ⊎_elim, eq-eqb}
-use Rattle.std.proofs.lemmas.Bool.{cases_Bool, cases_eq, cond-true, cond-false, both_ways, ne_eqb}
-use Rattle.std.proofs.lemmas.List.{get_or-set_same, get_or-set_other, get_or_default}
+use Rattle.std.proofs.Common.{◌≡◌, ◌≢◌, ℕ, ◌<◌, Bool, true, false, ◌||◌, ◌==◌, List, [], ◌∷◌, ◌++◌, length, get_or, refl, ap, sym, ◌∙◌, subst, ⊎_elim, eq-eqb}
+use Rattle.std.proofs.lemmas.Bool.{cases_Bool, cond-true, cond-false, both_ways}
+use Rattle.std.proofs.lemmas.List.{get_or_default}
 use Rattle.std.proofs.lemmas.List.Elements.{All-push, All-head, All-tail}
 use Rattle.std.proofs.lemmas.List.Folds.{list_any-append}
 use Rattle.std.proofs.lemmas.List.Quantifiers.{all_pairs_push}
 use Rattle.std.specs.List.{All, AllPairs}
 use Rattle.bf_texts.specs.Texts.{with_good, with_goods}
 use Rattle.bf_search.specs.Bases.{has_place}
-use Rattle.bf_search.specs.Candidates.{is_in}
 use Rattle.bf_search.proofs.Turns.{has_place-true}
 
 -- a place that is there changes nothing
@@ -66,29 +65,3 @@ All-with_goods P kept (p ∷ ps) all each = All-with_goods P (with_good kept p) 
 pub distinct-with_goods : (kept more : List ℕ) → AllPairs (λ q r. q ≢ r) kept → AllPairs (λ q r. q ≢ r) (with_goods kept more)
 distinct-with_goods kept [] apart = apart
 distinct-with_goods kept (p ∷ ps) apart = distinct-with_goods (with_good kept p) ps (distinct-with_good kept p apart)
-
-pub with_goods-append : (kept ps : List ℕ) (p : ℕ) → with_goods kept (ps ++ p ∷ []) ≡ with_good (with_goods kept ps) p
-with_goods-append kept [] p = refl
-with_goods-append kept (q ∷ ps) p = with_goods-append (with_good kept q) ps p
-
--- ---- the row of the places that were seen
-
-abbrev pub SeesAll : List Bool → List ℕ → Type 0
-SeesAll row goods = (p : ℕ) → is_in row p ≡ has_place goods p
-
-pub sees_more : (row : List Bool) (goods : List ℕ) (p : ℕ) → SeesAll row goods → p < length row → SeesAll (set row p true) (goods ++ p ∷ [])
-sees_more row goods p sees room q =
-    ⊎_elim
-    (λ same. ap (λ (x : ℕ). get_or (set row p true) x false) (sym same) ∙ get_or-set_same row p true false room
-    ∙ sym (ap (λ b. has_place goods q || b) (eq-eqb p q same) ∙ or_true (has_place goods q)) ∙ sym (has_place-append goods p q))
-    (λ other. get_or-set_other row p q true false (λ e. other (sym e)) ∙ sees q
-    ∙ sym (has_place-append goods p q ∙ ap (λ b. has_place goods q || b) (ne_eqb p q other) ∙ or_false (has_place goods q)))
-    (cases_eq p q)
-  where
-    or_true : (b : Bool) → (b || true) ≡ true
-    or_true true = refl
-    or_true false = refl
-
-    or_false : (b : Bool) → (b || false) ≡ b
-    or_false true = refl
-    or_false false = refl

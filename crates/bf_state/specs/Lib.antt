@@ -3,3 +3,4 @@ pub mod FirstBad
 pub mod Steps
 pub mod Runs
 pub mod Weighed
+pub mod Ranked

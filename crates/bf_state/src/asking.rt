@@ -67,7 +67,7 @@ pub(crate) fn tested(ask: &Ask) -> Option<u32>
 }
 
 /// How a search with these candidates ends without a look at the skipped ones.
-fn ending(places: &[u32], bad: u32) -> Option<Ask>
+pub(crate) fn ending(places: &[u32], bad: u32) -> Option<Ask>
     ensures { result ≡ steps.ending places.now bad }
 {
     match places {

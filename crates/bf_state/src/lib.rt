@@ -2,12 +2,13 @@
 #![tactic(auto)]
 
 mod asking;
-mod goods;
 pub mod laws;
+mod ranked;
 mod rows;
 mod state;
 mod weighed;
 
+pub use ranked::Ranked;
 pub use rows::true_places;
 pub use state::State;
 pub use weighed::Weighed;

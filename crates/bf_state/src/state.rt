@@ -8,11 +8,15 @@ ghost use Rattle.bf_state.specs.Session.{with_search, begun, IsSearchBelow};
 ghost use Rattle.bf_state.specs.FirstBad.{IsFirstBad};
 ghost use Rattle.std.specs.Option.{option_map};
 ghost use Rattle.bf_state.specs.Steps as steps;
+ghost use Rattle.bf_choice.specs.Ranking.{IsPassed};
+ghost use Rattle.bf_state.specs.Ranked.{IsRankingOf};
 ghost use Rattle.bf_state.specs.Weighed.{mask_of, weights_of, weights_needed};
 
 use crate::asking::{Decision, decide, pass, passed_after, tested, warned_after};
-use crate::goods::{add_good, each_once};
+use crate::ranked::{self, Ranked, RankedDecision, decide_ranked};
 use crate::weighed::{self, Weighed, Weighing, decide_over};
+use bf_choice::Ranking;
+use bf_goods::Goods;
 use bf_graph::Places;
 use bf_reach::Reach;
 use bf_rows::Row;
@@ -38,7 +42,7 @@ pub struct State {
     /// The bad place.
     pub bad: Option<u32>,
     /// The good places.
-    pub goods: Places,
+    pub goods: Goods,
     /// By place, whether it is skipped.
     pub skips: Row,
     /// Whether the check of the merge bases has passed.
@@ -79,7 +83,7 @@ impl State {
         requires goods { All (λ good. good < len) goods.now }
         ensures { IfOk result (λ state. state ≡ record { len = len; terms = terms; terms_open = terms_open; search = begun len first_parent bad goods.now }) }
     {
-        let goods = each_once(alloc, len, goods)?;
+        let goods = Goods::each_once(alloc, goods)?;
         let skips = Row::new(alloc, len)?;
         Ok(State {
             len,
@@ -190,6 +194,45 @@ impl State {
         Ok(decision.step)
     }
 
+    /// Ranks the candidates, where there is a bad place.
+    pub fn rank(&self, reach: &Reach, bad: u32, mask: &Row) -> Result<Ranking, AllocError>
+        requires len { length reach.now ≡ self.now.len }
+        requires bad { self.now.search.bad ≡ Some bad }
+        requires mask { mask.now ≡ mask_of reach.now self.now.search }
+        ensures { IfOk result (IsRankingOf reach.now self.now.search) }
+    {
+        ranked::rank(self, reach, bad, mask)
+    }
+
+    /// Asks what comes next over a ranking of the candidates, of which so many of the first are skipped:
+    /// no candidate before them is looked at, and none after the place that is asked. It also gives how
+    /// many are skipped then. After an error the state is as before.
+    pub fn advance_ranked(
+        &mut self,
+        reach: &Reach,
+        mask: &Row,
+        ranking: &Ranking,
+        passed: usize,
+    ) -> Result<Ranked, AllocError>
+        requires len { length reach.now ≡ self.old.len }
+        requires mask { mask.now ≡ mask_of reach.now self.old.search }
+        requires ranking { IsRankingOf reach.now self.old.search ranking.now }
+        requires passed { IsPassed self.old.search.skips ranking.now passed }
+        ensures step { IfOk result (λ ranked. ranked.step ≡ (searches.ask reach.now self.old.search).step) }
+        ensures state { OnOk result (self.new ≡ with_search self.old (searches.ask reach.now self.old.search).search) }
+        ensures passed { IfOk result (λ ranked. IsPassed self.old.search.skips ranking.now ranked.passed) }
+        ensures err { OnErr result (self.new ≡ self.old) }
+    {
+        let RankedDecision { decision, passed } = decide_ranked(
+            self, reach, mask, ranking, passed,
+        )?;
+        self.follow(&decision);
+        Ok(Ranked {
+            step: decision.step,
+            passed,
+        })
+    }
+
     /// Marks a place. After an error the state is as before.
     pub fn mark(&mut self, mark: Mark, place: u32) -> Result<(), AllocError>
         requires { place < self.old.len }
@@ -242,7 +285,7 @@ impl State {
         ensures err { OnErr result (self.new ≡ self.old) }
     {
         match mark {
-            Mark::Good => add_good(&mut self.goods, place),
+            Mark::Good => self.goods.add(place),
             Mark::Bad | Mark::Skip => Ok(()),
         }
     }

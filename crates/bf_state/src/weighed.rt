@@ -1,5 +1,5 @@
 //! Asks that hand out the candidates and their weights, or are given them.
-ghost use Rattle.std.specs.Prelude.{◌≡◌, length, IfOk};
+ghost use Rattle.std.specs.Prelude.{◌≡◌, length, Some, IfOk};
 ghost use Rattle.std.specs.Option.{option_map};
 ghost use Rattle.bf_graph.specs.Graph.{IsGraph};
 ghost use Rattle.bf_search.specs.State.{ask};
@@ -53,6 +53,22 @@ pub(crate) fn mask_of(state: &State, reach: &Reach) -> Result<Row, AllocError>
     }
 }
 
+/// The weights of the candidates of a state with a bad place.
+pub(crate) fn weights_of(
+    state: &State,
+    reach: &Reach,
+    bad: u32,
+    mask: &Row,
+) -> Result<Vec<u32>, AllocError>
+    requires len { length reach.now ≡ state.now.len }
+    requires bad { state.now.search.bad ≡ Some bad }
+    requires mask { mask.now ≡ mask_of reach.now state.now.search }
+    ensures { IfOk result (λ all. all.items ≡ weights_of reach.now state.now.search) }
+{
+    prove!(reach.len() == state.len());
+    weights(state.goods.allocator(), reach, mask, state.first_parent)
+}
+
 /// The next ask of a state over its candidates, which are weighed where the check has passed.
 pub(crate) fn weigh(state: &State, reach: &Reach, mask: &Row) -> Result<Weighing, AllocError>
     requires len { length reach.now ≡ state.now.len }
@@ -71,7 +87,7 @@ pub(crate) fn weigh(state: &State, reach: &Reach, mask: &Row) -> Result<Weighing
             weights: None,
         }),
         Passage::Passed { warned, bad } => {
-            let weights = weights(state.goods.allocator(), reach, mask, state.first_parent)?;
+            let weights = weights_of(state, reach, bad, mask)?;
             let ask = ask_over(state, bad, mask, weights.as_slice())?;
             Ok(Weighing {
                 decision: Decision {

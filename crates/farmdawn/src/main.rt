@@ -43,6 +43,8 @@ gives, and sample searches such a stream and prints a summary.
   --lenient-exit    take the statuses 126 and 127 of a test as bad
   --replay FILE     go on from the log in a file, as git bisect log prints it
   --workers N       test up to N commits at once, 1 to 64; what is printed is the same for every N
+  --leg K           write the lines so far after every K marks; what is printed is the same
+  --trace           print behind the answer what the workers did: claim, post and give
 
 The status is 0 where the first bad commit was found or the command did what it was asked, 1 where
 a word is wrong, 2 where only skipped commits are left, 3 where a merge base is bad, 4 where a good
@@ -50,7 +52,7 @@ commit is no ancestor of the bad one, 5 where one commit is both, 6 where a test
 7 to 9 where the stream or a name is refused or a limit is passed, 10 where a log is refused, 11
 where a test cannot be made, 12 where the stream cannot be read, 13 where the output cannot be
 written, 14 where the file of a log cannot be read, 15 where memory runs out, 16 where it is
-missing, 17 where an end is not known, and 18 for what is not built yet.
+missing, and 17 where an end is not known.
 ";
 
 const VERSION: &[u8] = b"farmdawn 0.1.0\n";

@@ -1,18 +1,64 @@
-use Rattle.bf_program.proofs.Answering.{answered, read_cause, shelf_cause, test_cause}
+use Rattle.std.proofs.Common.{ℕ, Result, sym, subst}
+use Rattle.bf_output.specs.Output.{IsUsedFor, tests}
+use Rattle.bf_output.specs.Tested.{tested_by}
+use Rattle.bf_words.specs.declared.request.Request.{Request}
+use Rattle.bf_program.specs.Answers.{Met, IsFailedTest}
+use Rattle.bf_program.proofs.Answering.{answered, read_cause, refused_any, shelf_cause, unloaded, unread}
+use Rattle.bf_program.proofs.Planning.{plan_read}
+use Rattle.bf_program.proofs.Using.{unused_for}
 use Rattle.bf_program.proofs.top.bisect_main.Goals as goal
 
-pub returns-clause-answers : goal.returns-clause-answers
-returns-clause-answers g c =
-    answered _ _ _ _ c.answer_to-answer.result c.tell.result c.answer_to-answer.ensures.output c.answer_to-answer.ensures.whole
-    (λ e. (c.answer_to-answer.ensures.reads e, c.answer_to-answer.ensures.cause.failed e))
-    (λ e. (c.answer_to-answer.ensures.asks e, c.answer_to-answer.ensures.file.failed e)) c.tell.ensures.told
+pub conclude-requires-clause-plan : goal.conclude-requires-clause-plan
+conclude-requires-clause-plan g c = λ κs within. plan_read c.args.words.now c.in-Ok.request c.in-Ok.ensures
 
-pub returns-clause-read : goal.returns-clause-read
-returns-clause-read g c = read_cause _ c.tell.result (returns-clause-answers g c)
+pub returns-in-Ok-clause-answers : goal.returns-in-Ok-clause-answers
+returns-in-Ok-clause-answers g c =
+    let met : Met = record {
+      given = record { words = c.args.words.now; files = g.F.Shelf.files c.args.shelf.now; tested = tested_by g.T.Tester.told g.T.Tester.command g.T.Tester.is_lenient
+          g.T.Tester.answers g.T.Tester.faults g.T.Tester.failed g.T.Tester.is_split c.conclude.new.tester };
+      left = g.S.Source.left c.args.stream.now;
+      stream = record { before = g.S.Source.faults c.args.stream.now; now = g.S.Source.faults c.prepare-ready.new.stream };
+      shelf = record { before = g.F.Shelf.faults c.args.shelf.now; now = g.F.Shelf.faults c.prepare-ready.new.shelf };
+      before = g.K.Sink.held c.args.out.now;
+      after = g.K.Sink.held c.conclude.new.out;
+    } in
+    answered met c.in-Ok.request c.conclude.result c.in-Ok.ensures c.prepare-ready.result c.prepare-ready.ensures.output
+    (λ e. unread met c.in-Ok.request c.conclude.result c.in-Ok.ensures (c.prepare-ready.ensures.reads e) (c.prepare-ready.ensures.cause.failed e))
+    (λ e. unloaded met c.in-Ok.request c.conclude.result c.in-Ok.ensures (c.prepare-ready.ensures.asks e) (c.prepare-ready.ensures.file.failed e))
+    c.conclude.ensures.own c.conclude.ensures.told
 
-pub returns-clause-file : goal.returns-clause-file
-returns-clause-file g c = shelf_cause _ c.tell.result (returns-clause-answers g c)
+pub returns-in-Ok-clause-read : goal.returns-in-Ok-clause-read
+returns-in-Ok-clause-read g c = read_cause _ c.conclude.result (returns-in-Ok-clause-answers g c)
 
-pub returns-clause-test : goal.returns-clause-test
-returns-clause-test g c = λ place e.
-    test_cause _ _ _ place _ _ c.answer_to-answer.result c.tell.result c.answer_to-answer.ensures.whole c.tell.ensures.told e
+pub returns-in-Ok-clause-file : goal.returns-in-Ok-clause-file
+returns-in-Ok-clause-file g c = shelf_cause _ c.conclude.result (returns-in-Ok-clause-answers g c)
+
+pub returns-in-Ok-clause-test : goal.returns-in-Ok-clause-test
+returns-in-Ok-clause-test g c = λ place e.
+    let tested = (tested_by g.T.Tester.told g.T.Tester.command g.T.Tester.is_lenient g.T.Tester.answers g.T.Tester.faults g.T.Tester.failed g.T.Tester.is_split
+    c.conclude.new.tester) in
+    subst (λ (r : Result Request ℕ). IsFailedTest (tests r) (g.T.Tester.faults c.args.tester.now) tested place) (sym c.in-Ok.ensures) (c.conclude.ensures.test place e)
+
+pub returns-in-Ok-clause-used : goal.returns-in-Ok-clause-used
+returns-in-Ok-clause-used g c =
+    let before = (tested_by g.T.Tester.told g.T.Tester.command g.T.Tester.is_lenient g.T.Tester.answers g.T.Tester.faults g.T.Tester.failed g.T.Tester.is_split
+    c.args.tester.now) in
+    let after = (tested_by g.T.Tester.told g.T.Tester.command g.T.Tester.is_lenient g.T.Tester.answers g.T.Tester.faults g.T.Tester.failed g.T.Tester.is_split
+    c.conclude.new.tester) in
+    subst (λ (r : Result Request ℕ). IsUsedFor r c.args.words.now before after) (sym c.in-Ok.ensures) c.conclude.ensures.used
+
+pub returns-in-Err-clause-answers : goal.returns-in-Err-clause-answers
+returns-in-Err-clause-answers g c =
+    refused_any _ c.in-Err.fault c.refuse_words.result c.in-Err.ensures c.refuse_words.ensures.own c.refuse_words.ensures.told
+
+pub returns-in-Err-clause-read : goal.returns-in-Err-clause-read
+returns-in-Err-clause-read g c = read_cause _ c.refuse_words.result (returns-in-Err-clause-answers g c)
+
+pub returns-in-Err-clause-file : goal.returns-in-Err-clause-file
+returns-in-Err-clause-file g c = shelf_cause _ c.refuse_words.result (returns-in-Err-clause-answers g c)
+
+pub returns-in-Err-clause-test : goal.returns-in-Err-clause-test
+returns-in-Err-clause-test g c = λ place e. absurd (c.refuse_words.ensures.no_test place e)
+
+pub returns-in-Err-clause-used : goal.returns-in-Err-clause-used
+returns-in-Err-clause-used g c = unused_for _ _ _

@@ -16,9 +16,9 @@ returns-clause-replayed c =
     begun_is c.args.setting.history.now.parents c.args.terms c.args.start.first_parent (text_of c.args.start.new)
     (text_of c.args.start.old) c.args.start.revs.now
     c.args.places.now c.len.result c.leaves_terms_open.result c.names_terms.result c.ends-bad.result.0
-    c.ends-bad.result.1.now c.in_ok-try_clone.field-0
+    c.ends-bad.result.1.now c.in_ok-to_places.field-0
     c.in_ok-state.state c.push.new.self.items c.new-entries.result.items
     c.in_ok-state.ensures c.len.ensures c.leaves_terms_open.ensures c.names_terms.ensures c.ends-bad.ensures.bad
     c.ends-bad.ensures.goods
-    (c.in_ok-try_clone.ensures ∙ ap (λ (s : Session). s.search.goods) c.state.view_is) c.new-entries.ensures.items
+    (c.in_ok-to_places.ensures ∙ ap (λ (s : Session). s.search.goods) c.state.view_is) c.new-entries.ensures.items
     c.in_ok-push.ensures.items

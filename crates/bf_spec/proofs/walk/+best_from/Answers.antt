@@ -1,4 +1,4 @@
-use Rattle.std.proofs.Common.{◌≡◌, ℕ, ◌<◌, ◌++◌, ◌∷◌, [], List, length, get_or, Option, arith, sym, ap, ◌∙◌, subst}
+use Rattle.std.proofs.Common.{◌≡◌, ℕ, ◌<◌, ◌++◌, ◌∷◌, [], List, Bool, count_by, length, get_or, Option, arith, sym, ap, ◌∙◌, subst}
 use Rattle.bf_search.specs.Outcomes.{Outcomes, outcomes_of_table}
 use Rattle.bf_search.specs.declared.asks.Ask.TheVariants.{Test}
 use Rattle.bf_search.specs.declared.outcomes.Mark.{Mark}
@@ -89,7 +89,7 @@ returns-in-Free-clause-found t c = λ d.
     free_found c.args.reach.now c.settle.new.nodes.items c.in-Free.index c.in-Free.place c.index.result.now c.index-in-Free.result.now c.count.result (length c.as_slice.result.now)
     (best_at c.args.reach.now (outcomes_of_table c.args.table.now) c.args.claims.now (get_or c.args.nodes.now.items c.args.start d))
     (extends_nodes c.args.reach.now c.args.nodes.now.items c.settle.new.nodes.items c.in_ok-settle.ensures.extends c.requires.nodes)
-    (stops d).0 c.index.ensures c.index-in-Free.ensures c.count.ensures (ap length c.as_slice.ensures.value) (stops d).1
+    (stops d).0 c.index.ensures c.index-in-Free.ensures (c.count.ensures ∙ ap (λ (row : List Bool). count_by (λ (v : Bool). v) row) c.deref.ensures) (ap length c.as_slice.ensures.value) (stops d).1
 
 pub returns-in_err-best_good-in-Guess-clause-extends : goal.returns-in_err-best_good-in-Guess-clause-extends
 returns-in_err-best_good-in-Guess-clause-extends t c =

@@ -1,10 +1,7 @@
-use Rattle.std.proofs.Common.{List, ℕ, Bool, Some, ap, sym, ◌∙◌, subst}
-use Rattle.bf_search.specs.Candidates.{weights}
+use Rattle.std.proofs.Common.{List, ℕ, Some, ap, sym, ◌∙◌, subst}
 use Rattle.bf_search.specs.State.{ask}
 use Rattle.bf_state.specs.declared.asking.Passage.{Passage}
-use Rattle.bf_state.specs.Session.{Session}
 use Rattle.bf_state.specs.Steps.{IsPassage}
-use Rattle.bf_state.specs.Weighed.{mask_of}
 use Rattle.bf_state.proofs.Passing.{decide_over, length-mask, length-all, all_within, needs_none, needs_all}
 use Rattle.bf_state.proofs.weighed.weigh.Goals as goal
 
@@ -14,14 +11,12 @@ ask_over-requires-clause-len c = length-mask _ _ _ c.requires.mask ∙ c.require
 pub ask_over-requires-clause-weights : goal.ask_over-requires-clause-weights
 ask_over-requires-clause-weights c =
     length-all c.args.reach.now c.args.state.now.search _ _ c.requires.mask
-    (c.as_slice.ensures.value ∙ c.in_ok-weights-in-Passed.ensures ∙ ap (λ (m : List Bool). weights c.args.reach.now m c.state.inside.first_parent) c.requires.mask
-    ∙ ap (λ (v : Session). weights c.args.reach.now (mask_of c.args.reach.now c.args.state.now.search) v.search.first_parent) c.state.view_is)
+    (c.as_slice.ensures.value ∙ c.in_ok-weights-in-Passed.ensures)
 
 pub ask_over-requires-clause-within : goal.ask_over-requires-clause-within
 ask_over-requires-clause-within c =
     all_within c.args.reach.now c.args.state.now.search _ _ c.requires.mask
-    (c.as_slice.ensures.value ∙ c.in_ok-weights-in-Passed.ensures ∙ ap (λ (m : List Bool). weights c.args.reach.now m c.state.inside.first_parent) c.requires.mask
-    ∙ ap (λ (v : Session). weights c.args.reach.now (mask_of c.args.reach.now c.args.state.now.search) v.search.first_parent) c.state.view_is)
+    (c.as_slice.ensures.value ∙ c.in_ok-weights-in-Passed.ensures)
 
 pub returns-in-Asks-clause-weights : goal.returns-in-Asks-clause-weights
 returns-in-Asks-clause-weights c =
@@ -32,14 +27,11 @@ pub returns-in_ok-ask-in-Passed-clause-decides : goal.returns-in_ok-ask-in-Passe
 returns-in_ok-ask-in-Passed-clause-decides c =
     decide_over c.args.reach.now c.args.state.now.search _ _ _ _ _ (subst (λ (p : Passage). IsPassage c.args.reach.now (ask c.args.reach.now c.args.state.now.search) c.args.state.now.search p) c.in-Passed.is c.in_ok-step.ensures.passes)
     c.requires.mask
-    (c.as_slice.ensures.value ∙ c.in_ok-weights-in-Passed.ensures ∙ ap (λ (m : List Bool). weights c.args.reach.now m c.state.inside.first_parent) c.requires.mask
-    ∙ ap (λ (v : Session). weights c.args.reach.now (mask_of c.args.reach.now c.args.state.now.search) v.search.first_parent) c.state.view_is)
+    (c.as_slice.ensures.value ∙ c.in_ok-weights-in-Passed.ensures)
     c.in_ok-ask-in-Passed.ensures
 
 pub returns-in_ok-ask-in-Passed-clause-weights : goal.returns-in_ok-ask-in-Passed-clause-weights
 returns-in_ok-ask-in-Passed-clause-weights c =
-    ap (λ (ws : List ℕ). Some ws)
-    (c.in_ok-weights-in-Passed.ensures ∙ ap (λ (m : List Bool). weights c.args.reach.now m c.state.inside.first_parent) c.requires.mask
-    ∙ ap (λ (v : Session). weights c.args.reach.now (mask_of c.args.reach.now c.args.state.now.search) v.search.first_parent) c.state.view_is)
+    ap (λ (ws : List ℕ). Some ws) c.in_ok-weights-in-Passed.ensures
     ∙ sym (needs_all c.args.reach.now c.args.state.now.search _ _
     (subst (λ (p : Passage). IsPassage c.args.reach.now (ask c.args.reach.now c.args.state.now.search) c.args.state.now.search p) c.in-Passed.is c.in_ok-step.ensures.passes))

@@ -6,4 +6,4 @@ use Rattle.bf_state.proofs.state.State.add_if_good.Goals as goal
 pub invariant_of-self : goal.invariant_of-self
 invariant_of-self c =
     let place : c.args.place < c.self.inside.len = rw (ap (λ (v : Session). v.len) c.self.view_is) c.requires in
-    below_added _ _ _ _ c.add_good.result c.self.invariant place c.add_good.ensures.ok c.add_good.ensures.err
+    below_added _ _ _ _ c.add.result c.self.invariant place c.add.ensures.ok c.add.ensures.err

@@ -1,0 +1,117 @@
+//! What workers do in a search.
+use bf_core::{Core, Pick};
+use bf_reach::Reach;
+use bf_search::Outcome;
+use bf_spec::Table;
+use bf_state::State;
+use bf_terms::Terms;
+use std::alloc::{AllocError, Global};
+
+/// What is to be done.
+#[derive(Clone, Copy)]
+pub enum Task {
+    /// Nothing, so that the history alone is made.
+    Builds,
+    /// The search is made.
+    Waits,
+    /// Each worker picks a place.
+    Picks,
+    /// Then one of them posts a good outcome.
+    Posts,
+    /// The workers pick and post until the run has ended.
+    Runs,
+    /// They post outcomes that skip until the run has ended.
+    Skips,
+}
+
+impl Task {
+    /// The task of this name.
+    pub fn named(name: &str) -> Option<Task> {
+        match name {
+            "builds" => Some(Task::Builds),
+            "waits" => Some(Task::Waits),
+            "picks" => Some(Task::Picks),
+            "posts" => Some(Task::Posts),
+            "runs" => Some(Task::Runs),
+            "skips" => Some(Task::Skips),
+            _ => None,
+        }
+    }
+}
+
+/// The search between the first commit and the last.
+fn search<'r>(alloc: Global, reach: &'r Reach) -> Result<Option<Core<'r>>, AllocError> {
+    let len = reach.len();
+    if len == 0 {
+        return Ok(None);
+    }
+    let terms = Terms::standard(alloc)?;
+    let state = State::new(alloc, len, terms, false, false, Some(len - 1), &[0])?;
+    let table = Table::new(alloc, len)?;
+    Ok(Some(Core::start(alloc, reach, state, table, 0)?))
+}
+
+/// Does a task, and gives the number of places that were picked or posted last.
+pub fn done(alloc: Global, reach: &Reach, task: Task, workers: u32) -> Result<u32, AllocError> {
+    if let Task::Builds = task {
+        return Ok(0);
+    }
+    let Some(mut core) = search(alloc, reach)? else {
+        return Ok(0);
+    };
+    match task {
+        Task::Builds | Task::Waits => Ok(0),
+        Task::Picks => pick_all(&mut core, workers),
+        Task::Posts => {
+            pick_all(&mut core, workers)?;
+            post_first(&mut core, Outcome::Exit(0))
+        }
+        Task::Runs => run(&mut core, workers, reach.len(), false),
+        Task::Skips => run(&mut core, workers, reach.len(), true),
+    }
+}
+
+/// Has each worker without a claim pick a place, and gives how many got one.
+fn pick_all(core: &mut Core<'_>, workers: u32) -> Result<u32, AllocError> {
+    let mut places = 0u32;
+    for worker in 0..workers {
+        if core.has_claim(worker) {
+            continue;
+        }
+        if let Pick::Work(_) = core.pick(worker)? {
+            places = places.saturating_add(1);
+        }
+    }
+    Ok(places)
+}
+
+/// Posts the outcome of the oldest claim, and gives how many were posted.
+fn post_first(core: &mut Core<'_>, outcome: Outcome) -> Result<u32, AllocError> {
+    let Some(claim) = core.claims().first().copied() else {
+        return Ok(0);
+    };
+    if !core.stands(claim.worker, claim.place) {
+        return Ok(0);
+    }
+    core.post(claim.worker, claim.place, outcome)?;
+    Ok(1)
+}
+
+/// Picks and posts until the run has ended, and gives how many outcomes were posted. Places in the later
+/// half of the history are bad, where they are not skipped.
+fn run(core: &mut Core<'_>, workers: u32, len: u32, skips: bool) -> Result<u32, AllocError> {
+    let mut posted = 0u32;
+    for _ in 0..len {
+        if core.ending().is_some() {
+            break;
+        }
+        pick_all(core, workers)?;
+        let outcome = match core.claims().first() {
+            Some(_) if skips => Outcome::Exit(125),
+            Some(claim) if claim.place >= len / 2 => Outcome::Exit(1),
+            _ => Outcome::Exit(0),
+        };
+        posted = posted.saturating_add(post_first(core, outcome)?);
+    }
+    Ok(posted)
+}

@@ -1,0 +1,9 @@
+//! The good places of a search, each once.
+#![tactic(auto)]
+
+mod goods;
+
+pub use goods::Goods;
+
+#[cfg(test)]
+mod tests;

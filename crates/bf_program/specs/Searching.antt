@@ -1,0 +1,179 @@
+-- A search on its way from its beginning to its answer.
+use Rattle.std.specs.Prelude.{◌≡◌, ℕ, Bool, true, List, [], ◌++◌, length, if◌then◌else◌, Option, Some, None, Result, Ok, Err, ◌⊎◌}
+use Rattle.std.specs.List.{flat_map}
+use Rattle.std.specs.Option.{option_map, unwrap_or}
+use Rattle.bf_farm.specs.declared.report.Report.{Report}
+use Rattle.bf_guesses.specs.Ends.{HasEnds}
+use Rattle.bf_history.specs.Meanings.{History}
+use Rattle.bf_io.specs.Told.{Keeps, Appends, AppendsFront}
+use Rattle.bf_log.specs.Trace.{leg_line}
+use Rattle.bf_logs.specs.Written.{known_after_all}
+use Rattle.bf_output.specs.Beginning.{Begun, commits_of, log_on}
+use Rattle.bf_output.specs.Output.{IsSearched}
+use Rattle.bf_output.specs.Refusals.{file_fault, read_fault, usage}
+use Rattle.bf_output.specs.Tested.{Tested, IsTested, IsFrontIfTold, run_on, status_at_end, lines_at_end}
+use Rattle.bf_output.specs.Told.{Told}
+use Rattle.bf_output.specs.Traces.{course_of, whole_leg}
+use Rattle.bf_output.specs.declared.status.Status.{Status}
+use Rattle.bf_output.specs.declared.status.Status.TheVariants.{ReadFault, ShelfFault, NoMemory as OutOfMemory}
+use Rattle.bf_runs.specs.Courses.{stand_of}
+use Rattle.bf_runs.specs.Legs.{IsBetween, IsReady}
+use Rattle.bf_search.specs.declared.farm.Event.{Event}
+use Rattle.bf_search.specs.declared.outcomes.Outcome.{Outcome}
+use Rattle.bf_search.specs.Farm.{end_of}
+use Rattle.bf_search.specs.Run.{Run}
+use Rattle.bf_search.specs.State.{IsSearchOver}
+use Rattle.bf_tester.specs.declared.answer.Answer.{Answer as Answered}
+use Rattle.bf_words.specs.declared.request.Request.{Request}
+use Rattle.bf_words.specs.declared.request.WordFault.{WordFault}
+use Rattle.bf_words.specs.declared.request.WordFault.TheVariants.{At}
+use Rattle.bf_words.specs.declared.request.WordFault.TheVariants as words
+use Rattle.bf_words.specs.declared.verb.Verb.{Verb}
+use Rattle.bf_words.specs.declared.verb.Verb.TheVariants.{Simulate, Run as RunVerb}
+use Rattle.bf_program.specs.Answers.{IsWhole, HasCause}
+use Rattle.bf_program.specs.Tellings.{begun_of, told_of, AreWithin}
+use Rattle.bf_program.specs.Writes.{IsWritten}
+use Rattle.bf_program.specs.declared.answer.Answer.{Answer}
+use Rattle.bf_program.specs.declared.answer.Cut.{Cut}
+use Rattle.bf_program.specs.declared.answer.Cut.TheVariants.{Read, Shelf, NoMemory}
+use Rattle.bf_program.specs.declared.ready.Means.{Means}
+use Rattle.bf_program.specs.declared.ready.Means.TheVariants.{Plan, Command}
+use Rattle.bf_program.specs.declared.ready.Ready.{Ready}
+use Rattle.bf_program.specs.declared.ready.Ready.TheVariants.{Told as ToldAnswer, Search}
+use Rattle.bf_program.specs.declared.ready.Started.{Started}
+use Rattle.bf_program.specs.declared.legs.Gone.{Gone}
+use Rattle.bf_program.specs.declared.legs.Gone.TheVariants.{On, Over}
+use Rattle.bf_program.specs.declared.legs.Running.{Running}
+use Rattle.bf_program.specs.declared.telling.Telling.{Telling}
+
+-- ---- before the tests
+
+-- the command that searches so
+abbrev pub verb_of : Means → Verb
+verb_of Plan = Simulate
+verb_of Command = RunVerb
+
+-- what is told of an answer, or of a search whatever its tester shows
+abbrev pub Tells : Request → List (List ℕ) → Tested → Ready → Told → Type 0
+Tells request words tested (ToldAnswer answer) told = told ≡ told_of answer
+Tells request words tested (Search started) told =
+    IsSearched (verb_of started.means) request words tested started.history (begun_of started.first) told
+
+abbrev pub AllTold : Request → List (List ℕ) → Ready → (Tested → Told → Type 0) → Type 0
+AllTold request words ready Is = (tested : Tested) (told : Told) → Tells request words tested ready told → Is tested told
+
+-- an answer that says this
+abbrev pub IsToldBy : Ready → Told → Type 0
+IsToldBy (ToldAnswer answer) told = told_of answer ≡ told
+IsToldBy (Search started) told = ⊥
+
+-- a search over its own history, with both ends
+pub record IsStarted (started : Started) : Type 0 where
+  pub reach : started.reach ≡ started.history.parents
+  pub len : started.first.state.len ≡ length started.history.parents
+  pub places : AreWithin started.first
+  pub ends : HasEnds started.first.state.search
+
+-- an answer that no device cut short, or a search that may be tested as the words ask
+abbrev pub IsSound : Request → Ready → Type 0
+IsSound request (ToldAnswer answer) = IsWhole answer.status
+IsSound request (Search started) = IsStarted started × (verb_of started.means ≡ request.verb)
+
+-- ---- between two legs
+
+abbrev pub trace_so_far : Bool → History → List (List Event) → Option (List ℕ)
+trace_so_far is_asked history whole = if is_asked then Some (flat_map (whole_leg (commits_of history)) whole) else None
+
+-- A run has come so far: what was written, and what is about to be, is its log; the trace has its events.
+pub record IsRunning (request : Request) (tested : Tested) (history : History) (first : Begun) (written : List ℕ) (running : Running) : Type 0 where
+  pub whole : List (List Event)
+  pub run : Run
+  pub between : IsBetween (course_of request history first) tested.plan tested.answers (stand_of running.standing) whole run
+  pub ready : IsReady history.parents history.names tested.plan tested.answers running.standing.state running.standing.table
+  pub over : IsSearchOver history.parents first.search
+  pub terms : running.standing.state.terms ≡ first.sides
+  pub known : running.telling.known ≡ known_after_all first.known (first.entries ++ run.entries)
+  pub log : written ++ running.telling.text ≡ log_on history first run.entries
+  pub trace : running.telling.trace ≡ trace_so_far request.trace history whole
+
+-- what was written so far, behind what the sink held before
+pub record HasCome (request : Request) (tested : Tested) (history : History) (first : Begun) (before after : Option (List ℕ)) (running : Running) : Type 0 where
+  pub written : List ℕ
+  pub gained : Appends before after written
+  pub is : IsRunning request tested history first written running
+
+-- the run goes on with a next leg; or it is over, and what was written and the answer are what it tells
+abbrev pub IsGone : Request → Tested → History → Begun → List ℕ → Gone → Type 0
+IsGone request tested history first written (On running) = IsRunning request tested history first written running
+IsGone request tested history first written (Over answer) =
+    IsTested request tested history first (record { status = answer.status; text = written ++ answer.text })
+
+-- a next leg may begin
+abbrev pub IsNextReady : History → Option (List Outcome) → List Answered → Gone → Type 0
+IsNextReady history told answers (On running) = IsReady history.parents history.names told answers running.standing.state running.standing.table
+IsNextReady history told answers (Over answer) = Unit {0}
+
+-- a told leg that ended after its marks leads to the next one: the line of its end is told
+abbrev pub IsOnWith : Telling → Report → Gone → Type 0
+IsOnWith telling report (On running) =
+    (running.standing.state ≡ report.state) × (running.standing.table ≡ report.table)
+    × (running.telling.text ≡ telling.text) × (running.telling.known ≡ telling.known)
+    × (running.telling.trace ≡ option_map (λ lines. lines ++ leg_line) telling.trace)
+IsOnWith telling report (Over answer) = ⊥
+
+-- a told leg that ended otherwise leads to the answer: how the run ended, and the trace
+abbrev pub IsOverWith : History → Telling → Report → Gone → Type 0
+IsOverWith history telling report (On running) = ⊥
+IsOverWith history telling report (Over answer) =
+    (answer.status ≡ status_at_end (end_of report.ending))
+    × (answer.text ≡ (telling.text ++ lines_at_end (commits_of history) report.state.terms (end_of report.ending)) ++ unwrap_or telling.trace [])
+
+-- the answer after the last leg has its cause
+abbrev pub HasGoneCause : ℕ → Tested → Gone → Type 0
+HasGoneCause before tested (On running) = Unit {0}
+HasGoneCause before tested (Over answer) = HasCause true before tested answer.status
+
+-- ---- what was written
+
+-- what was written and this answer are what the search tells
+pub record IsToldSoFar (request : Request) (tested : Tested) (history : History) (first : Begun) (before after : Option (List ℕ)) (answer : Answer) : Type 0 where
+  pub written : List ℕ
+  pub gained : Appends before after written
+  pub tells : IsTested request tested history first (record { status = answer.status; text = written ++ answer.text })
+
+-- what was written and this answer are what the command tells of its search
+pub record IsSearchSoFar (verb : Verb) (started : Started) (request : Request) (words : List (List ℕ)) (tested : Tested) (before after : Option (List ℕ))
+    (answer : Answer) : Type 0 where
+  pub written : List ℕ
+  pub gained : Appends before after written
+  pub tells : IsSearched verb request words tested started.history (begun_of started.first) (record { status = answer.status; text = written ++ answer.text })
+
+-- a front of what the command tells of its search was written
+pub record IsSearchCut (verb : Verb) (started : Started) (request : Request) (words : List (List ℕ)) (tested : Tested) (before after : Option (List ℕ)) : Type 0 where
+  pub told : Told
+  pub is : IsSearched verb request words tested started.history (begun_of started.first) told
+  pub front : AppendsFront before after told.text
+
+-- a run that was cut short: a front of the log on what was known was written
+pub record IsCutIn (told : Option (List Outcome)) (history : History) (first : Begun) (before after : Option (List ℕ)) : Type 0 where
+  pub table : List (Option Outcome)
+  pub planned : IsFrontIfTold told history first (run_on history first table)
+  pub front : AppendsFront before after (log_on history first (run_on history first table).entries)
+
+-- something that may be told was written, or a front of it; or memory ran out before all
+abbrev pub IsConcluded : (Told → Type 0) → Option (List ℕ) → Option (List ℕ) → Status → Type 0
+IsConcluded IsTold before after result =
+    ((told : Told) × IsTold told × IsWritten before after told.text told.status result)
+    ⊎ ((result ≡ OutOfMemory) × Keeps before after)
+
+-- what is told before the tests or by them was written, or the line of what stood in its way
+abbrev pub Concludes : Request → List (List ℕ) → Tested → Result Ready Cut → Option (List ℕ) → Option (List ℕ) → Status → Type 0
+Concludes request words tested (Ok ready) before after result = IsConcluded (Tells request words tested ready) before after result
+Concludes request words tested (Err Read) before after result = IsWritten before after read_fault.text ReadFault result
+Concludes request words tested (Err Shelf) before after result = IsWritten before after file_fault.text ShelfFault result
+Concludes request words tested (Err NoMemory) before after result = (result ≡ OutOfMemory) × Keeps before after
+
+-- the refusal of the words was written, or memory ran out
+abbrev pub IsRefused : WordFault → Option (List ℕ) → Option (List ℕ) → Status → Type 0
+IsRefused (At word) before after result = IsConcluded (λ told. told ≡ usage word) before after result
+IsRefused words.NoMemory before after result = (result ≡ OutOfMemory) × Keeps before after
