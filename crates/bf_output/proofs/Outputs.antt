@@ -135,17 +135,17 @@ nothing_tested request tested history first none = record {
   table = nothing history;
   legs = no_legs;
   over = record {
-      are = record { stand = _; whole = refl; last = refl };
-      is = refl;
-      known = record {
-          answered = fresh_in history.names tested.answers (length history.parents) (nothing history) refl;
-          planned = fresh_follows tested.plan (length history.parents) (nothing history) refl;
-      };
-      alone = λ one. record {
-          given = ap (λ (xs : List Answer). map pair_of xs) none ∙ sym (none_used history.parents (outcomes_of_table (nothing history))
-              (none_known (length history.parents)) first.search 0);
-          own = All-push AreAlone [] [] (All-nil AreAlone) (All-nil (λ (e : Event). worker_of e ≡ 0));
-      };
+    are = record { stand = _; whole = refl; last = refl };
+    is = refl;
+    known = record {
+      answered = fresh_in history.names tested.answers (length history.parents) (nothing history) refl;
+      planned = fresh_follows tested.plan (length history.parents) (nothing history) refl;
+    };
+    alone = λ one. record {
+      given = ap (λ (xs : List Answer). map pair_of xs) none ∙ sym (none_used history.parents (outcomes_of_table (nothing history))
+          (none_known (length history.parents)) first.search 0);
+      own = All-push AreAlone [] [] (All-nil AreAlone) (All-nil (λ (e : Event). worker_of e ≡ 0));
+    };
   };
   planned = by_plan tested.plan;
   tells = refl;

@@ -131,9 +131,9 @@ tested_cut started request words plan tested before after cut same =
     record {
       told = cut_short history first (run_on history first cut.table);
       is = inr (record {
-          table = cut.table;
-          planned = subst (λ (o : Option (List Outcome)). IsFrontIfTold o history first (run_on history first cut.table)) (sym same) cut.planned;
-          tells = refl;
+        table = cut.table;
+        planned = subst (λ (o : Option (List Outcome)). IsFrontIfTold o history first (run_on history first cut.table)) (sym same) cut.planned;
+        tells = refl;
       });
       front = cut.front;
     }

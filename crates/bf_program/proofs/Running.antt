@@ -92,17 +92,17 @@ begun_running request tested history first running none state table known text t
       whole = [];
       run = ended [] first.state.search Leg;
       between = record {
-          legs = λ i. record { search = (state i).search; table = table i };
-          reached = sym (ap (λ (s : Session). s.search) state);
-          goes_on = λ more part. refl;
-          known = nothing;
-          alone = λ one. record { given = ap (λ (xs : List Answer). map pair_of xs) none; own = All-nil AreAlone };
+        legs = λ i. record { search = (state i).search; table = table i };
+        reached = sym (ap (λ (s : Session). s.search) state);
+        goes_on = λ more part. refl;
+        known = nothing;
+        alone = λ one. record { given = ap (λ (xs : List Answer). map pair_of xs) none; own = All-nil AreAlone };
       };
       ready = record {
-          len = ap (λ (s : Session). s.len) state ∙ len;
-          long = ap (λ (t : List (Option Outcome)). length t) table ∙ length-replicate (length history.parents) None;
-          ends = subst (λ (s : Session). HasEnds s.search) (sym state) ends;
-          known = nothing;
+        len = ap (λ (s : Session). s.len) state ∙ len;
+        long = ap (λ (t : List (Option Outcome)). length t) table ∙ length-replicate (length history.parents) None;
+        ends = subst (λ (s : Session). HasEnds s.search) (sym state) ends;
+        known = nothing;
       };
       over = over_graph history.parents first.state.len first.state.search below len;
       terms = ap (λ (s : Session). s.terms) state;

@@ -45,11 +45,7 @@ pub(crate) enum Gone {
 }
 
 /// A search of which no commit is tested yet. The entries of its beginning are about to be written.
-fn begin_running(
-    line: Line<'_>,
-    history: &History,
-    first: Beginning,
-) -> Result<Running, AllocError>
+fn begin_running(line: Line<'_>, history: &History, first: Beginning) -> Result<Running, AllocError>
     requires len { first.state.len ≡ length history.now.parents }
     requires places { AreWithin first }
     requires ends { HasEnds first.state.search }

@@ -87,11 +87,7 @@ fn prepare_over<F: Shelf>(line: Line<'_>, history: History, shelf: &mut F) -> Re
 }
 
 /// The same over a history and the file that the words name.
-fn prepare_command(
-    line: Line<'_>,
-    file: Option<&LogFile>,
-    history: History,
-) -> Result<Ready, Cut>
+fn prepare_command(line: Line<'_>, file: Option<&LogFile>, history: History) -> Result<Ready, Cut>
     ensures tells { IfOk result (λ ready. AllTold line.entry.request.now line.entry.words.now ready (λ tested told. output.IsOverFile line.entry.request.now.verb line.entry.request.now line.entry.words.now tested (file_given file.entry) history told)) }
     ensures sound { IfOk result (IsSound line.entry.request.now) }
     ensures no_read { IsErrOf result Cut.Read → ⊥ }

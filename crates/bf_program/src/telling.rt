@@ -66,7 +66,13 @@ impl Telling {
         ensures trace { self.new.trace ≡ self.old.trace }
     {
         let sides = sides_of(&state.terms);
-        write_more(&mut self.known, commits_of(history), sides, entries, &mut self.text)
+        write_more(
+            &mut self.known,
+            commits_of(history),
+            sides,
+            entries,
+            &mut self.text,
+        )
     }
 
     /// Adds the events of a leg to the trace.
@@ -116,7 +122,9 @@ impl Telling {
         ensures text { IfOk result (λ answer. answer.text ≡ (self.text ++ lines_at_end (labels.commits_of commits.entry) (labels.sides_of sides.entry) (end_of ending)) ++ unwrap_or self.trace []) }
     {
         let Telling {
-            mut text, trace, ..
+            mut text,
+            trace,
+            ..
         } = self;
         let status = write_ending(commits, sides, ending, &mut text)?;
         if let Some(lines) = &trace {

@@ -162,9 +162,12 @@ leg_keeps setting first table events leads = keeps_events setting (unclaimed fir
 pub legs_lead_on : (course : Course) (stand after : Stand) (whole : List (List Event)) (events : List Event) (table : List (Option Outcome)) → LegsLead course stand whole after
     → IsLeg course after events table → (leg_run course after.search table).end ≡ Leg → LegsLead course stand (whole ++ events ∷ []) (stand_after course after table)
 unfolding LegsLead
-legs_lead_on course stand after [] events table same leg ends =
-    (table, subst (λ (s : Stand). IsLeg course s events table) same leg, subst (λ (s : Stand). (leg_run course s.search table).end ≡ Leg) same ends,
-    ap (λ (s : Stand). stand_after course s table) same)
+legs_lead_on course stand after [] events table same leg ends = (
+  table,
+  subst (λ (s : Stand). IsLeg course s events table) same leg,
+  subst (λ (s : Stand). (leg_run course s.search table).end ≡ Leg) same ends,
+  ap (λ (s : Stand). stand_after course s table) same,
+)
 legs_lead_on course stand after (first ∷ whole) events table (next, legal, ended, more) leg ends =
     (next, legal, ended, legs_lead_on course (stand_after course stand next) after whole events table more leg ends)
 

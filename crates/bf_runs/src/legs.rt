@@ -25,11 +25,7 @@ pub struct Standing {
 
 impl Standing {
     /// Where the first leg begins: no outcome is known.
-    pub fn first(
-        alloc: Global,
-        history: &History,
-        state: State,
-    ) -> Result<Standing, AllocError>
+    pub fn first(alloc: Global, history: &History, state: State) -> Result<Standing, AllocError>
         ensures state { IfOk result (λ standing. standing.state ≡ state) }
         ensures table { IfOk result (λ standing. standing.table ≡ replicate (length history.now.parents) None) }
     {

@@ -14,8 +14,12 @@ conclude-requires-clause-plan g c = λ κs within. plan_read c.args.words.now c.
 pub returns-in-Ok-clause-answers : goal.returns-in-Ok-clause-answers
 returns-in-Ok-clause-answers g c =
     let met : Met = record {
-      given = record { words = c.args.words.now; files = g.F.Shelf.files c.args.shelf.now; tested = tested_by g.T.Tester.told g.T.Tester.command g.T.Tester.is_lenient
-          g.T.Tester.answers g.T.Tester.faults g.T.Tester.failed g.T.Tester.is_split c.conclude.new.tester };
+      given = record {
+        words = c.args.words.now;
+        files = g.F.Shelf.files c.args.shelf.now;
+        tested = tested_by g.T.Tester.told g.T.Tester.command g.T.Tester.is_lenient
+            g.T.Tester.answers g.T.Tester.faults g.T.Tester.failed g.T.Tester.is_split c.conclude.new.tester;
+      };
       left = g.S.Source.left c.args.stream.now;
       stream = record { before = g.S.Source.faults c.args.stream.now; now = g.S.Source.faults c.prepare-ready.new.stream };
       shelf = record { before = g.F.Shelf.faults c.args.shelf.now; now = g.F.Shelf.faults c.prepare-ready.new.shelf };
