@@ -10,7 +10,8 @@ Usage: benches/bench.py SUBJECT [SIZE ..] [--quick] [--program FILE]
                                         --bisect-all
   search    COMMITS ..                  the asks of whole searches, beside git rev-list --bisect; 1,000 skips in a row
   workers   COMMITS                     processor time of simulate --workers 1, 2, 8 and 64
-  farm      SIZE ..                     the farm's machine alone, by bench_farm
+  farm      COMMITS ..                  picks, posts, runs and runs of skips by 1, 8 and 64 workers, by bench_farm, beside one
+                                        weighing of all candidates
   run       COMMITS MILLISECONDS TESTS  searches by tests of such a length, by 1 to 8 workers, beside git bisect run; tests of
                                         uneven length; the overhead of a test
   wall      COMMITS FILES RUNS          git farmdawn on a project in C that is built, by 1 to 8 workers, beside git bisect run
@@ -42,6 +43,7 @@ from dataclasses import dataclass
 from typing import Callable
 
 import agree
+import farm as farm_costs
 import gate
 import repository
 import streams
@@ -174,8 +176,8 @@ def forest(bench, *shape):
     return ours.output.decode() == due
 
 
-def farm(bench, *shape):
-    return shaped(bench, shape).status == 0
+def farm(bench, *sizes):
+    return farm_costs.costs(bench, sizes)
 
 
 # ---- searches
@@ -452,7 +454,7 @@ SUBJECTS = {
     "weights": Subject(weights, (20000, 100000), (2000,), "bench_weights", is_list=True),
     "search": Subject(search, (20000, 100000), (3000,), is_list=True),
     "workers": Subject(workers, (100000,), (5000,)),
-    "farm": Subject(farm, (), (), "bench_farm", is_list=True),
+    "farm": Subject(farm, (50000, 100000), (1000, 2000), "bench_farm", is_list=True),
     "run": Subject(run, (1000, 200, 300), (60, 100, 20)),
     "wall": Subject(wall, (300, 40, 3), (30, 8, 1)),
     "sample": Subject(sample, (20000, 100000), (3000,), is_list=True),

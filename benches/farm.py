@@ -40,7 +40,13 @@ def history(program, shape, size, workers):
     return above(skips, built)
 
 
-def main(program, sizes, workers=(1, 8, 64)):
+def costs(bench, sizes, workers=(1, 8, 64)):
+    """Prints what each task of bench_farm costs; whether twice the commits to skip cost less than three times as much."""
+    right = True
     for shape in SHAPES:
-        for size in sizes:
-            history(program, shape, size, workers)
+        skips = [history(bench.program, shape, size, workers) for size in sizes]
+        for size, one, (twice, other) in zip(sizes, skips, list(zip(sizes, skips))[1:]):
+            if twice == 2 * size:
+                print(f"{shape}: {twice} skips cost {other / max(one, 0.001):.1f} times as much as {size}", flush=True)
+                right &= other < 3 * max(one, 0.02)
+    return right
