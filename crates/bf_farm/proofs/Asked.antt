@@ -1,6 +1,6 @@
 -- The calling thread tests what the run waits for, and nothing else.
 use Rattle.std.proofs.Common.{◌≡◌, ℕ, zero, suc, ◌<◌, Bool, true, false, not, ◌&&◌, ◌||◌, ◌==◌, cond, List, [], ◌∷◌, ◌++◌, length, get_or, set, Option, Some, None, refl, sym, ap, subst, ◌∙◌, arith, eqb-true, eq-eqb, Result, Ok, Err, ◌≤◌}
-use Rattle.std.specs.Result.{OnOk}
+use Rattle.std.specs.Result.{IfOk, OnOk}
 use Rattle.std.proofs.lemmas.Bool.{and_parts}
 use Rattle.bf_io.specs.Causes.{Rose}
 use Rattle.bf_search.specs.declared.farm.Claim.{Claim}
@@ -16,11 +16,10 @@ use Rattle.bf_guesses.proofs.Used.{told}
 use Rattle.bf_core.specs.declared.answers.Pick.{Pick}
 use Rattle.bf_core.specs.declared.answers.Pick.TheVariants.{Work, NotYet, Ended}
 use Rattle.bf_farm.specs.Cores.{CoreView, run_of, IsSameStart}
-use Rattle.std.proofs.lemmas.List.Elements.{All-push}
 use Rattle.bf_grammar.specs.declared.object.Oid.{Oid}
 use Rattle.bf_tester.specs.declared.answer.Answer.{Answer}
 use Rattle.bf_farm.specs.Boards.{BoardView, Does, DoesIf, PicksNew, PicksFor, claimed_by, unclaimed, IsSameBoard}
-use Rattle.bf_farm.specs.Ends.{HasFailed, IsAsking, IsNext, AreAlone, worker_of, missing}
+use Rattle.bf_farm.specs.Ends.{HasFailed, IsAsking, IsNext, GainsClaim, missing}
 use Rattle.bf_farm.specs.Sound.{IsSound}
 use Rattle.bf_farm.proofs.History.{chosen}
 use Rattle.bf_farm.proofs.Soundness.{sound_if, start_if, first_if}
@@ -151,16 +150,10 @@ pub record KeepsAll (old new : BoardView) : Type 0 where
   pub start : IsSameStart old.core new.core
   pub first : new.first ≡ old.first
   pub table : new.core.farm.table ≡ old.core.farm.table
-  pub alone : AreAlone old.events → AreAlone new.events
 
 table_if : (legal : Bool) (old new : BoardView) (p : ℕ) → DoesIf legal old new (events.Claim 0 p) → new.core.farm.table ≡ old.core.farm.table
 table_if true old new p does = sym (ap (λ (f : Farm). f.table) (chosen _ _ new.core.farm does.done))
 table_if false old new p same = ap (λ (x : CoreView). x.farm.table) same.core
-
-pub alone_if : (legal : Bool) (old new : BoardView) (e : Event) → worker_of e ≡ 0 → DoesIf legal old new e → AreAlone old.events → AreAlone new.events
-alone_if true old new e by does all =
-    subst (λ (es : List Event). AreAlone es) (sym does.noted) (All-push (λ (x : Event). worker_of x ≡ 0) old.events e all by)
-alone_if false old new e by same all = subst (λ (es : List Event). AreAlone es) (sym same.events) all
 
 pub pick_keeps : (old new : BoardView) (pick : Pick) → old.core.farm.claims ≡ [] → PicksFor (claimed_by old.core.farm.claims 0) old new 0 pick
     → KeepsAll old new
@@ -171,8 +164,30 @@ pick_keeps old new pick none picks =
       start = start_if is.0 old new (events.Claim 0 is.1) is.2;
       first = first_if is.0 old new (events.Claim 0 is.1) is.2;
       table = table_if is.0 old new is.1 is.2;
-      alone = alone_if is.0 old new (events.Claim 0 is.1) refl is.2;
     }
+
+-- the claim is noted
+claim_noted : (old new : BoardView) (pick : Pick) (w p : ℕ) → old.core.farm.claims ≡ [] → PicksNew old new 0 pick
+    → stands new.core.farm.claims w p ≡ true → GainsClaim old.events new.events (Some p)
+claim_noted old new (Work q) w p none picks h =
+    subst (λ (x : ℕ). new.events ≡ old.events ++ events.Claim 0 x ∷ [])
+    (stands_there new.core.farm.claims w p q (asks_claimed old new q none picks).claims h) picks.noted
+claim_noted old new NotYet w p none picks h = absurd (none_stands new.core.farm.claims w p (same_none old new none picks.0) h)
+claim_noted old new Ended w p none picks h = absurd (none_stands new.core.farm.claims w p (same_none old new none picks.0) h)
+
+nothing_noted : (old new : BoardView) (pick : Pick) → old.core.farm.claims ≡ [] → PicksNew old new 0 pick → new.core.farm.claims ≡ []
+    → GainsClaim old.events new.events None
+nothing_noted old new (Work q) none picks h = cc (h, (asks_claimed old new q none picks).claims)
+nothing_noted old new NotYet none picks h = picks.0.events
+nothing_noted old new Ended none picks h = picks.0.events
+
+pub noted_some : (old new : BoardView) (pick : Pick) (w p : ℕ) → old.core.farm.claims ≡ [] → PicksFor (claimed_by old.core.farm.claims 0) old new 0 pick
+    → stands new.core.farm.claims w p ≡ true → GainsClaim old.events new.events (Some p)
+noted_some old new pick w p none picks h = claim_noted old new pick w p none (without_claims old new pick none picks) h
+
+pub noted_none : (old new : BoardView) (pick : Pick) → old.core.farm.claims ≡ [] → PicksFor (claimed_by old.core.farm.claims 0) old new 0 pick
+    → new.core.farm.claims ≡ [] → GainsClaim old.events new.events None
+noted_none old new pick none picks h = nothing_noted old new pick none (without_claims old new pick none picks) h
 
 -- ---- places without an outcome
 
@@ -205,6 +220,10 @@ failed_after_give old new p before now failed asking does rose latest = record {
 pub on_ok : {X E A B : Type 0} (r : Result X E) → (A → B) → OnOk r A → OnOk r B
 on_ok (Ok x) f h = f h
 on_ok (Err e) f h = tt
+
+pub if_ok : {X E : Type 0} {P Q : X → Type 0} (r : Result X E) → ((x : X) → P x → Q x) → IfOk r P → IfOk r Q
+if_ok (Ok x) f h = f x h
+if_ok (Err e) f h = tt
 
 pub rose_since : (first before now : ℕ) → first ≤ before → Rose before now → Rose first now
 rose_since first before now later rose = omega (arith, rose)

@@ -4,6 +4,7 @@ pub mod GoingOn
 pub mod History
 pub mod Listed
 pub mod Marking
+pub mod Noted
 pub mod Planned
 pub mod Promised
 pub mod Reporting

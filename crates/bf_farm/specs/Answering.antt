@@ -1,11 +1,12 @@
 -- What a run of tests promises of its report.
-use Rattle.std.specs.Prelude.{◌≡◌, ◌≢◌, ◌↔◌, ℕ, ◌<◌, ◌≤◌, ◌*◌, ◌^◌, true, List, length, map, filter, All, Option, Some}
-use Rattle.std.specs.List.{slice_get, AllPairs}
+use Rattle.std.specs.Prelude.{◌≡◌, ◌≢◌, ◌↔◌, ℕ, ◌<◌, ◌≤◌, ◌*◌, ◌^◌, true, List, ◌++◌, length, map, filter, All, Option, Some}
+use Rattle.std.specs.List.{flat_map, slice_get, AllPairs}
 use Rattle.std.specs.Option.{is_none}
 use Rattle.bf_grammar.specs.declared.object.Oid.{Oid}
 use Rattle.bf_io.specs.Causes.{Rose}
 use Rattle.bf_search.specs.declared.entries.Entry.{Entry}
 use Rattle.bf_search.specs.declared.farm.Ending.TheVariants.{Leg, TestFault}
+use Rattle.bf_search.specs.declared.farm.Event.{Event}
 use Rattle.bf_search.specs.declared.outcomes.Outcome.{Outcome}
 use Rattle.bf_search.specs.Farm.{Setting, consumed, end_of}
 use Rattle.bf_search.specs.Outcomes.{outcomes_of_pairs, outcomes_of_table}
@@ -17,7 +18,7 @@ use Rattle.bf_state.specs.Session.{Session, with_search}
 use Rattle.bf_tester.specs.declared.answer.Answer.{Answer}
 use Rattle.bf_farm.specs.declared.report.Report.{Report}
 use Rattle.bf_farm.specs.Boards.{LeadsTo, unclaimed}
-use Rattle.bf_farm.specs.Ends.{AreAlone}
+use Rattle.bf_farm.specs.Ends.{TestsOn, awaited, failed_test, test_of}
 use Rattle.bf_farm.specs.Reports.{TableIn, TableFollows, PostsIn, AreAmong}
 
 -- the place and the outcome of an answer
@@ -56,13 +57,18 @@ HasHistory setting first report = LeadsTo setting first report.events.items (unc
 abbrev pub HasFault : ℕ → ℕ → Option ℕ → Report → Type 0
 HasFault before now failed report = (p : ℕ) → report.ending ≡ TestFault p → Rose before now × (failed ≡ Some p)
 
--- the calling thread alone
-abbrev pub IsAlone : Report → Type 0
-IsAlone report = AreAlone report.events.items
+-- where the events of a board were tests, those of the report are so, and at last the test that failed
+abbrev pub ReportsTests : List Event → List Answer → List Answer → Report → Type 0
+ReportsTests old answers more report = TestsOn old answers report.events.items more (awaited (end_of report.ending))
 
 -- the used answers that a table lacks, in order
 abbrev pub lacking : List (Option Outcome) → List Answer → List Answer
 lacking table used = filter (λ a. is_none (outcomes_of_table table a.place)) used
+
+-- Its events are the tests of the used answers that a table lacks, by the calling thread, and at last the test that failed.
+abbrev pub IsAlone : List (Option Outcome) → Report → Type 0
+IsAlone table report =
+    report.events.items ≡ flat_map test_of (lacking table report.used.items) ++ failed_test (awaited (end_of report.ending))
 
 -- Among candidates in one line each test halves them, where nothing is skipped and each outcome is good or bad.
 abbrev pub Halves : Setting → Report → Type 0

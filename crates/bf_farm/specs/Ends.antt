@@ -1,11 +1,13 @@
 -- How a run of tests ends.
-use Rattle.std.specs.Prelude.{◌≡◌, ℕ, ◌<◌, suc, false, List, [], ◌∷◌, length, All, Option, Some, None}
+use Rattle.std.specs.Prelude.{◌≡◌, ℕ, ◌<◌, suc, false, List, [], ◌∷◌, ◌++◌, length, Option, Some, None}
+use Rattle.std.specs.List.{flat_map}
 use Rattle.bf_search.specs.declared.farm.Event.{Event}
 use Rattle.bf_search.specs.declared.farm.Event.TheVariants as events
 use Rattle.bf_search.specs.declared.outcomes.Outcome.{Outcome}
 use Rattle.bf_io.specs.Causes.{Rose}
-use Rattle.bf_search.specs.Run.{End, Open}
+use Rattle.bf_search.specs.Run.{End, Answered, Leg, Open, Aborted}
 use Rattle.bf_state.specs.Runs.{is_open}
+use Rattle.bf_tester.specs.declared.answer.Answer.{Answer}
 use Rattle.bf_farm.specs.declared.alone.Turn.{Turn}
 use Rattle.bf_farm.specs.declared.alone.Turn.TheVariants.{GoesOn, Ended, Failed}
 use Rattle.bf_farm.specs.Cores.{CoreView, run_of}
@@ -15,15 +17,6 @@ abbrev pub missing : List (Option Outcome) → ℕ
 missing [] = 0
 missing (None ∷ table) = suc (missing table)
 missing (Some outcome ∷ table) = missing table
-
-abbrev pub worker_of : Event → ℕ
-worker_of (events.Claim worker p) = worker
-worker_of (events.Post worker p outcome) = worker
-worker_of (events.Give worker p) = worker
-
--- events of the calling thread alone
-abbrev pub AreAlone : List Event → Type 0
-AreAlone events = All (λ e. worker_of e ≡ 0) events
 
 -- The run waits for this place, and the calling thread has claimed it alone.
 pub record IsAsking (core : CoreView) (p : ℕ) : Type 0 where
@@ -56,3 +49,53 @@ TurnEnds core before now failed (Failed p) = (core.farm.claims ≡ []) × HasFai
 abbrev pub StopsAt : End → Option ℕ → Type 0
 StopsAt end None = is_open end ≡ false
 StopsAt end (Some p) = end ≡ Open p
+
+-- ---- what the calling thread does, where it tests alone
+
+-- a test: its place is claimed, and the outcome is posted
+abbrev pub test_at : ℕ × Outcome → List Event
+test_at pair = events.Claim 0 pair.0 ∷ events.Post 0 pair.0 pair.1 ∷ []
+
+abbrev pub test_of : Answer → List Event
+test_of a = test_at (a.place, a.outcome)
+
+-- a test that failed: its place is claimed, and given back
+abbrev pub failed_test : Option ℕ → List Event
+failed_test None = []
+failed_test (Some p) = events.Claim 0 p ∷ events.Give 0 p ∷ []
+
+-- the place whose outcome a run waits for at its end
+abbrev pub awaited : End → Option ℕ
+awaited (Answered a) = None
+awaited Leg = None
+awaited (Open p) = Some p
+awaited (Aborted p outcome) = None
+
+abbrev pub failed_in : Turn → Option ℕ
+failed_in GoesOn = None
+failed_in Ended = None
+failed_in (Failed p) = Some p
+
+-- The events are the tests of the answers that were gained, in order, and at last that of the test that failed.
+pub record AreTests (before after : List Answer) (events : List Event) (failed : Option ℕ) : Type 0 where
+  pub gained : List Answer
+  pub added : after ≡ before ++ gained
+  pub tested : events ≡ flat_map test_of gained ++ failed_test failed
+
+-- the events gained the claim of a place, or nothing
+abbrev pub GainsClaim : List Event → List Event → Option ℕ → Type 0
+GainsClaim old new None = new ≡ old
+GainsClaim old new (Some p) = new ≡ old ++ events.Claim 0 p ∷ []
+
+-- where the events were tests, they are so with those that were added
+abbrev pub TestsOn : List Event → List Answer → List Event → List Answer → Option ℕ → Type 0
+TestsOn old answers new more failed = (before : List Answer) → AreTests before answers old None → AreTests before more new failed
+
+-- so after a turn, at whose end a test may have failed
+abbrev pub TurnTests : List Event → List Answer → List Event → List Answer → Turn → Type 0
+TurnTests old answers new more turn = TestsOn old answers new more (failed_in turn)
+
+-- so with those that end the test of a place that was claimed
+abbrev pub TestsClaimed : ℕ → List Event → List Answer → List Event → List Answer → Turn → Type 0
+TestsClaimed p old answers new more turn = (before : List Answer) (earlier : List Event) → AreTests before answers earlier None
+    → GainsClaim earlier old (Some p) → AreTests before more new (failed_in turn)

@@ -4,10 +4,10 @@ ghost use Rattle.bf_io.specs.Causes.{Rose};
 ghost use Rattle.bf_search.specs.Farm.{best_place};
 ghost use Rattle.bf_search.specs.Run.{Open};
 ghost use Rattle.bf_farm.specs.Cores.{IsSameStart, run_of};
-ghost use Rattle.bf_farm.specs.Answering.{IsReport, IsSoundReport, HasHistory, HasFault, IsAlone, setting_at, lacking, Halves};
+ghost use Rattle.bf_farm.specs.Answering.{IsReport, IsSoundReport, HasHistory, HasFault, IsAlone, ReportsTests, setting_at, lacking, Halves};
 ghost use Rattle.bf_farm.specs.Gains.{GainsMore};
 ghost use Rattle.bf_guesses.specs.Ends.{HasEnds};
-ghost use Rattle.bf_farm.specs.Ends.{EndsWith, IsAsking, IsNext, TurnEnds, AreAlone, missing};
+ghost use Rattle.bf_farm.specs.Ends.{EndsWith, IsAsking, IsNext, TurnEnds, GainsClaim, TestsClaimed, TestsOn, TurnTests, missing};
 ghost use Rattle.bf_farm.specs.Reports.{manner_by, TableIn, TableFollows};
 ghost use Rattle.bf_farm.specs.Sound.{IsSound};
 ghost use Rattle.bf_grammar.specs.declared.object.Oid.{Oid as OidValue};
@@ -44,7 +44,7 @@ fn next_place(board: &mut Board<'_>) -> Result<Option<u32>, AllocError>
     ensures start { OnOk result (IsSameStart board.old.core board.new.core) }
     ensures first { OnOk result (board.new.first ≡ board.old.first) }
     ensures table { OnOk result (board.new.core.farm.table ≡ board.old.core.farm.table) }
-    ensures alone { OnOk result (AreAlone board.old.events → AreAlone board.new.events) }
+    ensures noted { IfOk result (GainsClaim board.old.events board.new.events) }
 {
     board.pick(ALONE)?;
     match board.first_claim() {
@@ -74,7 +74,7 @@ fn test_claimed<R: Host, T: Tester>(
     ensures ends { IfOk result (TurnEnds board.new.core (T.faults tester.old) (T.faults tester.new) (T.failed tester.new)) }
     ensures fewer { IfOk result (λ turn. turn ≡ Turn.GoesOn → missing board.new.core.farm.table < missing board.old.core.farm.table) }
     ensures len { OnOk result (length board.new.core.farm.table ≡ length board.old.core.farm.table) }
-    ensures alone { OnOk result (AreAlone board.old.events → AreAlone board.new.events) }
+    ensures alone { IfOk result (TestsClaimed place board.old.events (T.answers tester.old) board.new.events (T.answers tester.new)) }
 {
     let name = names[place as usize];
     match tester.test(rt, place, name, &mut StopView::none()) {
@@ -110,7 +110,7 @@ fn take_turn<R: Host, T: Tester>(
     ensures ends { IfOk result (TurnEnds board.new.core (T.faults tester.old) (T.faults tester.new) (T.failed tester.new)) }
     ensures fewer { IfOk result (λ turn. turn ≡ Turn.GoesOn → missing board.new.core.farm.table < missing board.old.core.farm.table) }
     ensures len { OnOk result (length board.new.core.farm.table ≡ length board.old.core.farm.table) }
-    ensures alone { OnOk result (AreAlone board.old.events → AreAlone board.new.events) }
+    ensures alone { IfOk result (TurnTests board.old.events (T.answers tester.old) board.new.events (T.answers tester.new)) }
 {
     match next_place(board)? {
         Some(place) => test_claimed(rt, board, names, tester, place),
@@ -138,7 +138,7 @@ pub(crate) fn go_on<R: Host, T: Tester>(
     ensures ends { IfOk result (EndsWith board.new.core (T.faults tester.old) (T.faults tester.new) (T.failed tester.new)) }
     ensures claims { OnOk result (board.new.core.farm.claims ≡ []) }
     ensures len { OnOk result (length board.new.core.farm.table ≡ length board.old.core.farm.table) }
-    ensures alone { OnOk result (AreAlone board.old.events → AreAlone board.new.events) }
+    ensures alone { IfOk result (TestsOn board.old.events (T.answers tester.old) board.new.events (T.answers tester.new)) }
 {
     loop {
         match take_turn(rt, board, names, tester)? {
@@ -167,7 +167,7 @@ pub(crate) fn finish<R: Host, T: Tester>(
     ensures later { T.faults tester.old ≤ T.faults tester.new }
     ensures lacking { IfOk result (λ report. T.answers tester.new ≡ T.answers tester.old ++ lacking board.entry.core.farm.table report.used.items) }
     ensures halving { IfOk result (Halves board.entry.core.setting) }
-    ensures alone { IfOk result (λ report. AreAlone board.entry.events → IsAlone report) }
+    ensures alone { IfOk result (ReportsTests board.entry.events (T.answers tester.old) (T.answers tester.new)) }
     ensures manner { manner_by T.told T.command T.is_lenient T.grounds T.recalled tester.new ≡ manner_by T.told T.command T.is_lenient T.grounds T.recalled tester.old }
     ensures is_split { T.is_split tester.new ≡ T.is_split tester.old }
 {
@@ -201,7 +201,7 @@ pub fn run_alone<R: Host, T: Tester>(
     ensures later { T.faults tester.old ≤ T.faults tester.new }
     ensures lacking { IfOk result (λ report. T.answers tester.new ≡ T.answers tester.old ++ lacking case.entry.table report.used.items) }
     ensures halving { IfOk result (Halves (setting_at case.entry.reach.now case.entry.state case.entry.leg)) }
-    ensures alone { IfOk result IsAlone }
+    ensures alone { IfOk result (IsAlone case.entry.table) }
     ensures manner { manner_by T.told T.command T.is_lenient T.grounds T.recalled tester.new ≡ manner_by T.told T.command T.is_lenient T.grounds T.recalled tester.old }
     ensures is_split { T.is_split tester.new ≡ false }
 {

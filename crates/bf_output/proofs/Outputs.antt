@@ -1,7 +1,8 @@
 -- All words and bytes have one output.
-use Rattle.std.proofs.Common.{◌≡◌, ◌≢◌, ℕ, suc, Bool, true, false, List, [], length, map, replicate, IfSome, Option, Some, None, Result, Ok, Err, inl, inr, refl, sym, subst, ◌∙◌, ap, arith}
+use Rattle.std.proofs.Common.{◌≡◌, ◌≢◌, ℕ, suc, Bool, true, false, List, [], ◌++◌, length, map, replicate, IfSome, Option, Some, None, Result, Ok, Err, inl, inr, refl, sym, subst, ◌∙◌, ap, arith}
 use Rattle.std.proofs.lemmas.Bool.{both_ways}
-use Rattle.std.proofs.lemmas.List.Elements.{All-nil, All-push}
+use Rattle.std.proofs.lemmas.List.{append-nil}
+use Rattle.std.specs.List.{flat_map}
 use Rattle.bf_grammar.specs.declared.command.Command.{Command}
 use Rattle.bf_grammar.specs.declared.fault.Limits.{Limits}
 use Rattle.bf_grammar.specs.declared.fault.StreamFault.{StreamFault}
@@ -18,10 +19,10 @@ use Rattle.bf_words.specs.declared.verb.Verb.{Verb}
 use Rattle.bf_words.specs.declared.verb.Verb.TheVariants.{Simulate, Run, Next, Replay, Gen, Sample}
 use Rattle.bf_search.specs.declared.outcomes.Outcome.{Outcome}
 use Rattle.bf_farm.specs.Answering.{pair_of}
-use Rattle.bf_farm.specs.Ends.{AreAlone, worker_of}
-use Rattle.bf_runs.specs.Legs.{Legs, LegsLead}
+use Rattle.bf_farm.specs.Ends.{awaited, failed_test, test_at}
+use Rattle.bf_farm.proofs.Noted.{failed_leads}
+use Rattle.bf_runs.specs.Legs.{Legs, LegsLead, setting_of}
 use Rattle.bf_runs.proofs.Fresh.{none_known, fresh_in, fresh_follows}
-use Rattle.bf_search.specs.declared.farm.Event.{Event}
 use Rattle.bf_search.specs.Outcomes.{outcomes_of_plan, outcomes_of_table}
 use Rattle.bf_state.specs.Runs.{IsPartOf}
 use Rattle.bf_state.proofs.Tables.{seq_ends_alike, seq_goes_on}
@@ -36,8 +37,8 @@ use Rattle.bf_output.specs.Sample.{sampled}
 use Rattle.bf_output.specs.Simulate.{IsRunTold, IsSimulated, plan_of, ran, run_over}
 use Rattle.bf_output.specs.declared.status.Status.TheVariants as status
 use Rattle.bf_output.specs.Tested.{Tested, IsTested, IsFrontOf, IsFrontIfTold, run_on, told_of_run}
-use Rattle.bf_output.specs.Traces.{traced_if}
-use Rattle.bf_output.proofs.Unused.{none_used}
+use Rattle.bf_output.specs.Traces.{course_of, traced_if}
+use Rattle.bf_output.proofs.Unused.{none_used, same_end}
 use Rattle.bf_output.specs.Told.{Told, told_by}
 
 one_loading : (bytes : List ℕ) (limits : Limits) (one other : Result History ImportFault) → Loads bytes limits one → Loads bytes limits other → one ≡ other
@@ -124,27 +125,41 @@ module _ (told other : Told) (whole : told.status ≢ status.WriteFault) (also_w
 abbrev nothing : History → List (Option Outcome)
 nothing history = replicate (length history.parents) None
 
-abbrev no_legs : Legs
-no_legs = record { whole = []; last = [] }
+-- the place that is asked for first
+abbrev asked_first : History → Begun → Option ℕ
+asked_first history first = awaited (run_on history first (nothing history)).end
+
+-- its test fails
+abbrev one_failed : History → Begun → Legs
+one_failed history first = record { whole = []; last = failed_test (asked_first history first) }
+
+unused : (history : History) (first : Begun) → (run_on history first (nothing history)).used ≡ []
+unused history first =
+    none_used history.parents (outcomes_of_table (nothing history)) (none_known (length history.parents)) first.search 0
 
 -- the run on no answer at all
 nothing_tested : (request : Request) (tested : Tested) (history : History) (first : Begun) → tested.answers ≡ []
-    → IsTested request tested history first (traced_if request.trace history no_legs (told_of_run history first (run_on history first (nothing history))))
+    → IsTested request tested history first (traced_if request.trace history (one_failed history first) (told_of_run history first (run_on history first (nothing history))))
 unfolding LegsLead
 nothing_tested request tested history first none = record {
   table = nothing history;
-  legs = no_legs;
+  legs = one_failed history first;
   over = record {
-    are = record { stand = _; whole = refl; last = refl };
+    are = record {
+      stand = _;
+      whole = refl;
+      last = failed_leads (setting_of (course_of request history first) first.search) (nothing history) (run_on history first (nothing history)).end
+          (same_end history.parents (outcomes_of_table (nothing history)) (none_known (length history.parents)) first.search request.leg);
+    };
     is = refl;
     known = record {
       answered = fresh_in history.names tested.answers (length history.parents) (nothing history) refl;
       planned = fresh_follows tested.plan (length history.parents) (nothing history) refl;
     };
     alone = λ one. record {
-      given = ap (λ (xs : List Answer). map pair_of xs) none ∙ sym (none_used history.parents (outcomes_of_table (nothing history))
-          (none_known (length history.parents)) first.search 0);
-      own = All-push AreAlone [] [] (All-nil AreAlone) (All-nil (λ (e : Event). worker_of e ≡ 0));
+      given = ap (λ (xs : List Answer). map pair_of xs) none ∙ sym (unused history first);
+      tested = append-nil (failed_test (asked_first history first))
+          ∙ ap (λ (used : List (ℕ × Outcome)). flat_map test_at used ++ failed_test (asked_first history first)) (sym (unused history first));
     };
   };
   planned = by_plan tested.plan;

@@ -6,7 +6,7 @@ use Rattle.bf_history.specs.Meanings.{History}
 use Rattle.bf_search.specs.declared.outcomes.Outcome.{Outcome}
 use Rattle.bf_search.specs.Outcomes.{outcomes_of_plan, outcomes_of_table, planned}
 use Rattle.bf_search.specs.Run.{End, Answered, Leg, Open, Aborted, Run}
-use Rattle.bf_runs.specs.Legs.{Legs}
+use Rattle.bf_runs.specs.Legs.{Legs, AreTestsOf, all_of}
 use Rattle.bf_state.specs.Runs.{IsPartOf, is_open}
 use Rattle.bf_state.proofs.Tables.{seq_ends_alike, seq_goes_on}
 use Rattle.bf_words.specs.declared.request.Request.{Request}
@@ -97,6 +97,6 @@ simulated_run request words tested history first told e is h = inl (by_flag requ
       are = is.over.are;
       planned = subst (λ (o : Option (List Outcome)). TableFollows o is.table) e is.over.known.planned;
       knows = whole;
-      alone = λ one. (is.over.alone one).own;
+      alone = λ one. subst (λ (r : Run). AreTestsOf r (all_of is.legs)) whole (is.over.alone one).tested;
       tells = tells ∙ ap (traced history is.legs) (ends.1 ∙ ap (ran history first) whole);
     }

@@ -1,5 +1,5 @@
--- A run that knows no outcome uses none.
-use Rattle.std.proofs.Common.{◌≡◌, ℕ, zero, suc, List, [], Option, Some, None, refl, ap}
+-- A run that knows no outcome uses none, and ends in the same way whatever its legs are.
+use Rattle.std.proofs.Common.{◌≡◌, ℕ, zero, suc, List, [], length, Option, Some, None, refl, sym, ap, ◌∙◌}
 use Rattle.bf_search.specs.declared.asks.Ask.{Ask}
 use Rattle.bf_search.specs.declared.asks.Ask.TheVariants.{WaitBoth, WaitBad, WaitGood, Test, MergeBaseBad, GoodNotAncestor, BothSides, FirstBad, OnlySkipped}
 use Rattle.bf_search.specs.declared.outcomes.Outcome.{Outcome}
@@ -32,3 +32,26 @@ module _ (graph : List (List ℕ)) (known : Outcomes) (none : (p : ℕ) → know
   pub none_used : (s : Search) (k : ℕ) → (seq graph s known k).used ≡ []
   unfolding run
   none_used s k = by_turns _ _ s
+
+  end_by_step : (go : Option ℕ → Search → Run) (left other : Option ℕ) (s : Search) (a : Ask)
+      → (after_step known go left s a).end ≡ (after_step known go other s a).end
+  end_by_step go left other s (Test p) =
+      ap (λ (o : Option Outcome). (after_look known go left s p o).end) (none p)
+      ∙ sym (ap (λ (o : Option Outcome). (after_look known go other s p o).end) (none p))
+  end_by_step go left other s (FirstBad p) = refl
+  end_by_step go left other s (OnlySkipped ps) = refl
+  end_by_step go left other s (MergeBaseBad p) = refl
+  end_by_step go left other s (GoodNotAncestor p) = refl
+  end_by_step go left other s (BothSides p) = refl
+  end_by_step go left other s WaitBoth = refl
+  end_by_step go left other s WaitBad = refl
+  end_by_step go left other s WaitGood = refl
+
+  end_in_turns : (turns k : ℕ) (s : Search) → (run_within (suc turns) graph known (Some (suc k)) s).end ≡ (run_within (suc turns) graph known None s).end
+  unfolding run_within
+  end_in_turns turns k s = end_by_step (run_within turns graph known) (Some (suc k)) None (ask graph s).search (ask graph s).step.ask
+
+  pub same_end : (s : Search) (k : ℕ) → (seq graph s known k).end ≡ (seq graph s known 0).end
+  unfolding run
+  same_end s zero = refl
+  same_end s (suc k) = end_in_turns (length graph) k s

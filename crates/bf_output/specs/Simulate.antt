@@ -1,13 +1,12 @@
 -- The command `simulate`: a search over a plan that is written as letters.
-use Rattle.std.specs.Prelude.{◌≡◌, ◌⊎◌, ℕ, ◌≤◌, Bool, true, false, if◌then◌else◌, List, All, Option, Some, [], ◌++◌, map, unwrap_or}
-use Rattle.bf_farm.specs.Ends.{AreAlone}
+use Rattle.std.specs.Prelude.{◌≡◌, ◌⊎◌, ℕ, ◌≤◌, Bool, true, false, if◌then◌else◌, List, Option, Some, [], ◌++◌, map, unwrap_or}
 use Rattle.bf_farm.specs.Reports.{TableFollows}
 use Rattle.bf_history.specs.Meanings.{History}
 use Rattle.bf_search.specs.declared.asks.Ask.{Ask}
 use Rattle.bf_search.specs.declared.asks.Ask.TheVariants as ask
 use Rattle.bf_search.specs.declared.outcomes.Outcome.{Outcome}
 use Rattle.bf_search.specs.declared.outcomes.Outcome.TheVariants.{Exit}
-use Rattle.bf_runs.specs.Legs.{Legs, AreLegs, all_of}
+use Rattle.bf_runs.specs.Legs.{Legs, AreLegs, AreTestsOf, all_of}
 use Rattle.bf_search.specs.Outcomes.{lenient, outcome_of_letter, outcomes_of_plan, outcomes_of_table}
 use Rattle.bf_search.specs.Run.{End, Answered, Leg, Open, Aborted, Run, seq}
 use Rattle.bf_texts.specs.Texts.{answer_lines}
@@ -64,14 +63,14 @@ run_over history first plan = seq history.parents first.search (outcomes_of_plan
 -- ---- a search over a plan, leg by leg and with several workers
 
 -- The run is that of the plan, whatever the workers did: they posted the outcomes of the plan alone, and all that the run
--- asked for. Their events are told behind it.
+-- asked for. Their events are told behind it; those of one worker are the tests of the run, in order.
 pub record IsTracedRun (request : Request) (plan : List Outcome) (history : History) (first : Begun) (told : Told) : Type 0 where
   pub table : List (Option Outcome)
   pub legs : Legs
   pub are : AreLegs (course_of request history first) legs table
   pub planned : TableFollows (Some plan) table
   pub knows : seq history.parents first.search (outcomes_of_table table) 0 ≡ run_over history first plan
-  pub alone : request.workers ≤ 1 → All AreAlone (all_of legs)
+  pub alone : request.workers ≤ 1 → AreTestsOf (run_over history first plan) (all_of legs)
   pub tells : told ≡ traced history legs (ran history first (run_over history first plan))
 
 abbrev pub IsRunTold : Bool → Request → List Outcome → History → Begun → Told → Type 0

@@ -3,10 +3,8 @@ use Rattle.std.proofs.Common.{◌≡◌, ◌≢◌, ℕ, ◌≤◌, Bool, true, 
 use Rattle.std.specs.List.{All, flat_map}
 use Rattle.std.proofs.lemmas.Grind.{flat_map-append}
 use Rattle.std.proofs.lemmas.List.{append_assoc, append-nil, length-replicate}
-use Rattle.std.proofs.lemmas.List.Elements.{All-nil}
 use Rattle.bf_farm.specs.Answering.{pair_of, HasFault}
 use Rattle.bf_farm.proofs.Asked.{rose_since}
-use Rattle.bf_farm.specs.Ends.{AreAlone}
 use Rattle.bf_farm.specs.Reports.{TableFollows}
 use Rattle.bf_farm.specs.declared.report.Report.{Report}
 use Rattle.bf_guesses.specs.Ends.{HasEnds}
@@ -94,9 +92,10 @@ begun_running request tested history first running none state table known text t
       between = record {
         legs = λ i. record { search = (state i).search; table = table i };
         reached = sym (ap (λ (s : Session). s.search) state);
+        ended = refl;
         goes_on = λ more part. refl;
         known = nothing;
-        alone = λ one. record { given = ap (λ (xs : List Answer). map pair_of xs) none; own = All-nil AreAlone };
+        alone = λ one. record { given = ap (λ (xs : List Answer). map pair_of xs) none; tested = refl };
       };
       ready = record {
         len = ap (λ (s : Session). s.len) state ∙ len;

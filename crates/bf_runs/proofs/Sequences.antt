@@ -1,14 +1,16 @@
 -- Runs in legs: each leg goes on from the one before, and the last one ends the run without legs.
 use Rattle.std.proofs.Common.{◌≡◌, ◌≢◌, ℕ, zero, suc, ◌<◌, ◌≤◌, ◌+◌, true, if◌then◌else◌, List, [], ◌∷◌, ◌++◌, length, get_or, map, Option, Some, None, refl, sym, ap, subst, ◌∙◌, ⊎_elim, arith}
-use Rattle.std.proofs.lemmas.List.{append_assoc, append-nil, length-append, length-map, length-set, map-append, get_or_append_left, get_or-append-add, get_or_default, get_or-map}
+use Rattle.std.proofs.lemmas.Grind.{flat_map-append}
+use Rattle.std.proofs.lemmas.List.Folds.{flat_map-map}
+use Rattle.std.proofs.lemmas.List.{append_assoc, append-nil, flat_map_more, length-append, length-map, length-set, map-append, get_or_append_left, get_or-append-add, get_or_default, get_or-map}
 use Rattle.std.proofs.lemmas.List.Elements.{All-nil, All-push, All-head, All-tail, Contains-append_left, Contains-get_or}
 use Rattle.std.proofs.lemmas.Option.{cond_some}
-use Rattle.std.specs.List.{All, AllPairs, Contains}
+use Rattle.std.specs.List.{All, AllPairs, Contains, flat_map}
 use Rattle.std.specs.Option.{IfSome, is_none}
 use Rattle.bf_core.proofs.Standing.{part_put}
-use Rattle.bf_farm.specs.Answering.{pair_of, lacking, setting_at, IsReport, HasHistory, IsSoundReport}
+use Rattle.bf_farm.specs.Answering.{pair_of, lacking, setting_at, IsAlone, IsReport, HasHistory, IsSoundReport}
 use Rattle.bf_farm.specs.Boards.{LeadsTo, unclaimed}
-use Rattle.bf_farm.specs.Ends.{AreAlone}
+use Rattle.bf_farm.specs.Ends.{awaited, failed_test, test_at, test_of}
 use Rattle.bf_farm.specs.declared.report.Report.{Report}
 use Rattle.bf_farm.specs.Reports.{TableIn, IsAnswered}
 use Rattle.bf_grammar.specs.declared.object.Oid.{Oid}
@@ -40,7 +42,7 @@ use Rattle.bf_state.proofs.Tables.{run_follows}
 use Rattle.bf_tester.specs.declared.answer.Answer.{Answer}
 use Rattle.bf_runs.specs.declared.case.Search.{Search as Searched}
 use Rattle.bf_runs.specs.Courses.{course_from}
-use Rattle.bf_runs.specs.Legs.{Course, Stand, first_stand, setting_of, leg_run, IsLeg, stand_after, LegsLead, Legs, AreLegs, IsKnown, IsTestedAlone, GoesOnFrom, IsBetween, IsOver, IsReady, IsLegRun, LeadsOn}
+use Rattle.bf_runs.specs.Legs.{Course, Stand, first_stand, setting_of, leg_run, IsLeg, stand_after, LegsLead, Legs, AreLegs, IsKnown, AreTestsOf, IsTestedAlone, GoesOnFrom, IsBetween, IsOver, IsReady, IsLegRun, LeadsOn}
 use Rattle.bf_runs.specs.Within.{IsEndingWithin}
 use Rattle.bf_runs.proofs.Ran.{IsEndWithin, run_is_within}
 
@@ -243,6 +245,26 @@ alone_after names before after used table so_far leg rest answered old now pairs
     ∙ ap (λ (xs : List Pair). xs ++ map pair_of used) old
     ∙ ap (λ (xs : List Pair). so_far ++ xs) now
 
+-- the events of one leg more
+tests_after : (table : List (Option Outcome)) (report : Report) (so_far ran : Run) (whole : List (List Event)) → AreTestsOf so_far whole → so_far.end ≡ Leg
+    → IsAlone table report → lacking table report.used.items ≡ report.used.items → map pair_of report.used.items ≡ ran.used → end_of report.ending ≡ ran.end
+    → AreTestsOf (in_sequence so_far ran) (whole ++ report.events.items ∷ [])
+tests_after table report so_far ran whole before ended own lacks used end =
+    let failed = failed_test (awaited ran.end) in
+    let leg : report.events.items ≡ flat_map test_at ran.used ++ failed =
+    own
+    ∙ ap (λ (l : List Answer). flat_map test_of l ++ failed_test (awaited (end_of report.ending))) lacks
+    ∙ ap (λ (l : List Event). l ++ failed_test (awaited (end_of report.ending))) (sym (flat_map-map test_at pair_of report.used.items))
+    ∙ ap (λ (l : List Pair). flat_map test_at l ++ failed_test (awaited (end_of report.ending))) used
+    ∙ ap (λ (e : End). flat_map test_at ran.used ++ failed_test (awaited e)) end in
+    let first : flat_map (λ events. events) whole ≡ flat_map test_at so_far.used =
+    before ∙ ap (λ (e : End). flat_map test_at so_far.used ++ failed_test (awaited e)) ended ∙ append-nil (flat_map test_at so_far.used) in
+    sym (flat_map_more (λ (es : List Event). es) [] whole report.events.items)
+    ∙ ap (λ (l : List Event). l ++ report.events.items) first
+    ∙ ap (λ (l : List Event). flat_map test_at so_far.used ++ l) leg
+    ∙ sym (append_assoc (flat_map test_at so_far.used) (flat_map test_at ran.used) failed)
+    ∙ ap (λ (l : List Event). l ++ failed) (sym (flat_map-append test_at so_far.used ran.used))
+
 -- ---- a report
 
 -- the places of a search are places of the graph
@@ -262,7 +284,7 @@ pub record Reported (course : Course) (told : Option (List Outcome)) (before aft
   pub sound : IsSoundReport told course.names after report
   pub answered : TableIn course.names before table
   pub lacks : course.workers ≤ 1 → after ≡ before ++ lacking table report.used.items
-  pub own : course.workers ≤ 1 → AreAlone report.events.items
+  pub own : course.workers ≤ 1 → IsAlone table report
   pub sorted : IsGraph course.graph
   pub over : IsSearchOver course.graph session.search
 
@@ -286,6 +308,9 @@ module _ (course : Course) (told : Option (List Outcome)) (before after : List A
     state = h.is.state ∙ ap (λ (r : Run). with_search session r.search) h.is.table;
     ending = ended;
   }
+
+  used_is : map pair_of report.used.items ≡ ran.used
+  used_is = h.is.used ∙ ap (λ (r : Run). r.used) h.is.table
 
   leg_ended : report.ending ≡ ending.Leg → ran.end ≡ Leg
   leg_ended e = sym ended ∙ ap end_of e
@@ -312,8 +337,12 @@ module _ (course : Course) (told : Option (List Outcome)) (before after : List A
       → IsTestedAlone after (in_sequence so_far ran) (whole ++ report.events.items ∷ [])
   alone whole so_far between rest pairs one = record {
     given = alone_after course.names before after report.used.items table so_far.used ran.used rest h.answered (between.alone one).given
-        (h.is.used ∙ ap (λ (r : Run). r.used) h.is.table) pairs (h.lacks one);
-    own = All-push AreAlone whole report.events.items (between.alone one).own (h.own one);
+        used_is pairs (h.lacks one);
+    tested = tests_after table report so_far ran whole (between.alone one).tested between.ended (h.own one)
+        (lacks_all table report.used.items
+        (not_known course.names before report.used.items table so_far.used ran.used rest h.answered (between.alone one).given
+        used_is pairs))
+        used_is ended;
   }
 
   differ : (more : Outcomes) (whole : Run) (used : List Pair) → seq course.graph course.first more 0 ≡ whole → whole.used ≡ used
@@ -330,6 +359,7 @@ module _ (course : Course) (told : Option (List Outcome)) (before after : List A
         record {
           legs = legs_lead_on course (first_stand course) stand whole report.events.items report.table between.legs h.history (leg_ended e);
           reached = refl;
+          ended = leg_ended e;
           goes_on = goes;
           known = known;
           alone = alone whole so_far between (seq course.graph ran.search (outcomes_of_table report.table) 0).used
@@ -389,7 +419,7 @@ module _ (search : Searched) (session : Session) (table : List (Option Outcome))
     (history : HasHistory (setting_at search.reach.now session search.leg) table report)
     (sound : IsSoundReport told names after report)
     (lacks : search.workers ≤ 1 → after ≡ before ++ lacking table report.used.items)
-    (own : search.workers ≤ 1 → AreAlone report.events.items)
+    (own : search.workers ≤ 1 → IsAlone table report)
     (sorted : IsGraph search.reach.now) (below : IsSearchBelow session.len session.search)
     (ready : IsReady search.history.now.parents search.history.now.names told before session table) where
   reported : (first : Search) → Reported (course_from search first) told before after session table report

@@ -1,9 +1,10 @@
 -- A run in legs: it stops after each so many marks, and goes on from the search that it has reached, with all that is known
 -- by then.
-use Rattle.std.specs.Prelude.{◌≡◌, ◌≢◌, ℕ, ◌≤◌, List, [], ◌∷◌, ◌++◌, length, map, replicate, All, Option, Some, None}
+use Rattle.std.specs.Prelude.{◌≡◌, ◌≢◌, ℕ, ◌≤◌, List, [], ◌∷◌, ◌++◌, length, map, replicate, Option, Some, None}
+use Rattle.std.specs.List.{flat_map}
 use Rattle.bf_farm.specs.Answering.{pair_of}
 use Rattle.bf_farm.specs.Boards.{LeadsTo, unclaimed}
-use Rattle.bf_farm.specs.Ends.{AreAlone}
+use Rattle.bf_farm.specs.Ends.{awaited, failed_test, test_at}
 use Rattle.bf_farm.specs.Reports.{TableIn, TableFollows}
 use Rattle.bf_farm.specs.declared.report.Report.{Report}
 use Rattle.bf_grammar.specs.declared.object.Oid.{Oid}
@@ -78,10 +79,14 @@ pub record IsKnown (names : List Oid) (told : Option (List Outcome)) (answers : 
   pub answered : TableIn names answers table
   pub planned : TableFollows told table
 
--- One worker gave exactly these answers, in the order of the run, and the events are its own.
+-- The events of all legs are the tests of one worker: of what the run used, in order, and at last the test that failed.
+abbrev pub AreTestsOf : Run → List (List Event) → Type 0
+AreTestsOf run legs = flat_map (λ events. events) legs ≡ flat_map test_at run.used ++ failed_test (awaited run.end)
+
+-- One worker gave exactly these answers, in the order of the run, and its tests are all that happened.
 pub record IsTestedAlone (answers : List Answer) (run : Run) (legs : List (List Event)) : Type 0 where
   pub given : map pair_of answers ≡ run.used
-  pub own : All AreAlone legs
+  pub tested : AreTestsOf run legs
 
 -- whatever more is known, the run without legs goes on from here
 abbrev pub GoesOnFrom : Course → Run → Outcomes → Type 0
@@ -92,6 +97,7 @@ GoesOnFrom course run known =
 pub record IsBetween (course : Course) (told : Option (List Outcome)) (answers : List Answer) (stand : Stand) (whole : List (List Event)) (run : Run) : Type 0 where
   pub legs : LegsLead course (first_stand course) whole stand
   pub reached : run.search ≡ stand.search
+  pub ended : run.end ≡ Leg
   pub goes_on : GoesOnFrom course run (outcomes_of_table stand.table)
   pub known : IsKnown course.names told answers stand.table
   pub alone : course.workers ≤ 1 → IsTestedAlone answers run whole

@@ -44,7 +44,7 @@ pub fn run_case<R: Host, T: Tester>(
     ensures sound { IfOk result (IsSoundReport (T.told tester.old) case.entry.names.now (T.answers tester.new)) }
     ensures fault { IfOk result (HasFault (T.faults tester.old) (T.faults tester.new) (T.failed tester.new)) }
     ensures later { T.faults tester.old ≤ T.faults tester.new }
-    ensures alone { workers ≤ 1 → IfOk result IsAlone }
+    ensures alone { workers ≤ 1 → IfOk result (IsAlone case.entry.table) }
     ensures lacking { workers ≤ 1 → IfOk result (λ report. T.answers tester.new ≡ T.answers tester.old ++ lacking case.entry.table report.used.items) }
     ensures manner { manner_by T.told T.command T.is_lenient T.grounds T.recalled tester.new ≡ manner_by T.told T.command T.is_lenient T.grounds T.recalled tester.old }
     ensures is_split { T.is_split tester.new ≡ false }

@@ -1,3 +1,4 @@
+use Rattle.bf_farm.proofs.Noted.{tests_reported}
 use Rattle.bf_farm.proofs.Gaining.{gained_none}
 use Rattle.bf_farm.proofs.Promised.{lacking_told, halves_told, over_before}
 use Rattle.bf_farm.proofs.Reporting.{sound_report, stops_of, fault_told, same_report, same_history}
@@ -38,3 +39,10 @@ pub returns-clause-halving : goal.returns-clause-halving
 returns-clause-halving g c =
     halves_told c.args.board.core.setting c.args.board.core.first c.args.names.now c.in_ok-report.report
     (over_before c.args.board.core c.go_on.new.board.core c.in_ok-failed.ensures.start c.in_ok-report.ensures.over) (returns-clause-report g c)
+
+pub returns-clause-alone : goal.returns-clause-alone
+returns-clause-alone g c =
+    tests_reported c.args.board.events (g.T.Tester.answers c.args.tester.now) (g.T.Tester.answers c.go_on.new.tester) c.go_on.new.board.core
+    c.go_on.new.board.events c.args.names.now c.in_ok-failed.failed c.in_ok-report.report c.in_ok-failed.ensures.alone
+    (stops_of c.go_on.new.board.core _ _ _ c.in_ok-failed.failed c.in_ok-failed.ensures.ends) c.in_ok-report.ensures.report
+    c.in_ok-report.ensures.table c.in_ok-report.ensures.events

@@ -1,6 +1,6 @@
-use Rattle.std.proofs.Common.{◌≡◌, ◌≤◌, [], length}
+use Rattle.std.proofs.Common.{◌≡◌, ◌≤◌, [], None, length}
 use Rattle.bf_farm.specs.Cores.{IsSameStart}
-use Rattle.bf_farm.specs.Ends.{AreAlone, missing}
+use Rattle.bf_farm.specs.Ends.{TestsOn, missing}
 use Rattle.bf_farm.specs.Gains.{GainsMore}
 use Rattle.bf_farm.specs.Reports.{manner_by}
 use Rattle.bf_farm.specs.Sound.{IsSound}
@@ -19,7 +19,7 @@ invariant-loop-place g l = record {
   faults : g.T.Tester.faults l.fn.tester ≤ g.T.Tester.faults l.tester;
   claims : l.board.core.farm.claims ≡ [];
   len : length l.board.core.farm.table ≡ length l.fn.board.core.farm.table;
-  alone : AreAlone l.fn.board.events → AreAlone l.board.events;
+  alone : TestsOn l.fn.board.events (g.T.Tester.answers l.fn.tester) l.board.events (g.T.Tester.answers l.tester) None;
 }
 
 abbrev pub decreases-loop-place : goal.decreases-loop-place

@@ -1,10 +1,9 @@
-use Rattle.std.proofs.Common.{◌≡◌, ◌++◌, List, Option, subst, sym, arith}
-use Rattle.bf_search.specs.declared.farm.Event.{Event}
-use Rattle.bf_farm.specs.Ends.{AreAlone}
+use Rattle.std.proofs.Common.{◌≡◌, ◌++◌, List, Option, subst}
 use Rattle.bf_search.specs.declared.outcomes.Outcome.{Outcome}
 use Rattle.bf_search.specs.Farm.{Setting, Farm}
 use Rattle.bf_state.specs.Session.{Session}
 use Rattle.bf_farm.specs.Answering.{IsReport, HasHistory, Halves, lacking}
+use Rattle.bf_farm.proofs.Noted.{alone_told}
 use Rattle.bf_farm.proofs.Reporting.{sound_start}
 use Rattle.bf_farm.proofs.alone.run_alone.Goals as goal
 
@@ -25,14 +24,15 @@ returns-clause-history g c =
     (subst (λ (t : List (Option Outcome)). HasHistory c.in_ok-board.board.core.setting t c.in_ok-report.report) c.in_ok-board.ensures.first
     c.in_ok-report.ensures.history)
 
-pub returns-clause-alone : goal.returns-clause-alone
-returns-clause-alone g c =
-    c.in_ok-report.ensures.alone (subst (λ (es : List Event). AreAlone es) (sym c.in_ok-board.ensures.events) (λ k d l. absurd (omega arith)))
-
 pub returns-clause-lacking : goal.returns-clause-lacking
 returns-clause-lacking g c =
     subst (λ (f : Farm). g.T.Tester.answers c.finish.new.tester ≡ g.T.Tester.answers c.args.tester.now ++ lacking f.table c.in_ok-report.report.used.items)
     c.in_ok-board.ensures.farm c.in_ok-report.ensures.lacking
+
+pub returns-clause-alone : goal.returns-clause-alone
+returns-clause-alone g c =
+    alone_told c.args.case.table (g.T.Tester.answers c.args.tester.now) (g.T.Tester.answers c.finish.new.tester) c.in_ok-board.board.events
+    c.in_ok-report.report c.in_ok-board.ensures.events c.in_ok-report.ensures.alone (returns-clause-lacking g c)
 
 pub returns-clause-halving : goal.returns-clause-halving
 returns-clause-halving g c =

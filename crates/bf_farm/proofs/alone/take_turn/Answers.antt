@@ -1,4 +1,5 @@
-use Rattle.bf_farm.proofs.Asked.{on_ok}
+use Rattle.bf_farm.proofs.Noted.{tests_stay}
+use Rattle.bf_farm.proofs.Asked.{if_ok, on_ok}
 use Rattle.bf_farm.proofs.Gaining.{gains_kept, gains_then}
 use Rattle.bf_farm.proofs.alone.take_turn.Goals as goal
 
@@ -10,7 +11,12 @@ returns-in-Some-clause-sound g c =
 
 pub returns-in-Some-clause-alone : goal.returns-in-Some-clause-alone
 returns-in-Some-clause-alone g c =
-    on_ok c.test_claimed.result (λ keeps alone. keeps (c.in_ok-place.ensures.alone alone)) c.test_claimed.ensures.alone
+    if_ok c.test_claimed.result (λ turn tests before are. tests before c.args.board.now.events are (rw c.in-Some.is at c.in_ok-place.ensures.noted))
+    c.test_claimed.ensures.alone
+
+pub returns-in-None-clause-alone : goal.returns-in-None-clause-alone
+returns-in-None-clause-alone g c =
+    tests_stay (g.T.Tester.answers c.args.tester.now) c.args.board.now.events c.next_place.new.board.events (rw c.in-None.is at c.in_ok-place.ensures.noted)
 
 pub returns-in-None-clause-sound : goal.returns-in-None-clause-sound
 returns-in-None-clause-sound g c = c.in_ok-place.ensures.sound (g.T.Tester.told c.args.tester.now) c.args.names.now (g.T.Tester.answers c.args.tester.now)

@@ -2,6 +2,7 @@ use Rattle.std.proofs.lemmas.Option.{slice_get-get_or}
 use Rattle.bf_farm.proofs.Soundness.{sound_tested, sound_untested}
 use Rattle.bf_search.specs.declared.farm.Event.TheVariants as events
 use Rattle.bf_farm.proofs.Asked.{fewer_after, one_stands}
+use Rattle.bf_farm.proofs.Noted.{tested_once, failed_once}
 use Rattle.bf_farm.proofs.Gaining.{gains_done, gains_none}
 use Rattle.bf_farm.proofs.History.{done_where}
 use Rattle.bf_farm.proofs.alone.test_claimed.Goals as goal
@@ -34,3 +35,17 @@ pub returns-in-Failed-clause-gains : goal.returns-in-Failed-clause-gains
 returns-in-Failed-clause-gains g c =
     gains_none c.args.names.now (g.T.Tester.answers c.args.tester.now) (g.T.Tester.answers c.test.new.self) c.args.board.now c.give.new.self c.args.place
     c.requires.asking c.give.ensures c.in-Failed.ensures.answers
+
+pub returns-in_ok-post-in-Done-clause-alone : goal.returns-in_ok-post-in-Done-clause-alone
+returns-in_ok-post-in-Done-clause-alone g c = λ before earlier.
+    let done = done_where _ c.args.board.now c.post.new.self (events.Post 0 c.args.place c.in-Done.outcome) c.in_ok-post-in-Done.ensures.done
+    (one_stands c.args.board.now.core c.args.place c.requires.asking) in
+    tested_once before (g.T.Tester.answers c.args.tester.now) (g.T.Tester.answers c.test.new.self) earlier c.args.board.now.events
+    c.post.new.self.events c.args.place _ c.in-Done.outcome c.in-Done.ensures.answers done.noted
+
+pub returns-in-Failed-clause-alone : goal.returns-in-Failed-clause-alone
+returns-in-Failed-clause-alone g c = λ before earlier.
+    let done = done_where _ c.args.board.now c.give.new.self (events.Give 0 c.args.place) c.give.ensures
+    (one_stands c.args.board.now.core c.args.place c.requires.asking) in
+    failed_once before (g.T.Tester.answers c.args.tester.now) (g.T.Tester.answers c.test.new.self) earlier c.args.board.now.events
+    c.give.new.self.events c.args.place c.in-Failed.ensures.answers done.noted
