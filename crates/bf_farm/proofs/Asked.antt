@@ -4,7 +4,6 @@ use Rattle.std.specs.Result.{IfOk, OnOk}
 use Rattle.std.proofs.lemmas.Bool.{and_parts}
 use Rattle.bf_io.specs.Causes.{Rose}
 use Rattle.bf_search.specs.declared.farm.Claim.{Claim}
-use Rattle.bf_search.specs.declared.farm.Event.{Event}
 use Rattle.bf_search.specs.declared.farm.Event.TheVariants as events
 use Rattle.bf_search.specs.declared.outcomes.Outcome.{Outcome}
 use Rattle.bf_search.specs.Outcomes.{outcomes_of_table}

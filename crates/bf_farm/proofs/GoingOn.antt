@@ -1,15 +1,14 @@
 -- With the outcome that it waits for a run uses it next.
-use Rattle.std.proofs.Common.{◌≡◌, ℕ, zero, suc, List, [], ◌∷◌, ◌++◌, length, map, Option, Some, None, refl, sym, ap, ◌∙◌}
+use Rattle.std.proofs.Common.{◌≡◌, ℕ, zero, suc, List, ◌∷◌, ◌++◌, length, Option, Some, None, ap, ◌∙◌}
 use Rattle.std.specs.Option.{IfSome}
 use Rattle.bf_search.specs.declared.asks.Ask.{Ask}
 use Rattle.bf_search.specs.declared.asks.Ask.TheVariants.{WaitBoth, WaitBad, WaitGood, Test, MergeBaseBad, GoodNotAncestor, BothSides, FirstBad, OnlySkipped}
-use Rattle.bf_search.specs.declared.entries.Entry.TheVariants.{Marked}
 use Rattle.bf_search.specs.declared.outcomes.Outcome.{Outcome}
 use Rattle.bf_search.specs.declared.outcomes.Verdict.{Verdict}
 use Rattle.bf_search.specs.declared.outcomes.Verdict.TheVariants.{Mark as MarkOf, Abort}
 use Rattle.bf_search.specs.Outcomes.{Outcomes, verdict_of}
-use Rattle.bf_search.specs.State.{Search, Asked, ask, mark}
-use Rattle.bf_search.specs.Run.{Run, Open, marked_one, with_used, after_verdict, after_look, after_step, after_ask, turn, run_within, run}
+use Rattle.bf_search.specs.State.{Search, ask, mark}
+use Rattle.bf_search.specs.Run.{Run, Open, marked_one, after_verdict, after_look, after_step, turn, run_within, run}
 use Rattle.bf_state.specs.Runs.{IsPartOf}
 
 abbrev Go : Type 0

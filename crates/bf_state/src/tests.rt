@@ -162,7 +162,7 @@ fn a_skipped_base_is_warned_of(rt: HostRuntime) -> Result<(), Fail> {
 fn a_copy_has_each_good_place_once(rt: HostRuntime) -> Result<(), Fail> {
     let terms = Terms::standard(rt.alloc())?;
     let state = State::new(rt.alloc(), 3, terms, true, false, None, &[2, 0, 2])?;
-    let goods = state.try_clone()?.goods.into_vec();
+    let goods = state.try_clone()?.goods.to_places()?;
     assert_eq!(rt; goods.as_slice(), [2, 0].as_slice());
     Ok(())
 }
