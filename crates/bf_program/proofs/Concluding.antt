@@ -1,11 +1,11 @@
 -- From what a search tells, and what was written of it, to what the program answers.
-use Rattle.std.proofs.Common.{◌≡◌, ◌≢◌, ℕ, ◌≤◌, Bool, true, false, List, [], ◌++◌, Option, Some, None, Result, Ok, Err, IfOk, IfErr, IsErrOf, ◌⊎◌, inl, inr, refl, sym, ap, subst, ◌∙◌}
+use Rattle.std.proofs.Common.{◌≡◌, ◌≢◌, ℕ, ◌≤◌, Bool, true, false, List, ◌++◌, Option, Some, None, Result, Ok, Err, IfOk, IfErr, ◌⊎◌, inl, inr, refl, sym, ap, subst, ◌∙◌}
 use Rattle.std.proofs.lemmas.List.{append_assoc}
 use Rattle.bf_history.specs.Meanings.{History}
 use Rattle.bf_farm.proofs.Asked.{rose_since}
 use Rattle.bf_io.specs.Causes.{Rose}
-use Rattle.bf_io.specs.Told.{Keeps, Appends, AppendsFront}
-use Rattle.bf_io.proofs.Told.{Appends-trans, AppendsFront-all, AppendsFront-first, AppendsFront-none, AppendsFront-second}
+use Rattle.bf_io.specs.Told.{AppendsFront}
+use Rattle.bf_io.proofs.Told.{Appends-trans, AppendsFront-first, AppendsFront-second}
 use Rattle.bf_logs.specs.Written.{known_after_all}
 use Rattle.bf_logs.proofs.Joined.{log_joined}
 use Rattle.bf_search.specs.declared.entries.Entry.{Entry}

@@ -20,7 +20,6 @@ use Rattle.bf_program.specs.declared.answer.Answer.{Answer}
 use Rattle.bf_program.specs.declared.answer.Cut.{Cut}
 use Rattle.bf_program.specs.declared.ready.Ready.{Ready}
 use Rattle.bf_program.specs.declared.ready.Ready.TheVariants.{Told as Told_, Search}
-use Rattle.bf_program.specs.declared.ready.Started.{Started}
 use Rattle.bf_program.specs.Searching.{AllTold, IsSound, IsToldBy, verb_of}
 use Rattle.bf_program.specs.Steps.{IsStep}
 use Rattle.bf_program.specs.declared.answer.Stop.{Stop}

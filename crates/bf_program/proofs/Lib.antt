@@ -6,6 +6,7 @@ mod Fronts
 mod Gathering
 mod Importing
 mod Planning
+mod Refusing
 mod Running
 mod Skipping
 mod Using

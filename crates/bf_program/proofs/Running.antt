@@ -1,11 +1,10 @@
 -- A search on its way: from its beginning, over its legs, to what it tells.
 use Rattle.std.proofs.Common.{◌≡◌, ◌≢◌, ℕ, ◌≤◌, Bool, true, false, List, [], ◌∷◌, ◌++◌, length, map, replicate, Option, Some, None, option_map, unwrap_or, Result, Ok, Err, IfOk, IfErr, refl, sym, ap, subst, ◌∙◌}
-use Rattle.std.specs.List.{All, flat_map}
+use Rattle.std.specs.List.{flat_map}
 use Rattle.std.proofs.lemmas.Grind.{flat_map-append}
 use Rattle.std.proofs.lemmas.List.{append_assoc, append-nil, length-replicate}
 use Rattle.bf_farm.specs.Answering.{pair_of, HasFault}
 use Rattle.bf_farm.proofs.Asked.{rose_since}
-use Rattle.bf_farm.specs.Reports.{TableFollows}
 use Rattle.bf_farm.specs.declared.report.Report.{Report}
 use Rattle.bf_guesses.specs.Ends.{HasEnds}
 use Rattle.bf_history.specs.Meanings.{History}
@@ -30,16 +29,15 @@ use Rattle.bf_tester.specs.declared.answer.Answer.{Answer}
 use Rattle.bf_words.specs.declared.request.Request.{Request}
 use Rattle.bf_runs.specs.declared.case.Search.{Search as Searched}
 use Rattle.bf_runs.specs.Courses.{course_from, stand_of}
-use Rattle.bf_runs.specs.Legs.{Course, Stand, Legs, leg_run, IsKnown, IsBetween, IsOver, IsReady, IsLegRun, LeadsOn, LegsLead}
+use Rattle.bf_runs.specs.Legs.{Course, Stand, leg_run, IsKnown, IsBetween, IsOver, IsReady, IsLegRun, LeadsOn, LegsLead}
 use Rattle.bf_runs.proofs.Fresh.{fresh_in, fresh_follows}
 use Rattle.bf_runs.proofs.Sequences.{over_graph, part_same}
 use Rattle.bf_output.specs.Beginning.{Begun, commits_of, log_on}
-use Rattle.bf_output.specs.Tested.{Tested, IsTested, IsFrontIfTold, run_on, status_at_end, lines_at_end, told_of_run}
-use Rattle.bf_output.specs.Traces.{course_of, whole_leg, trace_lines, traced, traced_if}
+use Rattle.bf_output.specs.Tested.{Tested, IsTested, run_on, status_at_end, lines_at_end, told_of_run}
+use Rattle.bf_output.specs.Traces.{course_of, whole_leg, traced_if}
 use Rattle.bf_output.specs.declared.status.Status.{Status}
 use Rattle.bf_output.specs.declared.status.Status.TheVariants as status
 use Rattle.bf_output.proofs.Runs.{front_if_told}
-use Rattle.bf_output.specs.Told.{Told}
 use Rattle.bf_program.specs.Searching.{IsRunning, IsGone, IsNextReady, IsOnWith, IsOverWith, HasGoneCause, IsCutIn, trace_so_far}
 use Rattle.bf_program.specs.Telling.{trace_begun}
 use Rattle.bf_program.specs.Tellings.{begun_of}
