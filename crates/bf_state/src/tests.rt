@@ -6,6 +6,7 @@ ghost use Rattle.bf_state.specs.Weighed.{mask_of, weights_needed};
 use crate::{State, Weighed};
 use bf_graph::Graph;
 use bf_reach::Reach;
+use bf_rows::Row;
 use bf_search::{Ask, Mark, Step};
 use bf_terms::Terms;
 use std::alloc::{AllocError, Global};
@@ -84,6 +85,15 @@ fn warned_by(alloc: Global, reach: &Reach, marks: &[(Mark, u32)]) -> Result<Vec<
     Ok(warned)
 }
 
+/// The candidates that an ask of a state hands out.
+fn mask_again(reach: &Reach, state: &State) -> Result<Row, AllocError>
+    requires { length reach.now ≡ state.now.len }
+    ensures { IfOk result (λ mask. mask ≡ mask_of reach.now state.now.search) }
+{
+    let Weighed { mask, .. } = state.try_clone()?.weigh(reach)?;
+    Ok(mask)
+}
+
 /// A second ask over the candidates of a first, each of the same state.
 fn weighed_again(reach: &Reach, state: &State) -> Result<Weighed, AllocError>
     requires { length reach.now ≡ state.now.len }
@@ -91,7 +101,7 @@ fn weighed_again(reach: &Reach, state: &State) -> Result<Weighed, AllocError>
     ensures weights { IfOk result (λ weighed.
         option_map (λ all. all.items) weighed.weights ≡ weights_needed reach.now state.now.search) }
 {
-    let mask = state.try_clone()?.weigh(reach)?.mask;
+    let mask = mask_again(reach, state)?;
     state.try_clone()?.weigh_over(reach, mask)
 }
 
