@@ -9,10 +9,6 @@ mod answers;
 mod claims;
 mod consuming;
 mod machine;
-#[cfg(test)]
-mod schedules;
-#[cfg(test)]
-mod tests;
 
 pub use answers::{ApplyFault, CoreParts, Pick, Withdrawn};
 pub use machine::Core;

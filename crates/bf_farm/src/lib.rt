@@ -12,8 +12,6 @@ mod plans;
 mod replay;
 mod report;
 mod share;
-#[cfg(test)]
-mod tests;
 mod worker;
 
 pub use alone::run_alone;

@@ -13,8 +13,3 @@ pub use bf_grammar::{Limit, Limits, Oid, StreamFault};
 pub use bf_history::ImportFault;
 pub use history::History;
 pub use loading::import;
-
-#[cfg(test)]
-mod refused;
-#[cfg(test)]
-mod tests;

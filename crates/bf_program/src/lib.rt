@@ -27,8 +27,3 @@ pub use bf_names::NameFault;
 pub use bf_output::{Status, StreamKind};
 pub use top::bisect_main;
 pub use write::say;
-
-#[cfg(test)]
-mod log_tests;
-#[cfg(test)]
-mod tests;

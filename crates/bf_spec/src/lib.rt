@@ -7,8 +7,6 @@ mod grow;
 mod node;
 mod reroot;
 mod table;
-#[cfg(test)]
-mod tests;
 mod tree;
 mod walk;
 

@@ -5,14 +5,17 @@
 ghost use Rattle.std.specs.Prelude.{◌≡◌, [], false};
 
 mod args;
+mod hint;
 
 use bf_io::{Sink, Source, StdSink, StdSource, Word};
 use bf_program::{Status, bisect_main, say};
 use bf_shelf::{DirShelf, Shelf};
 use bf_tester::{ProcessTester, Tester};
 use std::alloc::Global;
+use std::env::{self, VarError};
 use std::io;
 use std::process::{ExitCode, Processes, SystemProcess};
+use std::rt::Env;
 use std::sync::Wait;
 use std::thread::Threads;
 
@@ -74,6 +77,19 @@ where
     bisect_main(rt, rt.alloc(), words, stream, shelf, tester, out)
 }
 
+/// A tester that starts commands. It tells of its tests on the standard error, unless the environment has
+/// `FARMDAWN_QUIET`.
+fn tester_of<R: Env + Alloc<A = Global>>(rt: &R) -> ProcessTester
+    ensures answers { ⟦<ProcessTester as Tester>⟧.answers result ≡ [] }
+    ensures whole { ⟦<ProcessTester as Tester>⟧.is_split result ≡ false }
+{
+    let tester = ProcessTester::new(rt.alloc());
+    match env::var(rt, "FARMDAWN_QUIET") {
+        Err(VarError::NotPresent) => tester,
+        _ => tester.silent(),
+    }
+}
+
 fn main(rt: HostRuntime) -> ExitCode {
     let mut out = StdSink::new(io::writer(&rt));
     let status = match args::words(&rt) {
@@ -85,8 +101,12 @@ fn main(rt: HostRuntime) -> ExitCode {
             words => {
                 let mut stream = StdSource::new(rt.reader());
                 let mut shelf = DirShelf::new(rt, rt.alloc());
-                let mut tester = ProcessTester::new(rt.alloc());
-                run(&rt, words, &mut stream, &mut shelf, &mut tester, &mut out)
+                let mut tester = tester_of(&rt);
+                let status = run(&rt, words, &mut stream, &mut shelf, &mut tester, &mut out);
+                if let Status::Usage { word } = status {
+                    hint::tell(&rt, words, word);
+                }
+                status
             }
         },
         Err(_) => Status::NoMemory,

@@ -1,4 +1,0 @@
-use Rattle.bf_core.proofs.schedules.+best_from.Given as goal
-
-abbrev pub decreases-best_from : goal.decreases-best_from
-decreases-best_from l = l.guesses

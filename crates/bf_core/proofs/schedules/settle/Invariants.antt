@@ -1,5 +1,0 @@
-use Rattle.std.proofs.Common.{◌≡◌}
-use Rattle.bf_core.proofs.schedules.settle.Given as goal
-
-abbrev pub invariant-loop : goal.invariant-loop
-invariant-loop l = l.path.state.len ≡ l.fn.path.state.len

@@ -1,0 +1,57 @@
+//! What is said on the standard error of a word that is at fault.
+use bf_io::Word;
+
+/// What is right at the word behind an option that takes a value.
+fn value_of(option: &[u8]) -> Option<&'static str> {
+    match option {
+        b"--workers" => Some("--workers takes a number from 1 to 64"),
+        b"--leg" => Some("--leg takes a number from 1 to 100,000"),
+        b"--term-new" | b"--term-old" => {
+            Some(
+                "a term has 1 to 40 letters, digits and hyphens, is no command of git bisect, and is not the other one",
+            )
+        }
+        b"--skip" => Some("--skip takes a commit or a range A..B"),
+        b"--replay" => Some("--replay takes the name of a file"),
+        _ => None,
+    }
+}
+
+/// The line of a command.
+fn line_of(command: &[u8]) -> &'static str {
+    match command {
+        b"simulate" =>
+            "simulate [OPTION..] BAD GOOD.. PLAN, and the letters of PLAN are g b s a k n",
+        b"run" => "run [OPTION..] BAD GOOD.. -- COMMAND..",
+        b"next" => "next [OPTION..] BAD GOOD..",
+        b"replay" => "replay --replay FILE",
+        b"gen" => "gen NUMBER COUNT, where COUNT is 1 to 100,000",
+        b"sample" => "sample [--workers N] NUMBER COUNT, where COUNT is 1 to 100,000",
+        _ => "the first word is simulate, run, next, replay, gen or sample",
+    }
+}
+
+/// What would be right at a word: the value of the option before it, or the line of the command.
+fn right_at(words: &[Word], word: usize) -> &'static str {
+    let before = word.checked_sub(1).and_then(|at| words.get(at));
+    let value = before.and_then(|option| value_of(option.as_slice()));
+    value.unwrap_or_else(|| match words.first() {
+        Some(command) if word > 0 => line_of(command.as_slice()),
+        _ => line_of(b""),
+    })
+}
+
+/// Says on the standard error which word is at fault, what would be right there, and where more is told. Where it
+/// cannot be written nothing is said.
+pub(crate) fn tell<R: Eprint>(rt: &R, words: &[Word], word: u32) {
+    let at = word as usize;
+    let right = right_at(words, at);
+    let _ = match words
+        .get(at)
+        .map(|word| std::str::from_utf8(word.as_slice()))
+    {
+        Some(Ok(text)) => eprintln!(rt; "farmdawn: word {word}, {text}, is not right: {right}"),
+        _ => eprintln!(rt; "farmdawn: word {word} is missing: {right}"),
+    };
+    let _ = eprintln!(rt; "farmdawn --help shows each command and option");
+}

@@ -1,0 +1,4 @@
+use Rattle.test_farm.proofs.schedules.+best_from.Given as goal
+
+abbrev pub decreases-best_from : goal.decreases-best_from
+decreases-best_from l = l.guesses

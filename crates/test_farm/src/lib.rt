@@ -1,0 +1,14 @@
+//! Tests of the farm's layers: the tree of guesses, the core that many may ask, and runs by threads. They stand apart
+//! from the crates that they test, since a crate is proved once more with tests of its own.
+#![tactic(auto)]
+
+#[cfg(test)]
+mod core;
+#[cfg(test)]
+mod farm;
+#[cfg(test)]
+mod line;
+#[cfg(test)]
+mod schedules;
+#[cfg(test)]
+mod tree;

@@ -1,0 +1,64 @@
+//! Calls of the program over streams in memory.
+ghost use Rattle.std.specs.Prelude.{◌≡◌, [], false};
+
+use bf_io::{Bytes, MemSource, Sink, Source, Word};
+use bf_program::{Status, bisect_main};
+use bf_shelf::PlainShelf;
+use bf_tester::{PlanTester, Tester};
+use std::alloc::{AllocError, Global};
+use std::process::{Processes, SystemProcess};
+use std::sync::Wait;
+use std::thread::Threads;
+
+/// Texts as words.
+pub(crate) fn words_of(alloc: Global, texts: &[&[u8]]) -> Result<Vec<Word>, AllocError> {
+    let mut words = Vec::new(alloc);
+    for text in texts {
+        words.push(Bytes::from_slice(alloc, text)?)?;
+    }
+    Ok(words)
+}
+
+/// The status of the program, over no files and with a tester that is not to be asked.
+pub(crate) fn run<R, S: Source, K: Sink>(
+    rt: &R,
+    alloc: Global,
+    words: &[&[u8]],
+    stream: &mut S,
+    out: &mut K,
+) -> Result<Status, AllocError>
+where
+    R: Threads + Wait + Processes<Started = SystemProcess> + Eprint + Sync,
+{
+    let words = words_of(alloc, words)?;
+    let mut shelf = PlainShelf::new(Vec::new(alloc));
+    let mut tester = PlanTester::new(alloc, b"")?;
+    let status = bisect_main(
+        rt,
+        alloc,
+        words.as_slice(),
+        stream,
+        &mut shelf,
+        &mut tester,
+        out,
+    );
+    Ok(status)
+}
+
+/// The status of the program over a stream that comes whole, and no files, with a tester.
+pub(crate) fn test<R, T: Tester, K: Sink>(
+    rt: &R,
+    words: &[Word],
+    stream: Bytes,
+    tester: &mut T,
+    out: &mut K,
+) -> Status
+where
+    R: Threads + Wait + Processes<Started = SystemProcess> + Eprint + Sync + Alloc<A = Global>,
+    requires fresh { T.answers tester.old ≡ [] }
+    requires whole { T.is_split tester.old ≡ false }
+{
+    let mut stream = MemSource::new(stream, 65_536, Vec::new(rt.alloc()));
+    let mut shelf = PlainShelf::new(Vec::new(rt.alloc()));
+    bisect_main(rt, rt.alloc(), words, &mut stream, &mut shelf, tester, out)
+}

@@ -1,0 +1,169 @@
+//! Runs that test commits by several workers: tests that fail, tests that overlap, a real command, and large histories.
+use crate::line::{EIGHT, FOUND, THREE};
+use crate::program::{run, test, words_of};
+use bf_io::{Bytes, MemSource, PlainSink};
+use bf_program::Status;
+use bf_tester::{FailRule, Gate, ProcessTester, ScriptTester, Side};
+use std::alloc::{AllocError, Global};
+use std::process::{Processes, SystemProcess};
+use std::sync::{Arc, Wait};
+use std::test::Fail;
+use std::thread::Threads;
+
+/// The status and the text of a run by so many workers over the line of eight, where tests fail by a rule.
+fn ruled<R>(rt: &R, workers: &[u8], rule: FailRule) -> Result<(Status, Bytes), AllocError>
+where
+    R: Threads + Wait + Processes<Started = SystemProcess> + Eprint + Sync + Alloc<A = Global>,
+{
+    let alloc = rt.alloc();
+    let line: [&[u8]; 7] = [
+        b"run",
+        b"--workers",
+        workers,
+        b"main",
+        b"main~7",
+        b"--",
+        b"t",
+    ];
+    let words = words_of(alloc, &line)?;
+    let mut tester = ScriptTester::new(alloc, b"ggggbbbb", [rule].to_vec(alloc)?, None)?;
+    let mut out = PlainSink::new(alloc);
+    let stream = Bytes::from_slice(alloc, EIGHT)?;
+    let status = test(rt, words.as_slice(), stream, &mut tester, &mut out);
+    Ok((status, out.into_bytes()))
+}
+
+// Where the tests of one place fail by the workers alone, the calling thread tests it. Where all of them fail, the run
+// ends exactly at the places that it asks for.
+#[test]
+fn each_place_fails(rt: HostRuntime) -> Result<(), Fail> {
+    for workers in [b"1", b"2"] {
+        for place in 0..8 {
+            let side = Side::Splits;
+            let (status, text) = ruled(&rt, workers, FailRule { place, side })?;
+            assert_eq!(rt;
+                (status, text.as_slice()),
+                (Status::Done, FOUND),
+                "place {place}"
+            );
+            let side = Side::All;
+            let (status, text) = ruled(&rt, workers, FailRule { place, side })?;
+            if [3, 4, 5].contains(&place) {
+                assert_eq!(rt; status, Status::TestFault { place });
+            } else {
+                assert_eq!(rt;
+                    (status, text.as_slice()),
+                    (Status::Done, FOUND),
+                    "place {place}"
+                );
+            }
+        }
+    }
+    Ok(())
+}
+
+const FAILED: &[u8] = b"# bad: [38d7eeaa2c641133c0a59de3e3515352366303d6] c7
+# good: [56b29d9c130e2ec4b506a48d4fe5a18d92d8d1e3] c0
+git bisect start '38d7eeaa2c641133c0a59de3e3515352366303d6' '56b29d9c130e2ec4b506a48d4fe5a18d92d8d1e3'
+test fault on 771edca49728d8c78d5b371976ec2debc7c92b35
+";
+
+#[test]
+fn a_failed_test_is_told_behind_the_log(rt: HostRuntime) -> Result<(), Fail> {
+    let rule = FailRule {
+        place: 3,
+        side: Side::All,
+    };
+    let (status, text) = ruled(&rt, b"2", rule)?;
+    assert_eq!(rt;
+        (status, text.as_slice()),
+        (Status::TestFault { place: 3 }, FAILED)
+    );
+    Ok(())
+}
+
+/// Whether a line of a trace says that one of the two workers posted that the third commit is good.
+fn is_post(line: &[u8]) -> bool {
+    line == b"post 1 771edca49728d8c78d5b371976ec2debc7c92b35 exit 0".as_slice()
+        || line == b"post 2 771edca49728d8c78d5b371976ec2debc7c92b35 exit 0".as_slice()
+}
+
+/// Whether a line of a trace names the calling thread, or gives the third commit back.
+fn is_alone(line: &[u8]) -> bool {
+    line.starts_with(b"claim 0 ")
+        || line.starts_with(b"post 0 ")
+        || line.starts_with(b"give 0 ")
+        || (line.starts_with(b"give ")
+            && line.ends_with(b"771edca49728d8c78d5b371976ec2debc7c92b35"))
+}
+
+// The first of all tests ends only after a second one has begun.
+#[test]
+fn tests_overlap(rt: HostRuntime) -> Result<(), Fail> {
+    let alloc = rt.alloc();
+    let line: [&[u8]; 8] = [
+        b"run",
+        b"--workers",
+        b"2",
+        b"--trace",
+        b"main",
+        b"main~7",
+        b"--",
+        b"t",
+    ];
+    let words = words_of(alloc, &line)?;
+    let gate = Some(Arc::new(alloc, Gate::new())?);
+    let mut tester = ScriptTester::new(alloc, b"ggggbbbb", Vec::new(alloc), gate)?;
+    let mut out = PlainSink::new(alloc);
+    let stream = Bytes::from_slice(alloc, EIGHT)?;
+    let status = test(&rt, words.as_slice(), stream, &mut tester, &mut out);
+    assert_eq!(rt; status, Status::Done);
+    assert!(rt; out.bytes().starts_with(FOUND));
+    let mut posts = 0usize;
+    for line in out.bytes().split(|byte| *byte == b'\n') {
+        assert!(rt; !is_alone(line));
+        posts += usize::from(is_post(line));
+    }
+    assert_eq!(rt; posts, 1);
+    Ok(())
+}
+
+const SECOND_IS_BAD: &[u8] = b"f570778fec974dd2b05ee862e235ff38a61118d3 is the first bad commit\n";
+
+// The command gets the name as its last word, and its status is the outcome.
+#[test]
+fn a_command_tests_commits(rt: HostRuntime) -> Result<(), Fail> {
+    let alloc = rt.alloc();
+    let line: [&[u8]; 7] = [b"run", b"main", b"main~2", b"--", b"sh", b"-c", b"exit 1"];
+    let words = words_of(alloc, &line)?;
+    let mut tester = ProcessTester::new(alloc).silent();
+    let mut out = PlainSink::new(alloc);
+    let stream = Bytes::from_slice(alloc, THREE)?;
+    let status = test(&rt, words.as_slice(), stream, &mut tester, &mut out);
+    assert_eq!(rt; status, Status::Done);
+    assert!(rt; out.bytes().ends_with(SECOND_IS_BAD));
+    Ok(())
+}
+
+/// What a search over a generated history prints.
+fn sampled<R>(rt: &R, words: &[&[u8]]) -> Result<Bytes, AllocError>
+where
+    R: Threads + Wait + Processes<Started = SystemProcess> + Eprint + Sync + Alloc<A = Global>,
+{
+    let alloc = rt.alloc();
+    let mut stream = MemSource::new(Bytes::new(alloc), 16, Vec::new(alloc));
+    let mut out = PlainSink::new(alloc);
+    run(rt, alloc, words, &mut stream, &mut out)?;
+    Ok(out.into_bytes())
+}
+
+#[test]
+fn large_histories_are_searched(rt: HostRuntime) -> Result<(), Fail> {
+    let one = sampled(&rt, &[b"sample", b"1", b"4000"])?;
+    let many = sampled(&rt, &[b"sample", b"--workers", b"8", b"1", b"4000"])?;
+    assert_eq!(rt; one.as_slice(), many.as_slice());
+    assert!(rt; one.as_slice().starts_with(b"commits 4000\n"));
+    let most = sampled(&rt, &[b"sample", b"1", b"20000"])?;
+    assert!(rt; most.as_slice().starts_with(b"commits 20000\n"));
+    Ok(())
+}
