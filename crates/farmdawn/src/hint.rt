@@ -5,7 +5,7 @@ use bf_io::Word;
 fn value_of(option: &[u8]) -> Option<&'static str> {
     match option {
         b"--workers" => Some("--workers takes a number from 1 to 64"),
-        b"--leg" => Some("--leg takes a number from 1 to 100,000"),
+        b"--leg" => Some("--leg takes a number from 1 to 1,000,000"),
         b"--term-new" | b"--term-old" => {
             Some(
                 "a term has 1 to 40 letters, digits and hyphens, is no command of git bisect, and is not the other one",
