@@ -30,6 +30,11 @@ has() {
     done
 }
 
+# What was written, the file `got`, is a front of what was due.
+is_front() {
+    expect 'a front of the text that was due' [ "$(cmp got due 2>&1 | sed '/: EOF on .*got/d')" = '' ]
+}
+
 # The program was built.
 has_program() {
     missing='a built farmdawn'

@@ -25,11 +25,6 @@ search() {
     exec "$farmdawn" run --workers "$workers" "$@" main main~39 -- sh -c "$test_words" "$name"
 }
 
-# What was written, the file `got`, is a front of what was due.
-is_front() {
-    expect 'a front of the text that was due' [ "$(cmp got due 2>&1 | sed '/: EOF on .*got/d')" = '' ]
-}
-
 # Behind the program's end no test outlasts its own time.
 tests_end() {
     turns=0

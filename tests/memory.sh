@@ -1,0 +1,126 @@
+#!/bin/sh
+# Refuses the built program memory: each of its allocations fails in turn, one a run. It answers as with ample memory, or
+# says by its status that memory ran out; what it wrote is then a front of the text that was due.
+. "$(dirname "$0")/helpers.sh"
+
+needs_all() { has cc awk && has_program; }
+
+# A library that refuses the allocation whose number REFUSED has, and writes to the file COUNTED how many there were.
+make_refusing() {
+    cat >refusing.c <<'END'
+#include <errno.h>
+#include <stdatomic.h>
+#include <stdio.h>
+#include <stdlib.h>
+
+extern void *__libc_malloc(size_t size);
+extern void *__libc_calloc(size_t count, size_t size);
+extern void *__libc_realloc(void *old, size_t size);
+
+static atomic_ulong calls;
+static unsigned long refused;
+
+__attribute__((constructor)) static void begin(void)
+{
+    const char *number = getenv("REFUSED");
+    refused = number ? strtoul(number, NULL, 10) : 0;
+    calls = 0;
+}
+
+__attribute__((destructor)) static void end(void)
+{
+    const char *name = getenv("COUNTED");
+    unsigned long counted = calls;
+    FILE *file = name ? fopen(name, "w") : NULL;
+    if (file) {
+        fprintf(file, "%lu\n", counted);
+        fclose(file);
+    }
+}
+
+static int refuses(void)
+{
+    if (atomic_fetch_add(&calls, 1) + 1 != refused)
+        return 0;
+    errno = ENOMEM;
+    return 1;
+}
+
+void *malloc(size_t size) { return refuses() ? NULL : __libc_malloc(size); }
+void *calloc(size_t count, size_t size) { return refuses() ? NULL : __libc_calloc(count, size); }
+void *realloc(void *old, size_t size) { return refuses() ? NULL : __libc_realloc(old, size); }
+END
+    cc -O1 -fPIC -shared -o refusing.so refusing.c || exit 1
+}
+
+# Eight commits in a line.
+write_line() {
+    awk 'BEGIN { for (i = 0; i < 8; i++)
+        printf "commit refs/heads/main\ncommitter T <t@e> %d +0000\ndata 2\nc%d\n", i, i }'
+}
+
+# Files, a merge and a tag.
+write_merge() {
+    awk 'BEGIN { for (i = 1; i <= 4; i++) {
+        printf "commit refs/heads/%s\nmark :%d\n", i == 2 ? "topic" : "main", i
+        printf "author A <a@b> %d +0100\ncommitter B <b@c> %d -0530\ndata 2\nc\n", i, i
+        if (i > 1) printf "from :%d\n", i == 4 ? 3 : 1
+        if (i == 4) print "merge :2"
+        printf "M 100755 e69de29bb2d1d6434b8b29ae775ad8c2e48c5391 d/%d\n", i }
+        printf "tag v1.0\nfrom :1\ntagger A <a@b> 9 +0000\ndata 0\n\n" }'
+}
+
+# Runs the program over the file `stream` with these words, and refuses each of its allocations once. Several threads may
+# take more in one run than in another.
+refuse_each() {
+    "$farmdawn" "$@" <stream >due
+    wanted=$?
+    COUNTED=$PWD/counted LD_PRELOAD=$PWD/refusing.so "$farmdawn" "$@" <stream >got
+    expect 'the answer with ample memory' [ $? -eq $wanted ]
+    most=$(cat counted) number=1 ran_out=0
+    expect 'memory was taken' [ "$most" -gt 20 ]
+    while [ $number -le "$most" ]; do
+        REFUSED=$number LD_PRELOAD=$PWD/refusing.so "$farmdawn" "$@" <stream >got 2>told
+        status=$?
+        case $status in
+        15) ran_out=$((ran_out + 1)) ;;
+        *) expect "allocation $number: the answer, and not $status" [ $status -eq $wanted ] && cmp got due || exit 1 ;;
+        esac
+        is_front
+        number=$((number + 1))
+    done
+    expect 'memory ran out in most runs' [ $((2 * ran_out)) -gt "$most" ]
+    echo "$most allocations, of which $ran_out end the run"
+}
+
+needs_line() { needs_all; }
+test_line() {
+    make_refusing
+    write_line >stream
+    refuse_each simulate main main~7 ggggbbbb
+}
+
+needs_workers() { needs_all; }
+test_workers() {
+    make_refusing
+    write_line >stream
+    refuse_each simulate --workers 8 main main~7 gaggbbbb
+}
+
+needs_merge() { needs_all; }
+test_merge() {
+    make_refusing
+    write_merge >stream
+    refuse_each simulate main v1.0 gbgb
+}
+
+needs_log() { needs_all; }
+test_log() {
+    make_refusing
+    write_line >stream
+    "$farmdawn" simulate main main~7 ggggbbbb <stream | head -n 5 >part.log
+    refuse_each simulate --replay part.log ggggbbbb
+}
+
+[ $# -gt 0 ] || set -- line workers merge log
+run_tests "$@"
