@@ -1,9 +1,12 @@
 //! Edits of whole lists of files, by their definition: what the pool makes of edits is compared with them.
+ghost use Rattle.std.specs.Prelude.{◌<◌, length};
+
 use crate::entries::are_same;
 use crate::tests::edit;
 use crate::*;
 use bf_paths::Path;
 use std::alloc::{AllocError, Global};
+use std::process::Abort;
 use std::test::Fail;
 
 /// Whether a path is another one, or leads to it.
@@ -88,18 +91,37 @@ static EDITS: [(&[u8], Option<&[u8]>); 18] = [
     (b"z/z", None),
 ];
 
-#[test]
-fn the_pool_edits_as_whole_lists_are_edited(rt: HostRuntime) -> Result<(), Fail> {
-    let alloc = rt.alloc();
-    let mut forest = Forest::new(alloc, 100)?;
+/// Asserts that a tree has these files.
+fn has_files(
+    rt: &impl Abort,
+    forest: &Forest,
+    tree: u32,
+    files: &[FileEntry],
+) -> Result<(), AllocError>
+    requires { tree < length forest.now.trees }
+{
+    let made = forest.files(tree)?;
+    assert!(rt; are_same(made.as_slice(), files));
+    Ok(())
+}
+
+/// Asserts that the pool edits a tree as the list of its files is edited, edit by edit.
+fn edits_as_a_list(rt: &impl Abort, alloc: Global, forest: &mut Forest) -> Result<(), Fail>
+    requires { 0 < length forest.old.trees }
+{
     let mut files = Vec::new(alloc);
     let mut tree = 0;
     for (path, content) in &EDITS {
         let edits = vec![in alloc; edit(alloc, path, *content)?]?;
         tree = forest.apply(tree, edits.as_slice())?;
         files = edited(alloc, files.as_slice(), &edits[0])?;
-        let made = forest.files(tree)?;
-        assert!(rt; are_same(made.as_slice(), files.as_slice()), "{path:?}");
+        has_files(rt, forest, tree, files.as_slice())?;
     }
     Ok(())
+}
+
+#[test]
+fn the_pool_edits_as_whole_lists_are_edited(rt: HostRuntime) -> Result<(), Fail> {
+    let mut forest = Forest::new(rt.alloc(), 100)?;
+    edits_as_a_list(&rt, rt.alloc(), &mut forest)
 }

@@ -1,5 +1,5 @@
 //! Replays of small logs over a fork: `a`, and `b` and `c` that both come from it.
-ghost use Rattle.std.specs.Prelude.{◌≡◌};
+ghost use Rattle.std.specs.Prelude.{◌≡◌, ◌<◌, length};
 
 use crate::{ReplayFault, Replayed, replay};
 use bf_import::{History, ImportFault, Limits, import};
@@ -9,6 +9,7 @@ use bf_reach::Reach;
 use bf_reading::read_log;
 use bf_search::{Entry, Mark};
 use std::alloc::{AllocError, Global};
+use std::process::Abort;
 use std::test::Fail;
 
 fn fork(alloc: Global) -> Result<History, ImportFault> {
@@ -85,33 +86,68 @@ fn replayed() -> &'static [(&'static [u8], &'static [u8])] {
     &REPLAYED
 }
 
-#[test]
-fn logs_lead_to_entries_and_a_state(rt: HostRuntime) -> Result<(), Fail> {
-    let alloc = rt.alloc();
-    let history = fork(alloc)?;
-    let reach = Reach::build(alloc, history.graph())?;
+/// What a log leads to, or why it leads to nothing.
+fn told(
+    alloc: Global,
+    history: &History,
+    reach: &Reach,
+    log: &[u8],
+) -> Result<Result<Bytes, ReplayFault>, Fail>
+    requires reach { reach.now ≡ history.now.parents }
+    requires most { length log.now < 1000 }
+{
+    let lines = read_log(alloc, log)?;
+    match replay(alloc, history, reach, lines.as_slice()) {
+        Ok(found) => Ok(Ok(described(alloc, &found)?)),
+        Err(fault) => Ok(Err(fault)),
+    }
+}
+
+// The history and the reach stand apart from the loops over the tables: what a function owns is dropped on each of
+// its ways out, and each drop is a step of its proof.
+fn lead_to_states(
+    rt: &impl Abort,
+    alloc: Global,
+    history: &History,
+    reach: &Reach,
+) -> Result<(), Fail>
+    requires { reach.now ≡ history.now.parents }
+{
     for &(log, text) in replayed() {
         assert!(rt; log.len() < 1000);
-        let lines = read_log(alloc, log)?;
-        let found = replay(alloc, &history, &reach, lines.as_slice())?;
-        assert_eq!(rt; described(alloc, &found)?.as_slice(), text);
+        match told(alloc, history, reach, log)? {
+            Ok(found) => assert_eq!(rt; found.as_slice(), text),
+            Err(fault) => panic!(rt; "refused: {fault:?}"),
+        }
+    }
+    Ok(())
+}
+
+fn lead_to_none(
+    rt: &impl Abort,
+    alloc: Global,
+    history: &History,
+    reach: &Reach,
+) -> Result<(), Fail>
+    requires { reach.now ≡ history.now.parents }
+{
+    for &(log, fault) in refused() {
+        assert!(rt; log.len() < 1000);
+        match told(alloc, history, reach, log)? {
+            Ok(_) => panic!(rt; "no refusal {fault:?}"),
+            Err(found) => assert_eq!(rt; found, fault),
+        }
     }
     Ok(())
 }
 
 #[test]
-fn logs_that_lead_to_no_state(rt: HostRuntime) -> Result<(), Fail> {
+fn logs_lead_to_states_or_are_refused(rt: HostRuntime) -> Result<(), Fail> {
     let alloc = rt.alloc();
     let history = fork(alloc)?;
     let reach = Reach::build(alloc, history.graph())?;
-    for &(log, fault) in refused() {
-        assert!(rt; log.len() < 1000);
-        let lines = read_log(alloc, log)?;
-        match replay(alloc, &history, &reach, lines.as_slice()) {
-            Ok(_) => panic!(rt; "no refusal {fault:?}"),
-            Err(found) => assert_eq!(rt; found, fault),
-        }
-    }
+    lead_to_states(&rt, alloc, &history, &reach)?;
+    lead_to_none(&rt, alloc, &history, &reach)?;
     Ok(())
 }
 

@@ -91,38 +91,85 @@ fn has_found(rt: &impl Abort, report: &Report) {
     assert!(rt; report.entries.as_slice() == entries.as_slice());
 }
 
+/// Asserts that so many workers find it.
+fn finds<R, T>(rt: &R, workers: u32, tester: &mut T) -> Result<(), AllocError>
+where
+    R: Threads
+        + Wait
+        + Processes<Started = SystemProcess>
+        + Eprint
+        + Sync
+        + Alloc<A = Global>
+        + Abort,
+    T: Tester,
+    requires is_split { T.is_split tester.old ≡ false }
+    requires most { workers ≤ 64 }
+{
+    has_found(rt, &reported(rt, rt.alloc(), workers, 0, tester)?);
+    Ok(())
+}
+
+/// Asserts that a leg of two marks ends behind them.
+fn ends_its_leg<R, T>(rt: &R, workers: u32, tester: &mut T) -> Result<(), AllocError>
+where
+    R: Threads
+        + Wait
+        + Processes<Started = SystemProcess>
+        + Eprint
+        + Sync
+        + Alloc<A = Global>
+        + Abort,
+    T: Tester,
+    requires is_split { T.is_split tester.old ≡ false }
+    requires most { workers ≤ 64 }
+{
+    let report = reported(rt, rt.alloc(), workers, 2, tester)?;
+    assert!(rt; report.ending == Ending::Leg);
+    assert_eq!(rt; report.entries.len(), 2);
+    Ok(())
+}
+
 #[test]
 fn any_number_of_workers(rt: HostRuntime) -> Result<(), Fail> {
     for workers in 0..5 {
-        let mut tester = PlanTester::new(rt.alloc(), b"ggggbbbb")?;
-        has_found(&rt, &reported(&rt, rt.alloc(), workers, 0, &mut tester)?);
-        let mut tester = PlanTester::new(rt.alloc(), b"gaggbbbb")?;
-        has_found(&rt, &reported(&rt, rt.alloc(), workers, 0, &mut tester)?);
-        let mut tester = PlanTester::new(rt.alloc(), b"ggggbbbb")?;
-        let report = reported(&rt, rt.alloc(), workers, 2, &mut tester)?;
-        assert!(rt; report.ending == Ending::Leg);
-        assert_eq!(rt; report.entries.len(), 2);
+        finds(&rt, workers, &mut PlanTester::new(rt.alloc(), b"ggggbbbb")?)?;
+        finds(&rt, workers, &mut PlanTester::new(rt.alloc(), b"gaggbbbb")?)?;
+        ends_its_leg(&rt, workers, &mut PlanTester::new(rt.alloc(), b"ggggbbbb")?)?;
     }
     Ok(())
 }
 
-/// The rule that the test of place 3 fails.
-fn rules(alloc: Global, side: Side) -> Result<Vec<FailRule>, AllocError> {
-    let mut rules = Vec::new(alloc);
-    rules.push(FailRule { place: 3, side })?;
-    Ok(rules)
+/// A tester whose tests of place 3 fail on a side.
+fn failing(alloc: Global, side: Side) -> Result<ScriptTester, AllocError>
+    ensures { IfOk result (λ t. ⟦<ScriptTester as Tester>⟧.is_split t ≡ false) }
+{
+    let rules = [FailRule { place: 3, side }].to_vec(alloc)?;
+    ScriptTester::new(alloc, b"ggggbbbb", rules, None)
+}
+
+/// Asserts that the run ends with the test of place 3.
+fn ends_at_a_test<R, T>(rt: &R, tester: &mut T) -> Result<(), AllocError>
+where
+    R: Threads
+        + Wait
+        + Processes<Started = SystemProcess>
+        + Eprint
+        + Sync
+        + Alloc<A = Global>
+        + Abort,
+    T: Tester,
+    requires { T.is_split tester.old ≡ false }
+{
+    let report = reported(rt, rt.alloc(), 2, 0, tester)?;
+    assert!(rt; report.ending == Ending::TestFault(3));
+    assert!(rt; report.entries.is_empty());
+    Ok(())
 }
 
 #[test]
 fn two_workers_that_fail(rt: HostRuntime) -> Result<(), Fail> {
-    let splits = rules(rt.alloc(), Side::Splits)?;
-    let mut tester = ScriptTester::new(rt.alloc(), b"ggggbbbb", splits, None)?;
-    has_found(&rt, &reported(&rt, rt.alloc(), 2, 0, &mut tester)?);
-    let all = rules(rt.alloc(), Side::All)?;
-    let mut tester = ScriptTester::new(rt.alloc(), b"ggggbbbb", all, None)?;
-    let report = reported(&rt, rt.alloc(), 2, 0, &mut tester)?;
-    assert!(rt; report.ending == Ending::TestFault(3));
-    assert!(rt; report.entries.is_empty());
+    finds(&rt, 2, &mut failing(rt.alloc(), Side::Splits)?)?;
+    ends_at_a_test(&rt, &mut failing(rt.alloc(), Side::All)?)?;
     Ok(())
 }
 
