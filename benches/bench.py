@@ -20,7 +20,8 @@ Usage: benches/bench.py SUBJECT [SIZE ..] [--quick] [--program FILE]
                                         sizes are divided by the number
   logs      MARKS                       whether git and farmdawn know the same behind each other's logs
   real      REPOSITORY [PAIRS]          whether they name the same commits in a repository
-  gate      LOG ..                      the page docs/GATE.md, of logs of the merge gate
+  gate      LOG .. TIMES.json           the page docs/GATE.md, of logs of the merge gate, and of what was watched beside it
+  watch     TIMES.json                  watches the merge gate until it is interrupted: the processor time of its checks
   all                                   each of these that needs no file
 
 Sizes stand in for the full ones, or with --quick for small ones. FILE is the program that is measured: bench_weights,
@@ -47,6 +48,7 @@ import farm as farm_costs
 import gate
 import repository
 import streams
+import watch
 from measure import measure
 from repository import git
 
@@ -496,7 +498,7 @@ def real(words, is_quick, path):
 
 def read_arguments():
     parser = argparse.ArgumentParser(usage="benches/bench.py SUBJECT [SIZE ..] [--quick] [--program FILE]", add_help=False)
-    parser.add_argument("subject", choices=[*SUBJECTS, "real", "gate", "all"])
+    parser.add_argument("subject", choices=[*SUBJECTS, "real", "gate", "watch", "all"])
     parser.add_argument("words", nargs="*")
     parser.add_argument("--quick", action="store_true")
     parser.add_argument("--program")
@@ -508,6 +510,9 @@ def main():
         print(__doc__)
         return True
     given = read_arguments()
+    if given.subject == "watch":
+        watch.watch(*given.words)
+        return True
     if given.subject == "gate":
         print(gate.page(TOP, given.words), end="")
         return True

@@ -1,28 +1,27 @@
-"""A page on the merge gate, crate by crate, of the logs of `rt ci`, `rt all check` or `rt check`.
-
-A log may have the time of day in front of each line, as `rt ci | while read -r line; do echo "$(date +%T) $line"; done` writes
-it. What several logs tell of a crate, the last of them tells. Crates are proved side by side, and no log tells their
-processor time: the clock of a crate is what went by between the check that ended before and its own.
-"""
-import datetime
+"""A page on the merge gate, crate by crate, of the logs of `rt ci` and of what watch.py wrote beside it."""
 import glob
+import json
 import os
 import re
-from dataclasses import dataclass
+from dataclasses import dataclass, field
+
+import watch
 
 PAGE = """# The merge gate, crate by crate
 
 What the gate proved and tried. A function is one with a body, or a law; each is proved to meet its contract. An edit is a
-wrong line that the proofs must refuse (`must-fail/`). The clock is what went by between the check that ended before and the
-crate's own, with that of its tests: several run side by side, so the column adds up to the whole run, and no log tells
-processor time{clocked}. Numbers in brackets stand in the sources, and the logs do not tell of them; `-` is not told.
+wrong line that the proofs must refuse (`must-fail/`). Minutes are of processors, from nothing: of the proof of a crate, of
+the proof of its tests, which proves the crate once more, and of its edits, which begin with a proof of the crate. Numbers
+in brackets stand in the sources, and the logs do not tell of them; `-` was not seen.
 
-    benches/bench.py gate LOG.. >docs/GATE.md
+    benches/bench.py watch TIMES.json &
+    rt ci >LOG
+    benches/bench.py gate LOG.. TIMES.json >docs/GATE.md
 
-makes this page from logs of `rt ci`, `rt all check` or `rt check`.
+make this page.
 
-| Crate | Functions proved | Tests passed | Edits refused | Clock |
-|---|---:|---:|---:|---:|
+| Crate | Functions proved | Tests passed | Edits refused | Proof | Tests | Edits |
+|---|---:|---:|---:|---:|---:|---:|
 """
 
 
@@ -31,50 +30,34 @@ class Row:
     functions: int | None = None
     tests: int | None = None
     edits: int | None = None
-    seconds: float | None = None
-
-
-def stamped(path):
-    """The lines of a log, each with its seconds from midnight on, where it has them. A day begins where the clock goes back."""
-    day, before = 0, 0
-    with open(path, errors="replace") as file:
-        for line in file:
-            told = re.match(r"(\d\d):(\d\d):(\d\d) (.*)", line)
-            if not told:
-                yield None, line.rstrip("\n")
-                continue
-            hours, minutes, seconds, text = told.groups()
-            at = int(hours) * 3600 + int(minutes) * 60 + int(seconds)
-            day += 86400 if at + 43200 < before else 0
-            before = at
-            yield day + at, text
+    seconds: dict = field(default_factory=dict)  # of the processor, by the parts of the gate
 
 
 def read(path, rows):
-    """Adds what a log tells; whether it has the time."""
-    crate, ended, passed = None, None, 0
-    for at, line in stamped(path):
-        if ended is None:
-            ended = at
-        if told := re.match(r"== (\w+)(: its tests)?$", line):
-            crate = told[1]
-            if at is not None:
+    """Adds what a log tells."""
+    crate, passed = None, 0
+    with open(path, errors="replace") as file:
+        for line in file:
+            if told := re.match(r"== (\w+)(: its tests)?$", line):
+                crate = told[1]
+            elif told := re.match(r"crate (\w+): modules ", line):
+                crate = told[1]
+            elif told := re.match(r"logic=proved functions=(\d+)", line):
                 row = rows.setdefault(crate, Row())
-                row.seconds = (row.seconds or 0) + at - ended
-                ended = at
-        elif told := re.match(r"crate (\w+): modules ", line):
-            crate = told[1]
-        elif told := re.match(r"logic=proved functions=(\d+)", line):
-            row = rows.setdefault(crate, Row())
-            row.functions = min(int(told[1]), row.functions or int(told[1]))
-        elif told := re.match(r"test result: ok\. (\d+) passed", line):
-            passed = int(told[1])
-        elif told := re.match(r"rt: (\w+): its tests passed", line):
-            rows.setdefault(told[1], Row()).tests = passed
-        elif told := re.match(r"rt: must-fail (\w+)/\S+: refused", line):
-            row = rows.setdefault(told[1], Row())
-            row.edits = (row.edits or 0) + 1
-    return ended is not None
+                row.functions = min(int(told[1]), row.functions or int(told[1]))
+            elif told := re.match(r"test result: ok\. (\d+) passed", line):
+                passed = int(told[1])
+            elif told := re.match(r"rt: (\w+): its tests passed", line):
+                rows.setdefault(told[1], Row()).tests = passed
+            elif told := re.match(r"rt: must-fail (\w+)/\S+: refused", line):
+                row = rows.setdefault(told[1], Row())
+                row.edits = (row.edits or 0) + 1
+
+
+def read_times(path, rows):
+    with open(path) as file:
+        for crate, seconds in json.load(file).items():
+            rows.setdefault(crate, Row()).seconds = seconds
 
 
 def standing(folder):
@@ -92,33 +75,29 @@ def number(told, stands=None):
     return str(told)
 
 
-def clock(seconds):
-    return "-" if seconds is None else str(datetime.timedelta(seconds=round(seconds)))
+def minutes(seconds):
+    return "-" if not seconds else f"{seconds / 60:.1f}"
 
 
 def page(top, paths):
-    """The page, of the crates in the order of crates.txt."""
-    rows, is_clocked = {}, False
+    """The page, of the crates in the order of crates.txt; what several logs tell of a crate, the last of them tells."""
+    rows = {}
     for path in paths:
-        of_log = {}
-        is_clocked |= read(path, of_log)
-        for crate, row in of_log.items():
-            known = rows.setdefault(crate, Row())
-            known.functions, known.tests, known.edits, known.seconds = (
-                now if now is not None else then for now, then in zip(vars(row).values(), vars(known).values()))
+        (read_times if path.endswith(".json") else read)(path, rows)
     with open(os.path.join(top, "crates.txt")) as file:
         crates = re.findall(r"^(\w+)[^:\n]*:", file.read(), re.M)
-    text, total = PAGE.format(clocked="" if is_clocked else "; these logs have no time of day"), Row(0, 0, 0, 0)
+    text, total = PAGE, Row(0, 0, 0, dict.fromkeys(watch.PARTS, 0))
     for crate in crates:
         row = rows.get(crate, Row())
         tests, edits = standing(os.path.join(top, "crates", crate))
-        text += (f"| `{crate}` | {number(row.functions)} | {number(row.tests, tests)} | {number(row.edits, edits)} | "
-                 f"{clock(row.seconds)} |\n")
+        times = " | ".join(minutes(row.seconds.get(part)) for part in watch.PARTS)
+        text += f"| `{crate}` | {number(row.functions)} | {number(row.tests, tests)} | {number(row.edits, edits)} | {times} |\n"
         total.functions += row.functions or 0
         total.tests += tests if row.tests is None else row.tests
         total.edits += edits if row.edits is None else row.edits
-        total.seconds += row.seconds or 0
+        for part in watch.PARTS:
+            total.seconds[part] += row.seconds.get(part, 0)
     told = sum(crate in rows and rows[crate].functions is not None for crate in crates)
     functions = f"{total.functions}" if told == len(crates) else f"{total.functions} of {told} crates"
-    whole = clock(total.seconds) if is_clocked else "-"
-    return text + f"| {len(crates)} crates | {functions} | {total.tests} | {total.edits} | {whole} |\n"
+    times = " | ".join(minutes(total.seconds[part]) for part in watch.PARTS)
+    return text + f"| {len(crates)} crates | {functions} | {total.tests} | {total.edits} | {times} |\n"
