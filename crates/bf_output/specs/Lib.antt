@@ -11,3 +11,5 @@ pub mod Tested
 pub mod Output
 pub mod Logs
 pub mod Replay
+pub mod Returning
+pub mod Logged

@@ -5,6 +5,7 @@ ghost use Rattle.bf_output.specs.Output.{Given, IsOutput, tests, traces};
 ghost use Rattle.bf_history.specs.Meanings.{History};
 ghost use Rattle.bf_search.specs.declared.outcomes.Outcome.{Outcome};
 ghost use Rattle.bf_output.specs.Beginning.{Begun};
+ghost use Rattle.bf_output.specs.Returning as returning;
 ghost use Rattle.bf_output.specs.Simulate.{ran, run_over};
 ghost use Rattle.bf_output.specs.Tested.{Tested, IsTested, is_test_fault};
 ghost use Rattle.bf_output.specs.Traces.{traced_if};
@@ -38,4 +39,23 @@ pub fn one_run()
     ensures { (request : Request) (tested : Tested) (plan : List Outcome) (history : History) (first : Begun) (told : Told) →
         tested.plan ≡ Some plan → IsTested request tested history first told → is_test_fault told.status ≡ false →
         (legs : Legs) × (told ≡ traced_if request.trace history legs (ran history first (run_over history first plan))) }
+{}
+
+/// The log of every run gives the state of the run back: it is read and replayed, and one ask further is the state
+/// in which the run ended, with the entries that were told on the way. Behind a file that is replayed, the log is
+/// the file, with an LF at its end, and the lines that are printed.
+pub fn logs_give_back()
+    ensures { returning.LogsGiveBack }
+{}
+
+/// Every run without a leg that no replayed log began goes on from its beginning: from the state that the lines of its
+/// start and of its skips lead to, it prints all of its own lines.
+pub fn runs_go_on_from_starts()
+    ensures { returning.RunsGoOnFromStarts }
+{}
+
+/// It goes on from the parts of its log too that hold the start and the skips and end with a command line behind them:
+/// from the state that such a part leads to, it prints the rest of the log and ends alike.
+pub fn runs_go_on_from_parts()
+    ensures { returning.RunsGoOnFromParts }
 {}

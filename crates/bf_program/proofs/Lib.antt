@@ -6,6 +6,7 @@ mod Fronts
 mod Gathering
 mod Importing
 mod Planning
+mod Printing
 mod Refusing
 mod Running
 mod Skipping

@@ -5,3 +5,4 @@ pub mod Telling
 pub mod Writes
 pub mod Files
 pub mod Searching
+pub mod Printing

@@ -5,6 +5,7 @@ ghost use Rattle.bf_words.specs.Words as asked;
 ghost use Rattle.bf_output.specs.Output as output;
 ghost use Rattle.bf_output.specs.Tested.{tested_by};
 ghost use Rattle.bf_program.specs.Answers.{Answers, IsFailedTest, given_to};
+ghost use Rattle.bf_program.specs.Printing.{PrintsLog};
 ghost use Rattle.bf_program.specs.Searching.{IsSound, Concludes, IsRefused};
 ghost use Rattle.bf_program.specs.Steps.{HasPlan};
 
@@ -30,6 +31,9 @@ use std::alloc::Global;
 /// `TestFault` only in `run` where that of the tester did. Want of memory may be answered at any point. After
 /// `WriteFault` and `NoMemory` the sink gained some front of the text that was due. Only `run` uses the tester: it
 /// takes the command, and tests what the search asks for.
+///
+/// The log that `simulate` prints of a search that came to its end gives the state of its run back, behind the file
+/// that is replayed where there is one; and without such a file the run goes on from the parts of its log.
 pub fn bisect_main<R: Host, S: Source, F: Shelf, T: Tester, K: Sink>(
     rt: &R,
     alloc: Global,
@@ -42,6 +46,8 @@ pub fn bisect_main<R: Host, S: Source, F: Shelf, T: Tester, K: Sink>(
     requires fresh { T.answers tester.old ≡ [] }
     requires whole { T.is_split tester.old ≡ false }
     ensures answers { Answers (record { given = given_to words.now (F.files shelf.old) (tested_by T.told T.command T.is_lenient T.answers T.faults T.failed T.is_split tester.new); left = S.left stream.old; stream = record { before = S.faults stream.old; now = S.faults stream.new }; shelf = record { before = F.faults shelf.old; now = F.faults shelf.new }; before = K.held out.old; after = K.held out.new }) result }
+    ensures log { PrintsLog words.now (S.left stream.old) (F.files shelf.old)
+        (K.held out.old) (K.held out.new) result }
     ensures read { result ≡ Status.ReadFault → Rose (S.faults stream.old) (S.faults stream.new) }
     ensures file { result ≡ Status.ShelfFault → Rose (F.faults shelf.old) (F.faults shelf.new) }
     ensures write { result ≡ Status.WriteFault → Rose (K.faults out.old) (K.faults out.new) }

@@ -5,6 +5,7 @@ use Rattle.bf_words.specs.declared.request.Request.{Request}
 use Rattle.bf_program.specs.Answers.{Met, IsFailedTest}
 use Rattle.bf_program.proofs.Answering.{answered, read_cause, refused_any, shelf_cause, unloaded, unread}
 use Rattle.bf_program.proofs.Planning.{plan_read}
+use Rattle.bf_program.proofs.Printing.{prints_log}
 use Rattle.bf_program.proofs.Using.{unused_for}
 use Rattle.bf_program.proofs.top.bisect_main.Goals as goal
 
@@ -31,6 +32,9 @@ returns-in-Ok-clause-answers g c =
     (λ e. unloaded met c.in-Ok.request c.conclude.result c.in-Ok.ensures (c.prepare-ready.ensures.asks e) (c.prepare-ready.ensures.file.failed e))
     c.conclude.ensures.own c.conclude.ensures.told
 
+pub returns-in-Ok-clause-log : goal.returns-in-Ok-clause-log
+returns-in-Ok-clause-log g c = prints_log _ c.conclude.result (returns-in-Ok-clause-answers g c)
+
 pub returns-in-Ok-clause-read : goal.returns-in-Ok-clause-read
 returns-in-Ok-clause-read g c = read_cause _ c.conclude.result (returns-in-Ok-clause-answers g c)
 
@@ -54,6 +58,9 @@ returns-in-Ok-clause-used g c =
 pub returns-in-Err-clause-answers : goal.returns-in-Err-clause-answers
 returns-in-Err-clause-answers g c =
     refused_any _ c.in-Err.fault c.refuse_words.result c.in-Err.ensures c.refuse_words.ensures.own c.refuse_words.ensures.told
+
+pub returns-in-Err-clause-log : goal.returns-in-Err-clause-log
+returns-in-Err-clause-log g c = prints_log _ c.refuse_words.result (returns-in-Err-clause-answers g c)
 
 pub returns-in-Err-clause-read : goal.returns-in-Err-clause-read
 returns-in-Err-clause-read g c = read_cause _ c.refuse_words.result (returns-in-Err-clause-answers g c)

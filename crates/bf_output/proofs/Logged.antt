@@ -1,0 +1,230 @@
+-- What `simulate` tells of a search that came to its end begins with its log.
+use Rattle.std.proofs.Common.{◌≡◌, ℕ, Bool, true, false, List, [], ◌∷◌, ◌++◌, Option, Some, None, IfSome, Result, Ok, Err, IfErr, inl, inr, refl, sym, ap, subst, ◌∙◌, append_assoc, option_map, if◌then◌else◌}
+use Rattle.bf_grammar.specs.Limits.{standard_limits}
+use Rattle.bf_grammar.specs.declared.fault.StreamFault.{StreamFault}
+use Rattle.bf_grammar.specs.declared.fault.StreamFault.TheVariants as stream
+use Rattle.bf_history.specs.declared.fault.ImportFault.{ImportFault}
+use Rattle.bf_history.specs.declared.fault.ImportFault.TheVariants as faults
+use Rattle.bf_history.specs.Imports.{Loads}
+use Rattle.bf_history.specs.Meanings.{History}
+use Rattle.bf_kept.specs.Laws.{IsLoaded}
+use Rattle.bf_logs.specs.Replay.{Replayed, ReplayFault, Name, NotStarted, Term}
+use Rattle.bf_names.specs.declared.fault.NameFault.{NameFault}
+use Rattle.bf_names.specs.Names.{name, range}
+use Rattle.bf_reading.specs.declared.line.LogLine.{LogLine}
+use Rattle.bf_reading.specs.Reading.{read_log}
+use Rattle.bf_replay.specs.Meaning.{replay_in}
+use Rattle.bf_search.specs.declared.outcomes.Outcome.{Outcome}
+use Rattle.bf_shelf.specs.declared.shelf.LoadFault.{LoadFault}
+use Rattle.bf_shelf.specs.declared.shelf.LoadFault.TheVariants.{Missing, TooLong, Failed, NoMemory}
+use Rattle.bf_shelf.specs.declared.shelf.ShelfFile.{ShelfFile}
+use Rattle.bf_words.specs.declared.request.Request.{Request}
+use Rattle.bf_words.specs.declared.verb.Verb.{Verb}
+use Rattle.bf_words.specs.declared.verb.Verb.TheVariants.{Simulate}
+use Rattle.bf_words.specs.Words as asked
+use Rattle.bf_words.specs.Words.{word_at}
+use Rattle.bf_output.specs.Beginning.{Begun, name_or_refusal, named, named_if_given, gathered, one_named, all_named, meant, places_meant, all_meant, begun_by_words, begun_by_log, begun_by, with_ends, begun_with_skips, has_ends, log_on}
+use Rattle.bf_output.specs.Logged.{EndsSearch, file_given, outcomes_written, IsLogged}
+use Rattle.bf_output.specs.Logs.{file_or_refusal, lines_or_refusal, replayed_or_refusal, replayed_log}
+use Rattle.bf_output.specs.Output.{Given, IsOverFile, IsOverLog, IsOverLoaded, IsOverStream, IsOutput, IsOutputFor, IsOutputOf, IsSearchedFrom, file_of}
+use Rattle.bf_output.specs.Refusals.{name_refused, refused_at, waiting, refusal, too_large, log_refused}
+use Rattle.bf_output.specs.Returning.{FileGiven}
+use Rattle.bf_output.specs.Simulate.{IsRunTold, IsSimulated, plan_of, run_over}
+use Rattle.bf_output.specs.Tested.{Tested}
+use Rattle.bf_output.specs.Told.{Told, ◌>>=◌}
+use Rattle.bf_output.proofs.Returning.{log_gives_back, goes_on_from_start, goes_on_from_parts}
+
+-- ---- no refusal has the status of an end
+
+abbrev IsNoEnd : Told → Type 0
+IsNoEnd told = EndsSearch told.status → ⊥
+
+abbrev NeverEnds : {X : Type 0} → Result X Told → Type 0
+NeverEnds result = IfErr result IsNoEnd
+
+next_ends : {X Y : Type 0} (a : Result X Told) (next : X → Result Y Told) → NeverEnds a → ((x : X) → NeverEnds (next x)) → NeverEnds (a >>= next)
+next_ends (Ok x) next h k = k x
+next_ends (Err told) next h k = h
+
+name_ends : {X : Type 0} (word : ℕ) (r : Result X NameFault) → NeverEnds (name_or_refusal word r)
+unfolding name_refused
+name_ends word (Ok x) = tt
+name_ends word (Err fault) = λ e. e
+
+module _ (history : History) (words : List (List ℕ)) where
+  given_ends : (given : Option ℕ) → NeverEnds (named_if_given history words given)
+  given_ends None = tt
+  given_ends (Some i) = next_ends (named history words i) (λ p. Ok (Some p)) (name_ends i (name history (word_at words i))) (λ p. tt)
+
+  gathered_ends : (give : ℕ → Result (List ℕ) Told) → ((i : ℕ) → NeverEnds (give i)) → (is : List ℕ) → NeverEnds (gathered give is)
+  unfolding gathered
+  gathered_ends give h [] = tt
+  gathered_ends give h (i ∷ is) =
+      next_ends (give i) _ (h i) (λ xs. next_ends (gathered give is) _ (gathered_ends give h is) (λ ps. tt))
+
+  all_ends : (is : List ℕ) → NeverEnds (all_named history words is)
+  all_ends is =
+      gathered_ends (one_named history words)
+      (λ i. next_ends (named history words i) (λ p. Ok (p ∷ [])) (name_ends i (name history (word_at words i))) (λ p. tt)) is
+
+  meant_ends : (is : List ℕ) → NeverEnds (all_meant history words is)
+  meant_ends is =
+      gathered_ends (places_meant history words)
+      (λ i. next_ends (meant history words i) _ (name_ends i (range history (word_at words i))) (λ row. tt)) is
+
+  words_end : (request : Request) → NeverEnds (begun_by_words request words history)
+  unfolding begun_by_words
+  words_end request =
+      next_ends (named_if_given history words request.bad) _ (given_ends request.bad)
+      (λ bad. next_ends (all_named history words request.goods) _ (all_ends request.goods) (λ goods. tt))
+
+file_ends : (file : Result (List ℕ) LoadFault) → NeverEnds (file_or_refusal file)
+unfolding too_large
+file_ends (Ok bytes) = tt
+file_ends (Err Missing) = λ e. e
+file_ends (Err TooLong) = λ e. e
+file_ends (Err Failed) = λ e. e
+file_ends (Err NoMemory) = λ e. e
+
+lines_end : (read : Result (List LogLine) ℕ) → NeverEnds (lines_or_refusal read)
+unfolding log_refused
+lines_end (Ok lines) = tt
+lines_end (Err line) = λ e. e
+
+replayed_ends : (r : Result Replayed (ReplayFault NameFault)) → NeverEnds (replayed_or_refusal r)
+unfolding log_refused
+replayed_ends (Ok replayed) = tt
+replayed_ends (Err (Name line fault)) = λ e. e
+replayed_ends (Err (NotStarted line)) = λ e. e
+replayed_ends (Err (Term line)) = λ e. e
+
+log_ends : (history : History) (file : Result (List ℕ) LoadFault) → NeverEnds (begun_by_log history file)
+unfolding begun_by_log replayed_log
+log_ends history file =
+    next_ends (file_or_refusal file >>= λ bytes. lines_or_refusal (read_log bytes) >>= λ lines. replayed_or_refusal (replay_in history lines)) _
+    (next_ends (file_or_refusal file) _ (file_ends file)
+    (λ bytes. next_ends (lines_or_refusal (read_log bytes)) _ (lines_end (read_log bytes)) (λ lines. replayed_ends (replay_in history lines))))
+    (λ replayed. tt)
+
+first_ends : (request : Request) (words : List (List ℕ)) (file : FileGiven) (history : History) → NeverEnds (begun_by request words file history)
+first_ends request words None history = words_end history words request
+first_ends request words (Some file) history = log_ends history file
+
+both_end : (both : Bool) (first : Begun) (refusal : Told) → IsNoEnd refusal → NeverEnds (if both then Ok first else Err refusal)
+both_end true first refusal h = tt
+both_end false first refusal h = h
+
+waiting_ends : (first : Begun) → NeverEnds (with_ends first)
+unfolding waiting
+waiting_ends first = both_end (has_ends first.search) first _ (λ e. e)
+
+begun_ends : (request : Request) (words : List (List ℕ)) (file : FileGiven) (history : History) → NeverEnds (begun_with_skips request words file history)
+unfolding begun_with_skips
+begun_ends request words file history =
+    next_ends (begun_by request words file history) _ (first_ends request words file history)
+    (λ first. next_ends (all_meant history words request.skips) _ (meant_ends history words request.skips)
+    (λ ps. next_ends (with_ends first) _ (waiting_ends first) (λ whole. tt)))
+
+stream_ends : (fault : StreamFault) → IsNoEnd (refusal (faults.Stream fault))
+unfolding refused_at too_large
+stream_ends (stream.Syntax line) = λ e. e
+stream_ends (stream.Unsupported line) = λ e. e
+stream_ends (stream.Truncated line) = λ e. e
+stream_ends (stream.NoDone line) = λ e. e
+stream_ends stream.Read = λ e. e
+stream_ends (stream.TooLarge what) = λ e. e
+stream_ends stream.NoMemory = λ e. e
+
+import_ends : (fault : ImportFault) → IsNoEnd (refusal fault)
+unfolding refused_at too_large
+import_ends (faults.Stream fault) = stream_ends fault
+import_ends (faults.BadFrom line) = λ e. e
+import_ends (faults.BadMark line) = λ e. e
+import_ends (faults.BadPath line) = λ e. e
+import_ends (faults.Unsupported line) = λ e. e
+import_ends (faults.TooLarge what) = λ e. e
+import_ends faults.NoMemory = λ e. e
+
+-- ---- what is told of a run begins with its log
+
+abbrev BeginsWith : List ℕ → List ℕ → Type 0
+BeginsWith log text = (rest : List ℕ) × (text ≡ log ++ rest)
+
+run_begins : (is_asked : Bool) (request : Request) (plan : List Outcome) (history : History) (first : Begun) (told : Told)
+    → IsRunTold is_asked request plan history first told
+    → BeginsWith (log_on history first (run_over history first plan).entries) told.text
+run_begins false request plan history first told is = (_, ap (λ (t : Told). t.text) is)
+run_begins true request plan history first told is =
+    (_, ap (λ (t : Told). t.text) is.tells ∙ append_assoc (log_on history first (run_over history first plan).entries) _ _)
+
+simulated_begins : (request : Request) (words : List (List ℕ)) (history : History) (first : Begun) (told : Told) → EndsSearch told.status
+    → IsSimulated request words history first told
+    → BeginsWith (log_on history first (run_over history first (plan_of request words)).entries) told.text
+simulated_begins request words history first told ends (inl is) = run_begins request.trace request (plan_of request words) history first told is
+simulated_begins request words history first told ends (inr cut) = absurd (subst (λ (t : Told). EndsSearch t.status) cut ends)
+
+-- ---- the whole
+
+module _ (request : Request) (words : List (List ℕ)) (read : asked.request words ≡ Ok request) (bytes : List ℕ) (told : Told)
+    (ends : EndsSearch told.status) where
+  returning : (file : FileGiven) (history : History) (first : Begun) → Loads bytes standard_limits (Ok history)
+      → begun_with_skips request words file history ≡ Ok first
+      → BeginsWith (log_on history first (run_over history first (plan_of request words)).entries) told.text
+      → IsLogged request words file bytes told.text
+  returning file history first loads begins (rest, is) = record {
+    history = history;
+    loads = loads;
+    first = first;
+    begins = begins;
+    is = record {
+      rest = rest;
+      printed = is;
+      gives_back = log_gives_back request words file history first (outcomes_written request words) None read loaded begins;
+      from_start = λ none. goes_on_from_start request words history first (outcomes_written request words) read loaded (by_words none);
+      from_parts = λ none. goes_on_from_parts request words history first (outcomes_written request words) read loaded (by_words none);
+    };
+  }
+    where
+      loaded : IsLoaded history
+      loaded = (standard_limits, loads.0, loads.1, sym loads.3)
+
+      by_words : file ≡ None → begun_with_skips request words None history ≡ Ok first
+      by_words none = subst (λ (f : FileGiven). begun_with_skips request words f history ≡ Ok first) none begins
+
+  from_search : (file : FileGiven) (history : History) (tested : Tested) (begun : Result Begun Told) → begun_with_skips request words file history ≡ begun
+      → Loads bytes standard_limits (Ok history) → IsSearchedFrom begun Simulate request words tested history told
+      → IsLogged request words file bytes told.text
+  from_search file history tested (Err refused) e loads is =
+      absurd (subst NeverEnds e (begun_ends request words file history) (subst (λ (t : Told). EndsSearch t.status) is ends))
+  from_search file history tested (Ok first) e loads is =
+      returning file history first loads e (simulated_begins request words history first told ends is)
+
+  from_log : (tested : Tested) (files : List ShelfFile) (history : History) (told_files : Option (List ShelfFile)) → told_files ≡ Some files
+      → (replay : Option ℕ) → IsOverLog replay request (record { words = words; files = told_files; tested = tested }) history told
+      → IsOverFile request.verb request words tested (option_map (λ i. file_of words i files) replay) history told
+  from_log tested files history told_files e None is = is
+  from_log tested files history told_files e (Some i) is =
+      let over : IfSome told_files (λ fs. IsOverFile request.verb request words tested (Some (file_of words i fs)) history told) = is in
+      subst (λ (o : Option (List ShelfFile)). IfSome o (λ fs. IsOverFile request.verb request words tested (Some (file_of words i fs)) history told)) e over
+
+  from_loaded : (tested : Tested) (files : List ShelfFile) (told_files : Option (List ShelfFile)) → told_files ≡ Some files → request.verb ≡ Simulate
+      → (result : Result History ImportFault) → Loads bytes standard_limits result
+      → IsOverLoaded request (record { words = words; files = told_files; tested = tested }) result told
+      → IsLogged request words (file_given request words files) bytes told.text
+  from_loaded tested files told_files e simulates (Err fault) loads is =
+      absurd (import_ends fault (subst (λ (t : Told). EndsSearch t.status) is ends))
+  from_loaded tested files told_files e simulates (Ok history) loads is =
+      from_search (file_given request words files) history tested (begun_with_skips request words (file_given request words files) history) refl loads
+      (subst (λ (v : Verb). IsOverFile v request words tested (file_given request words files) history told) simulates
+      (from_log tested files history told_files e request.replay is))
+
+-- what `simulate` tells of a search that came to its end
+pub logged : (given : Given) (bytes : List ℕ) (files : List ShelfFile) (request : Request) (told : Told) → asked.request given.words ≡ Ok request
+    → request.verb ≡ Simulate → given.files ≡ Some files → EndsSearch told.status → IsOutput given (Some bytes) told
+    → IsLogged request given.words (file_given request given.words files) bytes told.text
+logged given bytes files request told read simulates e ends is =
+    let output : IsOutputOf request.verb request given (Some bytes) told =
+    subst (λ (r : Result Request ℕ). IsOutputFor r given (Some bytes) told) read is in
+    let over : IsOverStream request given (Some bytes) told =
+    subst (λ (v : Verb). IsOutputOf v request given (Some bytes) told) simulates output in
+    from_loaded request given.words read bytes told ends given.tested files given.files e simulates over.0 over.1 over.2
