@@ -3,7 +3,7 @@
 #![tactic(auto)]
 
 #[cfg(test)]
-mod core;
+mod cores;
 #[cfg(test)]
 mod farm;
 #[cfg(test)]
