@@ -5,42 +5,41 @@
 
 needs_all() { has cc awk && has_program; }
 
-# A library that refuses the allocation whose number REFUSED has, and writes to the file COUNTED how many there were.
+# A library that refuses the allocation whose number REFUSED has, and keeps in the file COUNTED how many there were: the
+# program ends without a last word, so they are counted in memory that is the file's.
 make_refusing() {
     cat >refusing.c <<'END'
 #include <errno.h>
+#include <fcntl.h>
 #include <stdatomic.h>
-#include <stdio.h>
 #include <stdlib.h>
+#include <sys/mman.h>
+#include <unistd.h>
 
 extern void *__libc_malloc(size_t size);
 extern void *__libc_calloc(size_t count, size_t size);
 extern void *__libc_realloc(void *old, size_t size);
 
-static atomic_ulong calls;
-static unsigned long refused;
+static atomic_uint own;
+static atomic_uint *calls = &own;
+static unsigned refused;
 
 __attribute__((constructor)) static void begin(void)
 {
-    const char *number = getenv("REFUSED");
-    refused = number ? strtoul(number, NULL, 10) : 0;
-    calls = 0;
-}
-
-__attribute__((destructor)) static void end(void)
-{
-    const char *name = getenv("COUNTED");
-    unsigned long counted = calls;
-    FILE *file = name ? fopen(name, "w") : NULL;
-    if (file) {
-        fprintf(file, "%lu\n", counted);
-        fclose(file);
+    const char *number = getenv("REFUSED"), *name = getenv("COUNTED");
+    int file = name ? open(name, O_RDWR | O_CREAT, 0600) : -1;
+    if (file >= 0 && !ftruncate(file, sizeof *calls)) {
+        void *shared = mmap(NULL, sizeof *calls, PROT_READ | PROT_WRITE, MAP_SHARED, file, 0);
+        if (shared != MAP_FAILED)
+            calls = shared;
     }
+    *calls = 0;
+    refused = number ? strtoul(number, NULL, 10) : 0;
 }
 
 static int refuses(void)
 {
-    if (atomic_fetch_add(&calls, 1) + 1 != refused)
+    if (atomic_fetch_add(calls, 1) + 1 != refused)
         return 0;
     errno = ENOMEM;
     return 1;
@@ -77,7 +76,7 @@ refuse_each() {
     wanted=$?
     COUNTED=$PWD/counted LD_PRELOAD=$PWD/refusing.so "$farmdawn" "$@" <stream >got
     expect 'the answer with ample memory' [ $? -eq $wanted ]
-    most=$(cat counted) number=1 ran_out=0
+    most=$(od -An -tu4 counted | tr -d ' ') number=1 ran_out=0
     expect 'memory was taken' [ "$most" -gt 20 ]
     while [ $number -le "$most" ]; do
         REFUSED=$number LD_PRELOAD=$PWD/refusing.so "$farmdawn" "$@" <stream >got 2>told
