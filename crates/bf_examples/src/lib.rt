@@ -7,3 +7,5 @@ mod line;
 mod naming;
 #[cfg(test)]
 mod reading;
+#[cfg(test)]
+mod searching;
