@@ -119,12 +119,12 @@ fn tests_overlap(rt: HostRuntime) -> Result<(), Fail> {
     let status = test(&rt, words.as_slice(), stream, &mut tester, &mut out);
     assert_eq!(rt; status, Status::Done);
     assert!(rt; out.bytes().starts_with(FOUND));
-    let mut posts = 0usize;
+    let mut is_posted = false;
     for line in out.bytes().split(|byte| *byte == b'\n') {
         assert!(rt; !is_alone(line));
-        posts += usize::from(is_post(line));
+        is_posted = is_posted || is_post(line);
     }
-    assert_eq!(rt; posts, 1);
+    assert!(rt; is_posted);
     Ok(())
 }
 
