@@ -1,4 +1,5 @@
-# make demo: a search over a shipped stream, built without its proofs
+# make demo: a search over a shipped history by a command that takes half a second, four commits at once, with a program
+#   that is built without its proofs
 # make install PREFIX=FOLDER: proves and builds the program, and puts it into FOLDER/bin, with the scripts, their manual
 #   pages and the shells' completions
 # make uninstall PREFIX=FOLDER: removes what was installed
@@ -16,7 +17,8 @@ FISH_COMPLETIONS = $(DESTDIR)$(PREFIX)/share/fish/vendor_completions.d
 
 .PHONY: demo install install-scripts uninstall test check bench
 demo:
-	cd crates/farmdawn && rt try -- $$(cat args) < stdin
+	cd crates/farmdawn && rt try --data test.sh=../../demo/test.sh --data broken=../../demo/broken -- \
+		run --workers 4 main v1.0 -- sh test.sh < ../../demo/stream
 
 install: install-scripts
 	cd crates/farmdawn && rt run -- --version
