@@ -1,6 +1,7 @@
 mod Answering
 mod Concluding
 mod Asking
+mod Complete
 mod Ended
 mod Fronts
 mod Gathering

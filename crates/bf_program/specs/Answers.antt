@@ -86,6 +86,16 @@ Answers met (status.TestFault place) = IsAnswered met (status.TestFault place)
 Answers met status.NoFile = IsAnswered met status.NoFile
 Answers met status.Waiting = IsAnswered met status.Waiting
 
+-- a device that did not fail, or a tester none of whose tests failed
+abbrev pub HasNotFailed : Counts → Type 0
+HasNotFailed counts = HasFailed counts → ⊥
+
+-- where no device failed, and no test, the sink gained the text of the definition, with its status; or memory ran out
+abbrev pub IsComplete : Met → Counts → Counts → Status → Type 0
+IsComplete met tester sink result =
+    HasNotFailed met.stream → HasNotFailed met.shelf → HasNotFailed tester → HasNotFailed sink
+    → (result ≡ status.NoMemory) ⊎ IsAnswered met result
+
 -- an answer that no device cut short, and no test
 abbrev pub IsWhole : Status → Type 0
 IsWhole status.ReadFault = ⊥

@@ -4,7 +4,7 @@ ghost use Rattle.bf_io.specs.Causes.{Rose};
 ghost use Rattle.bf_words.specs.Words as asked;
 ghost use Rattle.bf_output.specs.Output as output;
 ghost use Rattle.bf_output.specs.Tested.{tested_by};
-ghost use Rattle.bf_program.specs.Answers.{Answers, IsFailedTest, given_to};
+ghost use Rattle.bf_program.specs.Answers.{Answers, IsComplete, IsFailedTest, given_to};
 ghost use Rattle.bf_program.specs.Printing.{PrintsLog};
 ghost use Rattle.bf_program.specs.Searching.{IsSound, Concludes, IsRefused};
 ghost use Rattle.bf_program.specs.Steps.{HasPlan};
@@ -32,6 +32,8 @@ use std::alloc::Global;
 /// `WriteFault` and `NoMemory` the sink gained some front of the text that was due. Only `run` uses the tester: it
 /// takes the command, and tests what the search asks for.
 ///
+/// Where no count of faults rose, the status and the text are those of the definition, or memory ran out.
+///
 /// The log that `simulate` prints of a search that came to its end gives the state of its run back, behind the file
 /// that is replayed where there is one; and without such a file the run goes on from the parts of its log.
 pub fn bisect_main<R: Host, S: Source, F: Shelf, T: Tester, K: Sink>(
@@ -46,6 +48,7 @@ pub fn bisect_main<R: Host, S: Source, F: Shelf, T: Tester, K: Sink>(
     requires fresh { T.answers tester.old ≡ [] }
     requires whole { T.is_split tester.old ≡ false }
     ensures answers { Answers (record { given = given_to words.now (F.files shelf.old) (tested_by T.told T.command T.is_lenient T.answers T.faults T.failed T.is_split tester.new); left = S.left stream.old; stream = record { before = S.faults stream.old; now = S.faults stream.new }; shelf = record { before = F.faults shelf.old; now = F.faults shelf.new }; before = K.held out.old; after = K.held out.new }) result }
+    ensures complete { IsComplete (record { given = given_to words.now (F.files shelf.old) (tested_by T.told T.command T.is_lenient T.answers T.faults T.failed T.is_split tester.new); left = S.left stream.old; stream = record { before = S.faults stream.old; now = S.faults stream.new }; shelf = record { before = F.faults shelf.old; now = F.faults shelf.new }; before = K.held out.old; after = K.held out.new }) (record { before = T.faults tester.old; now = T.faults tester.new }) (record { before = K.faults out.old; now = K.faults out.new }) result }
     ensures log { PrintsLog words.now (S.left stream.old) (F.files shelf.old)
         (K.held out.old) (K.held out.new) result }
     ensures read { result ≡ Status.ReadFault → Rose (S.faults stream.old) (S.faults stream.new) }

@@ -4,6 +4,7 @@ use Rattle.bf_output.specs.Tested.{tested_by}
 use Rattle.bf_words.specs.declared.request.Request.{Request}
 use Rattle.bf_program.specs.Answers.{Met, IsFailedTest}
 use Rattle.bf_program.proofs.Answering.{answered, read_cause, refused_any, shelf_cause, unloaded, unread}
+use Rattle.bf_program.proofs.Complete.{complete}
 use Rattle.bf_program.proofs.Planning.{plan_read}
 use Rattle.bf_program.proofs.Printing.{prints_log}
 use Rattle.bf_program.proofs.Using.{unused_for}
@@ -32,6 +33,10 @@ returns-in-Ok-clause-answers g c =
     (λ e. unloaded met c.in-Ok.request c.conclude.result c.in-Ok.ensures (c.prepare-ready.ensures.asks e) (c.prepare-ready.ensures.file.failed e))
     c.conclude.ensures.own c.conclude.ensures.told
 
+pub returns-in-Ok-clause-complete : goal.returns-in-Ok-clause-complete
+returns-in-Ok-clause-complete g c =
+    complete _ _ _ c.conclude.result (returns-in-Ok-clause-answers g c) c.conclude.ensures.write (λ place e. (c.conclude.ensures.test place e).rose)
+
 pub returns-in-Ok-clause-log : goal.returns-in-Ok-clause-log
 returns-in-Ok-clause-log g c = prints_log _ c.conclude.result (returns-in-Ok-clause-answers g c)
 
@@ -58,6 +63,10 @@ returns-in-Ok-clause-used g c =
 pub returns-in-Err-clause-answers : goal.returns-in-Err-clause-answers
 returns-in-Err-clause-answers g c =
     refused_any _ c.in-Err.fault c.refuse_words.result c.in-Err.ensures c.refuse_words.ensures.own c.refuse_words.ensures.told
+
+pub returns-in-Err-clause-complete : goal.returns-in-Err-clause-complete
+returns-in-Err-clause-complete g c =
+    complete _ _ _ c.refuse_words.result (returns-in-Err-clause-answers g c) c.refuse_words.ensures.write (λ place e. absurd (c.refuse_words.ensures.no_test place e))
 
 pub returns-in-Err-clause-log : goal.returns-in-Err-clause-log
 returns-in-Err-clause-log g c = prints_log _ c.refuse_words.result (returns-in-Err-clause-answers g c)
