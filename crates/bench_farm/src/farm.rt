@@ -1,4 +1,5 @@
 //! What workers do in a search.
+use bench_history::{Shape, history};
 use bf_core::{Core, Pick};
 use bf_reach::Reach;
 use bf_search::Outcome;
@@ -51,23 +52,41 @@ fn search<'r>(alloc: Global, reach: &'r Reach) -> Result<Option<Core<'r>>, Alloc
     Ok(Some(Core::start(alloc, reach, state, table, 0)?))
 }
 
-/// Does a task, and gives the number of places that were picked or posted last.
-pub fn done(alloc: Global, reach: &Reach, task: Task, workers: u32) -> Result<u32, AllocError> {
+/// Does a task over a generated history, and gives the number of places that were picked or posted last.
+pub fn done(
+    alloc: Global,
+    task: Task,
+    shape: Shape,
+    commits: u32,
+    workers: u32,
+) -> Result<u32, AllocError> {
+    let graph = history(alloc, shape, commits)?;
+    let reach = Reach::build(alloc, &graph)?;
     if let Task::Builds = task {
         return Ok(0);
     }
-    let Some(mut core) = search(alloc, reach)? else {
-        return Ok(0);
-    };
+    done_over(alloc, &reach, task, workers)
+}
+
+/// Makes the search, and does a task in it.
+fn done_over(alloc: Global, reach: &Reach, task: Task, workers: u32) -> Result<u32, AllocError> {
+    match search(alloc, reach)? {
+        Some(mut core) => done_in(&mut core, task, workers, reach.len()),
+        None => Ok(0),
+    }
+}
+
+/// Does a task in a search over so many commits.
+fn done_in(core: &mut Core<'_>, task: Task, workers: u32, commits: u32) -> Result<u32, AllocError> {
     match task {
         Task::Builds | Task::Waits => Ok(0),
-        Task::Picks => pick_all(&mut core, workers),
+        Task::Picks => pick_all(core, workers),
         Task::Posts => {
-            pick_all(&mut core, workers)?;
-            post_first(&mut core, Outcome::Exit(0))
+            pick_all(core, workers)?;
+            post_first(core, Outcome::Exit(0))
         }
-        Task::Runs => run(&mut core, workers, reach.len(), false),
-        Task::Skips => run(&mut core, workers, reach.len(), true),
+        Task::Runs => run(core, workers, commits, false),
+        Task::Skips => run(core, workers, commits, true),
     }
 }
 

@@ -11,9 +11,8 @@
 #![tactic(auto)]
 
 mod farm;
-mod history;
 
-use bf_reach::Reach;
+use bench_history::shape_named;
 use farm::Task;
 use std::env;
 
@@ -29,16 +28,13 @@ fn main(rt: HostRuntime) -> anyhow::Result<()> {
         println!(rt; "usage: bench_farm TASK SHAPE COMMITS WORKERS")?;
         return Ok(());
     };
-    let (Some(named), Some(kind)) = (
-        Task::named(task.as_str()),
-        history::shape_named(shape.as_str()),
-    ) else {
+    let (Some(named), Some(kind)) = (Task::named(task.as_str()), shape_named(shape.as_str())) else {
         println!(rt; "no such task or shape")?;
         return Ok(());
     };
-    let graph = history::history(rt.alloc(), kind, count.as_str().parse::<u32>()?)?;
-    let reach = Reach::build(rt.alloc(), &graph)?;
-    let done = farm::done(rt.alloc(), &reach, named, workers.as_str().parse::<u32>()?)?;
+    let commits = count.as_str().parse::<u32>()?;
+    let threads = workers.as_str().parse::<u32>()?;
+    let done = farm::done(rt.alloc(), named, kind, commits, threads)?;
     println!(rt; "{task} {shape} {count} {workers}: {done} places")?;
     Ok(())
 }

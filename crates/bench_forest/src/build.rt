@@ -2,8 +2,7 @@
 ghost use Rattle.std.specs.Prelude.{◌<◌, length, IfOk};
 
 use bf_forest::{Edit, Forest, ForestFault};
-use bf_grammar::{Mode, Oid};
-use bf_oid::{Kind, object_name, oid_hex};
+use bf_oid::{Kind, Mode, Oid, object_name, oid_hex};
 use bf_paths::{PathFault, read_path};
 use std::alloc::Global;
 

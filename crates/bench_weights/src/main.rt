@@ -3,7 +3,6 @@
 //! first commit and the last and adds up their weights.
 #![tactic(auto)]
 
-mod history;
 mod report;
 
 use std::io;

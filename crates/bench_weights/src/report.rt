@@ -1,5 +1,5 @@
 //! What is told of a history.
-use crate::history::{history, shape_named};
+use bench_history::{history, shape_named};
 use bf_cands::candidates;
 use bf_graph::Graph;
 use bf_reach::Reach;

@@ -1,11 +1,12 @@
 -- The places of an ask are places of the graph.
-use Rattle.std.proofs.Common.{◌≡◌, ℕ, ◌<◌, Bool, true, false, not, ◌&&◌, ◌==◌, cond, List, [], ◌∷◌, ◌++◌, length, map, Option, Some, None, refl, sym, subst, arith}
+use Rattle.std.proofs.Common.{◌≡◌, ℕ, ◌<◌, Bool, true, false, not, ◌&&◌, ◌==◌, cond, List, [], ◌∷◌, ◌++◌, length, map, Option, Some, None, refl, sym, subst}
+use Rattle.std.proofs.Common.{arith}
 use Rattle.std.proofs.lemmas.List.Elements.{All-append, All-filter, All-map}
 use Rattle.std.proofs.lemmas.List.FromFn.{length-range_with_len, get_or-range_with_len}
 use Rattle.std.specs.List.{All, list_any, filter, find, range_with_len}
 use Rattle.std.specs.Option.{IfSome}
 use Rattle.bf_graph.specs.Graph.{IsGraph}
-use Rattle.bf_log.specs.Labels.{IsAskWithin, IsEntryWithin}
+use Rattle.bf_search.specs.Within.{IsAskWithin, IsEntryWithin}
 use Rattle.bf_search.specs.declared.asks.Ask.{Ask}
 use Rattle.bf_search.specs.declared.asks.Ask.TheVariants.{WaitBoth, WaitBad, WaitGood, Test, MergeBaseBad, GoodNotAncestor, BothSides, FirstBad, OnlySkipped}
 use Rattle.bf_search.specs.declared.asks.Check.{Check}
@@ -61,12 +62,14 @@ cond_check : (len : ℕ) (b : Bool) (x y : Check) → IsCheckWithin len x → Is
 cond_check len true x y h k = h
 cond_check len false x y h k = k
 
-check_within : (graph : List (List ℕ)) (bad : ℕ) (goods : List ℕ) (skips : List Bool) → bad < length graph → IsCheckWithin (length graph) (check graph bad goods skips)
+check_within : (graph : List (List ℕ)) (bad : ℕ) (goods : List ℕ) (skips : List Bool) → bad < length graph
+    → IsCheckWithin (length graph) (check graph bad goods skips)
 unfolding check check_bases
 check_within graph bad goods skips h =
     cond_check (length graph) (reaches_all graph bad goods) (Passed []) _ (none_below (length graph))
     (cond_check (length graph) (has_place (merge_bases graph bad goods) bad) (BaseIsBad bad) _ h
-    (open_within (length graph) (find (λ p. not (has_place goods p) && not (is_in skips p)) (merge_bases graph bad goods)) (merge_bases graph bad goods) goods skips (bases_within graph bad goods)))
+    (open_within (length graph) (find (λ p. not (has_place goods p) && not (is_in skips p)) (merge_bases graph bad goods)) (merge_bases graph bad goods) goods
+    skips (bases_within graph bad goods)))
 
 -- ---- the ask
 
@@ -84,7 +87,8 @@ record IsAskedWithin (len : ℕ) (asked : Asked) : Type 0 where
   warned : AllBelow len asked.step.warned
   told : IsToldWithin len asked.step.ask
 
-best_within : (len : ℕ) (s : Search) (warned ps : List ℕ) (chosen : Option ℕ) → AllBelow len warned → AllBelow len ps → IsAskedWithin len (ask_best s warned ps chosen)
+best_within : (len : ℕ) (s : Search) (warned ps : List ℕ) (chosen : Option ℕ) → AllBelow len warned → AllBelow len ps
+    → IsAskedWithin len (ask_best s warned ps chosen)
 best_within len s warned ps (Some p) w h = record { warned = w; told = tt }
 best_within len s warned ps None w h = record { warned = w; told = h }
 
@@ -93,20 +97,24 @@ one_within : (len : ℕ) (b : Bool) (s : Search) (bad : ℕ) (warned ps : List �
 one_within len true s bad warned ps chosen b w h = record { warned = w; told = b }
 one_within len false s bad warned ps chosen b w h = best_within len s warned ps chosen w h
 
-among_within : (len : ℕ) (s : Search) (bad : ℕ) (warned ps : List ℕ) (chosen : Option ℕ) → bad < len → AllBelow len warned → AllBelow len ps → IsAskedWithin len (ask_among s bad warned ps chosen)
+among_within : (len : ℕ) (s : Search) (bad : ℕ) (warned ps : List ℕ) (chosen : Option ℕ) → bad < len → AllBelow len warned → AllBelow len ps
+    → IsAskedWithin len (ask_among s bad warned ps chosen)
 among_within len s bad warned [] chosen b w h = record { warned = w; told = b }
 among_within len s bad warned (p ∷ []) chosen b w h = one_within len (p == bad) s bad warned (p ∷ []) chosen b w h
 among_within len s bad warned (p ∷ q ∷ ps) chosen b w h = best_within len s warned (p ∷ q ∷ ps) chosen w h
 
-among_candidates : (graph : List (List ℕ)) (s : Search) (bad : ℕ) (warned : List ℕ) → bad < length graph → AllBelow (length graph) warned → IsAskedWithin (length graph) (ask_candidates graph s bad warned)
+among_candidates : (graph : List (List ℕ)) (s : Search) (bad : ℕ) (warned : List ℕ) → bad < length graph → AllBelow (length graph) warned
+    → IsAskedWithin (length graph) (ask_candidates graph s bad warned)
 among_candidates graph s bad warned b w =
-    among_within (length graph) s bad warned (candidates graph bad s.goods s.first_parent) (best_of graph s bad) b w (candidates_within graph bad s.goods s.first_parent)
+    among_within (length graph) s bad warned (candidates graph bad s.goods s.first_parent) (best_of graph s bad) b w
+    (candidates_within graph bad s.goods s.first_parent)
 
 bad_base_within : (len : ℕ) (b : Bool) (p : ℕ) → p < len → IsToldWithin len (cond b (MergeBaseBad p) (GoodNotAncestor p))
 bad_base_within len true p h = h
 bad_base_within len false p h = h
 
-checked_within : (graph : List (List ℕ)) (s : Search) (bad : ℕ) (c : Check) → bad < length graph → IsCheckWithin (length graph) c → IsAskedWithin (length graph) (ask_checked graph s bad c)
+checked_within : (graph : List (List ℕ)) (s : Search) (bad : ℕ) (c : Check) → bad < length graph → IsCheckWithin (length graph) c
+    → IsAskedWithin (length graph) (ask_checked graph s bad c)
 checked_within graph s bad (TestBase p) b h = record { warned = none_below (length graph); told = tt }
 checked_within graph s bad (BaseIsBad p) b h = record { warned = none_below (length graph); told = bad_base_within (length graph) s.bad_asked p h }
 checked_within graph s bad (Passed warned) b h = among_candidates graph (record s { checked = true }) bad warned b h
@@ -116,7 +124,8 @@ known_within : (b : Bool) (graph : List (List ℕ)) (s : Search) (bad : ℕ) →
 known_within true graph s bad b = among_candidates graph s bad [] b (none_below (length graph))
 known_within false graph s bad b = checked_within graph s bad (check graph bad s.goods s.skips) b (check_within graph bad s.goods s.skips b)
 
-ends_within : (graph : List (List ℕ)) (s : Search) (bad : Option ℕ) (goods : List ℕ) → IfSome bad (λ p. p < length graph) → IsAskedWithin (length graph) (ask_ends graph s bad goods)
+ends_within : (graph : List (List ℕ)) (s : Search) (bad : Option ℕ) (goods : List ℕ) → IfSome bad (λ p. p < length graph)
+    → IsAskedWithin (length graph) (ask_ends graph s bad goods)
 ends_within graph s None [] h = record { warned = none_below (length graph); told = tt }
 ends_within graph s None (good ∷ goods) h = record { warned = none_below (length graph); told = tt }
 ends_within graph s (Some bad) [] h = record { warned = none_below (length graph); told = tt }
@@ -148,16 +157,19 @@ ask_within graph s g h =
 
 -- ---- of a session
 
-pub ask_in_session : (graph : List (List ℕ)) (session : Session) → IsGraph graph → length graph ≡ session.len → IsSearchBelow session.len session.search → IsAskWithin session.len (ask graph session.search).step.ask
+pub ask_in_session : (graph : List (List ℕ)) (session : Session) → IsGraph graph → length graph ≡ session.len → IsSearchBelow session.len session.search
+    → IsAskWithin session.len (ask graph session.search).step.ask
 ask_in_session graph session g e h =
     subst (λ (n : ℕ). IsAskWithin n (ask graph session.search).step.ask) e
     (ask_within graph session.search g (subst (λ (n : ℕ). IfSome session.search.bad (λ p. p < n)) (sym e) h.bad))
 
-pub warned_in_session : (graph : List (List ℕ)) (session : Session) → length graph ≡ session.len → IsSearchBelow session.len session.search → All (λ p. p < length graph) (ask graph session.search).step.warned
+pub warned_in_session : (graph : List (List ℕ)) (session : Session) → length graph ≡ session.len → IsSearchBelow session.len session.search
+    → All (λ p. p < length graph) (ask graph session.search).step.warned
 warned_in_session graph session e h = warned_within graph session.search (subst (λ (n : ℕ). IfSome session.search.bad (λ p. p < n)) (sym e) h.bad)
 
 -- what is added after entries for bases that are places
-pub more_than_warned : (n m : ℕ) (before between after : List Entry) (ps : List ℕ) → n ≡ m → between ≡ before ++ map (λ (p : ℕ). SkippedBase p) ps → All (λ p. p < n) ps → AllWithinMore m between after → AllWithinMore n before after
+pub more_than_warned : (n m : ℕ) (before between after : List Entry) (ps : List ℕ) → n ≡ m → between ≡ before ++ map (λ (p : ℕ). SkippedBase p) ps
+    → All (λ p. p < n) ps → AllWithinMore m between after → AllWithinMore n before after
 more_than_warned n m before between after ps e made h more = λ old.
     subst (λ (k : ℕ). All (IsEntryWithin k) after) (sym e)
     (more (subst (λ (k : ℕ). All (IsEntryWithin k) between) e

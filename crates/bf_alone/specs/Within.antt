@@ -1,6 +1,6 @@
 -- The places that a run names are places of so many commits.
 use Rattle.std.specs.Prelude.{ℕ, ◌<◌, List, All}
-use Rattle.bf_log.specs.Labels.{IsEntryWithin, IsAskWithin}
+use Rattle.bf_search.specs.Within.{IsEntryWithin, IsAskWithin}
 use Rattle.bf_search.specs.declared.entries.Entry.{Entry}
 use Rattle.bf_alone.specs.declared.ending.Ending.{Ending}
 use Rattle.bf_alone.specs.declared.ending.Ending.TheVariants.{Answered, Leg, Aborted}

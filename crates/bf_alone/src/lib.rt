@@ -2,7 +2,6 @@
 #![tactic(auto)]
 
 mod ending;
-mod entries;
 mod plan;
 mod run;
 #[cfg(test)]
@@ -10,5 +9,4 @@ mod tests;
 mod turn;
 
 pub use ending::Ending;
-pub use entries::Entries;
-pub use run::{Ran, run_plan};
+pub use run::{Entries, Ran, run_plan};

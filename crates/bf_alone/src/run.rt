@@ -1,19 +1,19 @@
 //! A whole run.
 ghost use Rattle.std.specs.Prelude.{◌≡◌, length, All, IfOk, OnErr};
-ghost use Rattle.bf_log.specs.Labels.{IsEntryWithin};
-ghost use Rattle.bf_search.specs.Outcomes.{outcomes_of_plan};
-ghost use Rattle.bf_search.specs.Run.{seq};
-ghost use Rattle.bf_state.specs.Session.{with_search};
-ghost use Rattle.bf_alone.specs.Rest.{ending_of};
+ghost use Rattle.bf_search.specs.Within.{IsEntryWithin};
+ghost use Rattle.bf_alone.specs.Rest.{ending_of, entries_over, end_over, after_run};
 ghost use Rattle.bf_alone.specs.Within.{IsEndingWithin};
 
 use crate::ending::Ending;
-use crate::entries::Entries;
 use crate::turn::{Turn, take_turn};
+use bf_io::List;
 use bf_reach::Reach;
-use bf_search::Outcome;
+use bf_search::{Entry, Outcome};
 use bf_state::State;
 use std::alloc::{AllocError, Global};
+
+/// The entries of a log, in order.
+pub type Entries = List<Entry>;
 
 /// A run that has ended: its log entries, without the one that began the search, and its end.
 #[derive(Drop)]
@@ -32,9 +32,9 @@ pub fn run_plan(
     plan: &[Outcome],
 ) -> Result<Ran, AllocError>
     requires { length reach.now ≡ state.old.len }
-    ensures entries { IfOk result (λ ran. ran.entries ≡ (seq reach.now state.old.search (outcomes_of_plan plan.now) 0).entries) }
-    ensures end { IfOk result (λ ran. ending_of ran.end ≡ (seq reach.now state.old.search (outcomes_of_plan plan.now) 0).end) }
-    ensures state { IfOk result (λ ran. state.new ≡ with_search state.old (seq reach.now state.old.search (outcomes_of_plan plan.now) 0).search) }
+    ensures entries { IfOk result (λ ran. ran.entries ≡ entries_over reach.now plan.now state.old) }
+    ensures end { IfOk result (λ ran. ending_of ran.end ≡ end_over reach.now plan.now state.old) }
+    ensures state { IfOk result (λ ran. state.new ≡ after_run reach.now plan.now state.old) }
     ensures err { OnErr result (state.new ≡ state.old) }
     ensures places { IfOk result (λ ran. All (IsEntryWithin (length reach.now)) ran.entries) }
     ensures end_places { IfOk result (λ ran. IsEndingWithin (length reach.now) ran.end) }
@@ -53,9 +53,9 @@ fn run_turns(
     plan: &[Outcome],
 ) -> Result<Ran, AllocError>
     requires { length reach.now ≡ state.old.len }
-    ensures entries { IfOk result (λ ran. ran.entries ≡ (seq reach.now state.old.search (outcomes_of_plan plan.now) 0).entries) }
-    ensures end { IfOk result (λ ran. ending_of ran.end ≡ (seq reach.now state.old.search (outcomes_of_plan plan.now) 0).end) }
-    ensures state { IfOk result (λ ran. state.new ≡ with_search state.old (seq reach.now state.old.search (outcomes_of_plan plan.now) 0).search) }
+    ensures entries { IfOk result (λ ran. ran.entries ≡ entries_over reach.now plan.now state.old) }
+    ensures end { IfOk result (λ ran. ending_of ran.end ≡ end_over reach.now plan.now state.old) }
+    ensures state { IfOk result (λ ran. state.new ≡ after_run reach.now plan.now state.old) }
     ensures places { IfOk result (λ ran. All (IsEntryWithin (length reach.now)) ran.entries) }
     ensures end_places { IfOk result (λ ran. IsEndingWithin (length reach.now) ran.end) }
 {

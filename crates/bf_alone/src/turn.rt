@@ -1,16 +1,13 @@
 //! One turn of a run: an ask, and what follows it.
-ghost use Rattle.std.specs.Prelude.{◌≡◌, ◌<◌, ◌++◌, ℕ, Option, None, length, map, All, IfOk, OnOk};
+ghost use Rattle.std.specs.Prelude.{◌≡◌, ◌<◌, ◌++◌, length, map, All, IfOk, OnOk};
 ghost use Rattle.bf_graph.specs.Graph.{IsGraph};
-ghost use Rattle.bf_log.specs.Labels.{IsEntryWithin, IsAskWithin};
-ghost use Rattle.bf_search.specs.Outcomes.{outcomes_of_plan};
-ghost use Rattle.bf_search.specs.Run as runs;
-ghost use Rattle.bf_search.specs.State.{Search};
-ghost use Rattle.bf_alone.specs.Rest.{IsRest, rest_of, IsSameSession};
+ghost use Rattle.bf_search.specs.Within.{IsEntryWithin, IsAskWithin};
+ghost use Rattle.bf_alone.specs.Rest.{IsSameSession, IsPartMade, turn_over, step_over};
 ghost use Rattle.bf_alone.specs.Within.{IsTurnWithin, AllWithinMore};
 
 use crate::ending::Ending;
-use crate::entries::Entries;
 use crate::plan::planned;
+use crate::run::Entries;
 use bf_reach::Reach;
 use bf_search::{Ask, Entry, Outcome, Step, Verdict};
 use bf_state::State;
@@ -33,7 +30,8 @@ pub(crate) fn take_turn(
 ) -> Result<Turn, AllocError>
     requires { length reach.now ≡ state.old.len }
     ensures session { OnOk result (IsSameSession state.old state.new) }
-    ensures rest { IfOk result (λ turn. (go : Option ℕ → Search → runs.Run) → IsRest entries.old entries.new (runs.turn reach.now (outcomes_of_plan plan.now) go None state.old.search) (rest_of (go None) state.new.search turn)) }
+    ensures rest { IfOk result
+        (IsPartMade (turn_over reach.now plan.now state.old) entries.old entries.new state.new) }
     ensures entries { OnOk result (AllWithinMore (length reach.now) entries.old entries.new) }
     ensures turn { IfOk result (IsTurnWithin (length reach.now)) }
 {
@@ -62,7 +60,8 @@ fn follow(
 ) -> Result<Turn, AllocError>
     requires { IsAskWithin state.old.len ask }
     ensures session { OnOk result (IsSameSession state.old state.new) }
-    ensures rest { IfOk result (λ turn. (go : Option ℕ → Search → runs.Run) → IsRest entries.old entries.new (runs.after_step (outcomes_of_plan plan.now) go None state.old.search ask) (rest_of (go None) state.new.search turn)) }
+    ensures rest { IfOk result
+        (IsPartMade (step_over plan.now state.old ask) entries.old entries.new state.new) }
     ensures entries { OnOk result (AllWithinMore state.old.len entries.old entries.new) }
     ensures turn { IfOk result (IsTurnWithin state.old.len) }
 {
@@ -91,7 +90,8 @@ fn test(
 ) -> Result<Turn, AllocError>
     requires { place < state.old.len }
     ensures session { OnOk result (IsSameSession state.old state.new) }
-    ensures rest { IfOk result (λ turn. (go : Option ℕ → Search → runs.Run) → IsRest entries.old entries.new (runs.after_step (outcomes_of_plan plan.now) go None state.old.search (Ask.Test place)) (rest_of (go None) state.new.search turn)) }
+    ensures rest { IfOk result
+        (IsPartMade (step_over plan.now state.old (Ask.Test place)) entries.old entries.new state.new) }
     ensures entries { OnOk result (AllWithinMore state.old.len entries.old entries.new) }
     ensures turn { IfOk result (IsTurnWithin state.old.len) }
 {

@@ -17,7 +17,8 @@ use Rattle.bf_bases.proofs.Listed.{filter_twice, filter_same, find_first, find_n
 use Rattle.bf_bases.proofs.Rows.{length-joined, is_in-without, is_in-marked}
 
 -- the bad place is a base
-pub check-at_bad : (bases : List Bool) (bad : ℕ) (goods : List ℕ) (skips : List Bool) → bad < length bases → is_in bases bad ≡ true → check_bases (places_of bases) bad goods skips ≡ Bad bad
+pub check-at_bad : (bases : List Bool) (bad : ℕ) (goods : List ℕ) (skips : List Bool) → bad < length bases → is_in bases bad ≡ true
+    → check_bases (places_of bases) bad goods skips ≡ Bad bad
 unfolding check_bases
 check-at_bad bases bad goods skips l h = cond-true (has_place (places_of bases) bad) (Bad bad) _ (has_place-places_of bases bad l ∙ h)
 
@@ -28,7 +29,8 @@ pub record IsSorted (bases : List Bool) (goods : List ℕ) (skips unknown untest
   pub untested_is : (q : ℕ) → is_in untested q ≡ (is_in unknown q && not (is_in skips q))
 
 -- the rows as the lanes make them: the good places are marked in a cleared row
-pub IsSorted-from_rows : (bases : List Bool) (goods : List ℕ) (skips marks unknown copied untested : List Bool) (n : ℕ) → n ≡ length bases → length skips ≡ length bases → All (λ p. p < length bases) goods
+pub IsSorted-from_rows : (bases : List Bool) (goods : List ℕ) (skips marks unknown copied untested : List Bool) (n : ℕ) → n ≡ length bases
+    → length skips ≡ length bases → All (λ p. p < length bases) goods
     → marks ≡ marked (replicate n false) goods
     → unknown ≡ zip2 (λ mine theirs. mine && not theirs) bases marks
     → copied ≡ unknown
@@ -36,8 +38,10 @@ pub IsSorted-from_rows : (bases : List Bool) (goods : List ℕ) (skips marks unk
     → IsSorted bases goods skips unknown untested
 IsSorted-from_rows bases goods skips marks unknown copied untested n long skips_long all marks_are unknown_is copied_is untested_is = record {
   long = unknown_long;
-  unknown_is = λ q. is_in-without bases marks unknown (sym marks_long) unknown_is q ∙ ap (λ b. is_in bases q && not b) (ap (λ row. is_in row q) marks_are ∙ is_in-marked n goods q (rw long all));
-  untested_is = λ q. is_in-without copied skips untested (ap length copied_is ∙ unknown_long ∙ sym skips_long) untested_is q ∙ ap (λ row. is_in row q && not (is_in skips q)) copied_is;
+  unknown_is = λ q. is_in-without bases marks unknown (sym marks_long) unknown_is q ∙ ap (λ b. is_in bases q && not b)
+      (ap (λ row. is_in row q) marks_are ∙ is_in-marked n goods q (rw long all));
+  untested_is = λ q. is_in-without copied skips untested (ap length copied_is ∙ unknown_long ∙ sym skips_long) untested_is q ∙ ap
+      (λ row. is_in row q && not (is_in skips q)) copied_is;
 }
   where
     marks_long : length marks ≡ length bases
@@ -50,16 +54,20 @@ IsSorted-from_rows bases goods skips marks unknown copied untested n long skips_
 abbrev is_untested : List ℕ → List Bool → ℕ → Bool
 is_untested goods skips p = not (has_place goods p) && not (is_in skips p)
 
-untested_true : {bases : List Bool} {goods : List ℕ} {skips unknown untested : List Bool} → IsSorted bases goods skips unknown untested → (q : ℕ) → is_in bases q ≡ true → is_untested goods skips q ≡ true → is_in untested q ≡ true
+untested_true : {bases : List Bool} {goods : List ℕ} {skips unknown untested : List Bool} → IsSorted bases goods skips unknown untested → (q : ℕ)
+    → is_in bases q ≡ true → is_untested goods skips q ≡ true → is_in untested q ≡ true
 untested_true {bases} {goods} {skips} {unknown} {untested} s q h k =
     let parts = and_parts (not (has_place goods q)) (not (is_in skips q)) k in
     s.untested_is q ∙ and_from (is_in unknown q) (not (is_in skips q)) (s.unknown_is q ∙ and_from (is_in bases q) (not (has_place goods q)) h parts.0) parts.1
 
-untested_false : {bases : List Bool} {goods : List ℕ} {skips unknown untested : List Bool} → IsSorted bases goods skips unknown untested → (q : ℕ) → is_in bases q ≡ true → is_in untested q ≡ false → is_untested goods skips q ≡ false
-untested_false {bases} {goods} {skips} {unknown} {untested} s q h fails = false_from_ne_true (is_untested goods skips q) (λ k. both_ways (is_in untested q) fails (untested_true s q h k))
+untested_false : {bases : List Bool} {goods : List ℕ} {skips unknown untested : List Bool} → IsSorted bases goods skips unknown untested → (q : ℕ)
+    → is_in bases q ≡ true → is_in untested q ≡ false → is_untested goods skips q ≡ false
+untested_false {bases} {goods} {skips} {unknown} {untested} s q h fails = false_from_ne_true (is_untested goods skips q)
+    (λ k. both_ways (is_in untested q) fails (untested_true s q h k))
 
 -- the first base that is to be tested
-pub check-at_untested : {bases : List Bool} {goods : List ℕ} {skips unknown untested : List Bool} (bad p : ℕ) → bad < length bases → is_in bases bad ≡ false → IsSorted bases goods skips unknown untested
+pub check-at_untested : {bases : List Bool} {goods : List ℕ} {skips unknown untested : List Bool} (bad p : ℕ) → bad < length bases → is_in bases bad ≡ false
+    → IsSorted bases goods skips unknown untested
     → is_in untested p ≡ true → ((q : ℕ) → q < p → is_in untested q ≡ false) → check_bases (places_of bases) bad goods skips ≡ Test p
 unfolding check_bases
 check-at_untested {bases} {goods} {skips} {unknown} {untested} bad p l not_base s here before =
@@ -72,7 +80,8 @@ check-at_untested {bases} {goods} {skips} {unknown} {untested} bad p l not_base 
     (λ q below h. untested_false s q h (before q below)))
 
 -- where none is to be tested, a base that is not good is skipped
-all_skipped : {bases : List Bool} {goods : List ℕ} {skips unknown untested : List Bool} → IsSorted bases goods skips unknown untested → ((q : ℕ) → is_in untested q ≡ false) → (q : ℕ)
+all_skipped : {bases : List Bool} {goods : List ℕ} {skips unknown untested : List Bool} → IsSorted bases goods skips unknown untested
+    → ((q : ℕ) → is_in untested q ≡ false) → (q : ℕ)
     → is_in unknown q ≡ (is_in bases q && (is_in skips q && not (has_place goods q)))
 all_skipped {bases} {goods} {skips} {unknown} {untested} s none q =
     tests (is_in bases q) (has_place goods q) (is_in skips q) (is_in unknown q) (s.unknown_is q) (sym (s.untested_is q) ∙ none q)
@@ -84,31 +93,38 @@ all_skipped {bases} {goods} {skips} {unknown} {untested} s none q =
     tests false good skip known e fails = e
 
 -- no base is to be tested
-pub check-passes : {bases : List Bool} {goods : List ℕ} {skips unknown untested : List Bool} (bad : ℕ) → bad < length bases → is_in bases bad ≡ false → IsSorted bases goods skips unknown untested
+pub check-passes : {bases : List Bool} {goods : List ℕ} {skips unknown untested : List Bool} (bad : ℕ) → bad < length bases → is_in bases bad ≡ false
+    → IsSorted bases goods skips unknown untested
     → ((q : ℕ) → is_in untested q ≡ false) → check_bases (places_of bases) bad goods skips ≡ Passed (places_of unknown)
 unfolding check_bases
 check-passes {bases} {goods} {skips} {unknown} {untested} bad l not_base s none =
     cond-false (has_place (places_of bases) bad) (Bad bad) _ (has_place-places_of bases bad l ∙ not_base)
-    ∙ ap (λ (o : Option ℕ). check_open o (places_of bases) goods skips) (find_none (λ q. is_in bases q) (is_untested goods skips) 0 (length bases) (λ q low high h. untested_false s q h (none q)))
+    ∙ ap (λ (o : Option ℕ). check_open o (places_of bases) goods skips)
+    (find_none (λ q. is_in bases q) (is_untested goods skips) 0 (length bases) (λ q low high h. untested_false s q h (none q)))
     ∙ ap Passed
     (sym (filter_twice (λ q. is_in bases q) (λ q. is_in skips q && not (has_place goods q)) (range_with_len 0 (length bases)))
-    ∙ filter_same (λ q. is_in bases q && (is_in skips q && not (has_place goods q))) (λ q. is_in unknown q) 0 (length bases) (λ q low high. sym (all_skipped s none q))
+    ∙ filter_same (λ q. is_in bases q && (is_in skips q && not (has_place goods q))) (λ q. is_in unknown q) 0 (length bases)
+    (λ q low high. sym (all_skipped s none q))
     ∙ ap (λ n. filter (λ q. is_in unknown q) (range_with_len 0 n)) (sym s.long))
 
 -- ---- the whole check
 
 -- the row of the bad place tells of each good one whether it is reached
-pub reaches_all-by_row : (graph : List (List ℕ)) (bad : ℕ) (goods : List ℕ) → All (λ good. good < length graph) goods → list_all (λ good. is_in (reach_row graph bad) good) goods ≡ reaches_all graph bad goods
+pub reaches_all-by_row : (graph : List (List ℕ)) (bad : ℕ) (goods : List ℕ) → All (λ good. good < length graph) goods
+    → list_all (λ good. is_in (reach_row graph bad) good) goods ≡ reaches_all graph bad goods
 unfolding reaches_all
 reaches_all-by_row graph bad [] all = refl
 reaches_all-by_row graph bad (good ∷ goods) all =
-    let rest : list_all (λ g. is_in (reach_row graph bad) g) goods ≡ list_all (λ g. reaches graph bad g) goods = reaches_all-by_row graph bad goods (All-tail (λ g. g < length graph) good goods all) in
+    let rest : list_all (λ g. is_in (reach_row graph bad) g) goods ≡ list_all (λ g. reaches graph bad g) goods = reaches_all-by_row graph bad goods
+    (All-tail (λ g. g < length graph) good goods all) in
     rw (is_in-reach_row graph bad good (All-head (λ g. g < length graph) good goods all), rest)
 
-pub check-of_reached : (graph : List (List ℕ)) (bad : ℕ) (goods : List ℕ) (skips : List Bool) → reaches_all graph bad goods ≡ true → check graph bad goods skips ≡ Passed []
+pub check-of_reached : (graph : List (List ℕ)) (bad : ℕ) (goods : List ℕ) (skips : List Bool) → reaches_all graph bad goods ≡ true
+    → check graph bad goods skips ≡ Passed []
 unfolding check
 check-of_reached graph bad goods skips h = cond-true (reaches_all graph bad goods) (Passed []) _ h
 
-pub check-of_bases : (graph : List (List ℕ)) (bad : ℕ) (goods : List ℕ) (skips : List Bool) → reaches_all graph bad goods ≡ false → check graph bad goods skips ≡ check_bases (merge_bases graph bad goods) bad goods skips
+pub check-of_bases : (graph : List (List ℕ)) (bad : ℕ) (goods : List ℕ) (skips : List Bool) → reaches_all graph bad goods ≡ false
+    → check graph bad goods skips ≡ check_bases (merge_bases graph bad goods) bad goods skips
 unfolding check
 check-of_bases graph bad goods skips h = cond-false (reaches_all graph bad goods) (Passed []) _ h

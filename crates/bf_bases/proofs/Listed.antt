@@ -1,9 +1,9 @@
 -- Lemmas on the true places of a row, as a list.
-use Rattle.std.proofs.Common.{◌≡◌, ℕ, zero, suc, ◌+◌, ◌<◌, ◌≤◌, Bool, true, false, ◌&&◌, ◌==◌, cond, List, [], ◌∷◌, ◌++◌, length, map, Some, None, refl, ap, sym, ◌∙◌, subst, ⊎_elim, arith, eqb-true}
+use Rattle.std.proofs.Common.{◌≡◌, ℕ, zero, suc, ◌+◌, ◌<◌, ◌≤◌, Bool, true, false, ◌&&◌, ◌==◌, cond, List, [], ◌∷◌, length, map, Some, None, refl, ap}
+use Rattle.std.proofs.Common.{sym, ◌∙◌, subst, ⊎_elim, arith, eqb-true}
 use Rattle.std.proofs.lemmas.Bool.{cases_Bool, cases_eq, cond-true, cond-false}
 use Rattle.std.proofs.lemmas.Bool.Decides.{same_from_decides}
-use Rattle.std.proofs.lemmas.List.{append-nil}
-use Rattle.std.proofs.lemmas.List.Elements.{filter-append, filter_passes, All-contains}
+use Rattle.std.proofs.lemmas.List.Elements.{filter_passes, All-contains}
 use Rattle.std.proofs.lemmas.List.Folds.{Any-from_list_any}
 use Rattle.std.proofs.lemmas.List.FromFn.{length-map-range_with_len, get_or-map-range_with_len}
 use Rattle.std.specs.List.{Any, Contains, filter, find, range_with_len}
@@ -12,37 +12,6 @@ use Rattle.bf_search.specs.Bases.{has_place}
 use Rattle.bf_search.proofs.Turns.{has_place-true}
 
 -- ---- the places of a range that pass a test
-
-range_more : (a n j : ℕ) → a + n ≡ j → range_with_len a (suc n) ≡ range_with_len a n ++ j ∷ []
-range_more a zero j e = let same : a ≡ j = omega arith in ap (λ x. x ∷ []) same
-range_more a (suc n) j e = ap (λ xs. a ∷ xs) (range_more (a + 1) n j (omega arith))
-
--- one more place that passes
-filter_pass : (f : ℕ → Bool) (n : ℕ) → f n ≡ true → filter f (range_with_len 0 (suc n)) ≡ filter f (range_with_len 0 n) ++ n ∷ []
-filter_pass f n h =
-    ap (filter f) (range_more 0 n n (omega arith)) ∙ filter-append f (range_with_len 0 n) (n ∷ [])
-    ∙ ap (λ xs. filter f (range_with_len 0 n) ++ xs) (cond-true (f n) (n ∷ []) [] h)
-
--- one more place that fails
-filter_fail : (f : ℕ → Bool) (n : ℕ) → f n ≡ false → filter f (range_with_len 0 (suc n)) ≡ filter f (range_with_len 0 n)
-filter_fail f n h =
-    ap (filter f) (range_more 0 n n (omega arith)) ∙ filter-append f (range_with_len 0 n) (n ∷ [])
-    ∙ ap (λ xs. filter f (range_with_len 0 n) ++ xs) (cond-false (f n) (n ∷ []) [] h) ∙ append-nil (filter f (range_with_len 0 n))
-
--- where no place from low up to high passes, the places below either are the same
-pub filter_quiet : (f : ℕ → Bool) (low high : ℕ) → low ≤ high → ((q : ℕ) → low ≤ q → q < high → f q ≡ false) → filter f (range_with_len 0 high) ≡ filter f (range_with_len 0 low)
-filter_quiet f low zero l fails = let same : zero ≡ low = omega arith in ap (λ n. filter f (range_with_len 0 n)) same
-filter_quiet f low (suc high) l fails =
-    ⊎_elim
-    (λ e. ap (λ n. filter f (range_with_len 0 n)) (sym e))
-    (λ other. filter_fail f high (fails high (omega arith) (omega arith)) ∙ filter_quiet f low high (omega arith) (λ q down up. fails q down (omega arith)))
-    (cases_eq low (suc high))
-
--- the next place that passes
-pub filter_next : (f : ℕ → Bool) (low place : ℕ) → low ≤ place → f place ≡ true → ((q : ℕ) → low ≤ q → q < place → f q ≡ false) → filter f (range_with_len 0 (place + 1)) ≡ filter f (range_with_len 0 low) ++ place ∷ []
-filter_next f low place l here fails =
-    let next : place + 1 ≡ suc place = omega arith in
-    ap (λ n. filter f (range_with_len 0 n)) next ∙ filter_pass f place here ∙ ap (λ xs. xs ++ place ∷ []) (filter_quiet f low place l fails)
 
 -- both tests at once, or one after the other
 pub filter_twice : (f g : ℕ → Bool) (xs : List ℕ) → filter (λ p. f p && g p) xs ≡ filter g (filter f xs)
@@ -61,7 +30,8 @@ filter_twice f g (x ∷ xs) =
 pub filter_same : (f g : ℕ → Bool) (a n : ℕ) → ((q : ℕ) → a ≤ q → q < a + n → f q ≡ g q) → filter f (range_with_len a n) ≡ filter g (range_with_len a n)
 filter_same f g a zero h = refl
 filter_same f g a (suc n) h =
-    let rest : filter f (range_with_len (a + 1) n) ≡ filter g (range_with_len (a + 1) n) = filter_same f g (a + 1) n (λ q l m. h q (omega arith) (omega arith)) in
+    let rest : filter f (range_with_len (a + 1) n) ≡ filter g (range_with_len (a + 1) n) = filter_same f g (a + 1) n
+    (λ q l m. h q (omega arith) (omega arith)) in
     rw (h a (omega arith) (omega arith), rest)
 
 -- the range has each place that passes
@@ -82,7 +52,8 @@ Contains-filter_range f a (suc n) p low high h =
     rest = filter f (range_with_len (a + 1) n)
 
 -- the first of the places that pass f which passes g too
-pub find_first : (f g : ℕ → Bool) (a n p : ℕ) → a ≤ p → p < a + n → f p ≡ true → g p ≡ true → ((q : ℕ) → q < p → f q ≡ true → g q ≡ false) → find g (filter f (range_with_len a n)) ≡ Some p
+pub find_first : (f g : ℕ → Bool) (a n p : ℕ) → a ≤ p → p < a + n → f p ≡ true → g p ≡ true → ((q : ℕ) → q < p → f q ≡ true → g q ≡ false)
+    → find g (filter f (range_with_len a n)) ≡ Some p
 find_first f g a zero p low high h k before = absurd (omega arith)
 find_first f g a (suc n) p low high h k before =
     ⊎_elim
@@ -128,7 +99,8 @@ Contains-from_has_place ps p h =
 pub has_place-places_of : (row : List Bool) (p : ℕ) → p < length row → has_place (places_of row) p ≡ is_in row p
 has_place-places_of row p l =
     same_from_decides {P = is_in row p ≡ true} (has_place (places_of row) p) (is_in row p) (
-      λ h. All-contains (λ q. is_in row q ≡ true) (places_of row) p (filter_passes (λ q. is_in row q) (range_with_len 0 (length row))) (Contains-from_has_place (places_of row) p h),
+      λ h. All-contains (λ q. is_in row q ≡ true) (places_of row) p (filter_passes (λ q. is_in row q) (range_with_len 0 (length row)))
+          (Contains-from_has_place (places_of row) p h),
       λ h. has_place-true (places_of row) p (Contains-filter_range (λ q. is_in row q) 0 (length row) p (omega arith) (omega arith) h),
     )
     (λ h. h, λ h. h)

@@ -17,7 +17,8 @@ IsParentsBelow-none graph row n e = record {
 }
 
 -- a place that is false has no part
-pub IsParentsBelow-skip : {graph : List (List ℕ)} {row parents : List Bool} {place : ℕ} → is_in row place ≡ false → IsParentsBelow graph row place parents → IsParentsBelow graph row (place + 1) parents
+pub IsParentsBelow-skip : {graph : List (List ℕ)} {row parents : List Bool} {place : ℕ} → is_in row place ≡ false → IsParentsBelow graph row place parents
+    → IsParentsBelow graph row (place + 1) parents
 IsParentsBelow-skip {graph} {row} {parents} {place} unmarked m = record {
   same_length = m.same_length;
   has_child = m.has_child;
@@ -29,7 +30,8 @@ IsParentsBelow-skip {graph} {row} {parents} {place} unmarked m = record {
 }
 
 -- the parents of one more place are marked
-pub IsParentsBelow-more : {graph : List (List ℕ)} {row parents : List Bool} {place : ℕ} → (ps : List ℕ) → ps ≡ parents_of graph place → is_in row place ≡ true → All (λ p. p < length parents) ps
+pub IsParentsBelow-more : {graph : List (List ℕ)} {row parents : List Bool} {place : ℕ} → (ps : List ℕ) → ps ≡ parents_of graph place → is_in row place ≡ true
+    → All (λ p. p < length parents) ps
     → IsParentsBelow graph row place parents → IsParentsBelow graph row (place + 1) (marked parents ps)
 IsParentsBelow-more {graph} {row} {parents} {place} ps are here within m = record {
   same_length = length-marked parents ps ∙ m.same_length;

@@ -19,7 +19,8 @@ pub length-joined : (join : Bool → Bool → Bool) (old other new : List Bool) 
 length-joined join old other new same h = ap length h ∙ length-zip2 join old other same
 
 -- a place of one row that another does not have
-pub is_in-without : (old other new : List Bool) → length old ≡ length other → new ≡ zip2 (λ mine theirs. mine && not theirs) old other → (q : ℕ) → is_in new q ≡ (is_in old q && not (is_in other q))
+pub is_in-without : (old other new : List Bool) → length old ≡ length other → new ≡ zip2 (λ mine theirs. mine && not theirs) old other → (q : ℕ)
+    → is_in new q ≡ (is_in old q && not (is_in other q))
 is_in-without old other new same h q =
     ap (λ row. is_in row q) h
     ∙ ⊎_elim
@@ -32,8 +33,11 @@ is_in-without old other new same h q =
 -- a place is marked where it is in the list
 pub is_in-marked : (n : ℕ) (ps : List ℕ) (q : ℕ) → All (λ p. p < n) ps → is_in (marked (replicate n false) ps) q ≡ has_place ps q
 is_in-marked n ps q all =
-    same_from_decides {P = Contains ps q} (is_in (marked (replicate n false) ps) q) (has_place ps q)
-    (λ h. ⊎_elim (λ k. absurd (none_marked n q k)) (λ k. k) (marked-tells (replicate n false) ps q h), λ k. marked-true (replicate n false) ps q (rw (length-replicate n false) all) k)
+    same_from_decides {P = Contains ps q} (is_in (marked (replicate n false) ps) q) (has_place ps q) (
+      λ h. ⊎_elim (λ k. absurd (none_marked n q k)) (λ k. k) (marked-tells (replicate n false) ps q h),
+      λ k. marked-true (replicate n false) ps q
+          (rw (length-replicate n false) all) k,
+    )
     (Contains-from_has_place ps q, has_place-true ps q)
 
 -- a row has no first true place where each place is false
@@ -41,7 +45,9 @@ pub none_true : (row : List Bool) → None ≡ position (λ value. value) row �
 none_true row h q =
     ⊎_elim
     (λ some.
-    let found : position (λ value. value) row ≡ Some (position_or_len (λ value. value) row) = cond-true (ltb (position_or_len (λ value. value) row) (length row)) (Some (position_or_len (λ value. value) row)) None (lt-ltb (position_or_len (λ value. value) row) (length row) some) in
+    let found : position (λ value. value) row ≡ Some (position_or_len (λ value. value) row) = cond-true
+    (ltb (position_or_len (λ value. value) row) (length row)) (Some (position_or_len (λ value. value) row)) None
+    (lt-ltb (position_or_len (λ value. value) row) (length row) some) in
     absurd (none-some (position_or_len (λ value. value) row) (h ∙ found)))
     (λ none. ⊎_elim (λ l. fails_before_first (λ value. value) row q false (omega arith)) (λ past. get_or_past row q false past) (cases_lt q (length row)))
     (cases_lt (position_or_len (λ value. value) row) (length row))

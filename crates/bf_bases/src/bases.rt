@@ -4,8 +4,8 @@ ghost use Rattle.bf_search.specs.Reach.{reach_row};
 ghost use Rattle.bf_search.specs.Candidates.{places_of};
 ghost use Rattle.bf_search.specs.Bases.{merge_bases};
 
-use crate::marks::{fill_parents, true_places};
-use bf_reach::Reach;
+use crate::marks::fill_parents;
+use bf_reach::{Reach, true_places};
 use bf_rows::Row;
 use std::alloc::{AllocError, Global};
 
@@ -28,7 +28,7 @@ pub fn merge_bases(
     let mut scratch = Row::new(alloc, reach.len())?;
     reach.fill_row(bad, &mut bases);
     keep_bases(reach, goods, &mut bases, &mut scratch);
-    true_places(alloc, &bases)
+    Ok(true_places(alloc, &bases)?.into_vec())
 }
 
 /// Keeps, of the places that a bad one reaches, its merge bases with these good ones.

@@ -4,9 +4,9 @@ ghost use Rattle.bf_search.specs.Candidates.{places_of};
 ghost use Rattle.bf_search.specs.Bases.{check_bases, check};
 
 use crate::bases::keep_bases;
-use crate::marks::{has_all, mark_all, true_places};
+use crate::marks::has_all;
 use bf_graph::Places;
-use bf_reach::Reach;
+use bf_reach::{Reach, mark_all, true_places};
 use bf_rows::Row;
 use bf_search::Check;
 use std::alloc::{AllocError, Global};
@@ -70,7 +70,5 @@ fn check_bases(
         return Ok(Check::Test(base));
     }
     let warned = true_places(alloc, &bases)?;
-    Ok(Check::Passed {
-        warned: Places::from_vec(alloc, warned),
-    })
+    Ok(Check::Passed { warned })
 }

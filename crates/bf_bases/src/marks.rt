@@ -1,24 +1,13 @@
-//! Places and rows: marking, looking up and listing.
-ghost use Rattle.std.specs.Prelude.{◌≡◌, ◌<◌, length, All, IfOk};
+//! Places in rows: looking up, and marking parents.
+ghost use Rattle.std.specs.Prelude.{◌≡◌, ◌<◌, length, All};
 ghost use Rattle.std.specs.List.{list_all};
 ghost use Rattle.bf_graph.specs.Graph.{IsGraph};
-ghost use Rattle.bf_reach.specs.Marks.{marked};
-ghost use Rattle.bf_search.specs.Candidates.{is_in, places_of};
+ghost use Rattle.bf_search.specs.Candidates.{is_in};
 ghost use Rattle.bf_bases.specs.Parents.{IsParentsBelow};
 
 use bf_graph::Graph;
+use bf_reach::mark_all;
 use bf_rows::Row;
-use std::alloc::{AllocError, Global};
-
-/// Marks these places.
-pub(crate) fn mark_all(places: &[u32], out: &mut Row)
-    requires { All (λ place. place < length out.old) places.now }
-    ensures { out.new ≡ marked out.old places.now }
-{
-    for place in places {
-        out.set(*place, true);
-    }
-}
 
 /// Whether each of these places is true in the row.
 pub(crate) fn has_all(row: &Row, places: &[u32]) -> bool
@@ -31,19 +20,6 @@ pub(crate) fn has_all(row: &Row, places: &[u32]) -> bool
         }
     }
     true
-}
-
-/// The true places of a row, in order.
-pub(crate) fn true_places(alloc: Global, row: &Row) -> Result<Vec<u32>, AllocError>
-    ensures { IfOk result (λ places. places.items ≡ places_of row.now) }
-{
-    let mut places = Vec::new(alloc);
-    let mut from = 0;
-    while let Some(place) = row.next_from(from) {
-        places.push(place)?;
-        from = place + 1;
-    }
-    Ok(places)
 }
 
 /// Makes `out` exactly the parents of the true places of `row`.

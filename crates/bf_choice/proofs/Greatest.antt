@@ -28,12 +28,14 @@ one_fails test P a (suc m) b low high e fails =
     (cases_Bool (test a)))
     (cases_eq b a)
 
-find_is : (test P : ℕ → Bool) (a m b : ℕ) → a ≤ b → b < a + m → test b ≡ true → P b ≡ true → ((q : ℕ) → q < b → test q ≡ true → P q ≡ false) → find P (filter test (range_with_len a m)) ≡ Some b
+find_is : (test P : ℕ → Bool) (a m b : ℕ) → a ≤ b → b < a + m → test b ≡ true → P b ≡ true → ((q : ℕ) → q < b → test q ≡ true → P q ≡ false)
+    → find P (filter test (range_with_len a m)) ≡ Some b
 find_is test P a zero b low high e passes before = absurd (omega arith)
 find_is test P a (suc m) b low high e passes before =
     let rest : List ℕ = filter test (range_with_len (a + 1) m) in
     ⊎_elim
-    (λ same. ap (λ t. find P (cond t (a ∷ rest) rest)) (ap test (sym same) ∙ e) ∙ cond-true (P a) (Some a) (find P rest) (ap P (sym same) ∙ passes) ∙ ap Some (sym same))
+    (λ same. ap (λ t. find P (cond t (a ∷ rest) rest)) (ap test (sym same) ∙ e) ∙ cond-true (P a) (Some a) (find P rest) (ap P (sym same) ∙ passes) ∙ ap Some
+    (sym same))
     (λ other.
     let later : find P rest ≡ Some b = find_is test P (a + 1) m b (omega arith) (omega arith) e passes before in
     ⊎_elim
@@ -48,10 +50,12 @@ none_pass test a (suc m) h =
     let rest : List ℕ = filter test (range_with_len (a + 1) m) in
     ap (λ b. cond b (a ∷ rest) rest) (h a (omega arith) (omega arith)) ∙ none_pass test (a + 1) m (λ q low high. h q (omega arith) (omega arith))
 
-pub greatest_of_none : (test : ℕ → Bool) (value : ℕ → ℕ) (n : ℕ) → ((q : ℕ) → q < n → test q ≡ false) → first_greatest value (filter test (range_with_len 0 n)) ≡ None
+pub greatest_of_none : (test : ℕ → Bool) (value : ℕ → ℕ) (n : ℕ) → ((q : ℕ) → q < n → test q ≡ false)
+    → first_greatest value (filter test (range_with_len 0 n)) ≡ None
 greatest_of_none test value n h = ap (first_greatest value) (none_pass test 0 n (λ q low high. h q (omega arith)))
 
-pub greatest_is : (test : ℕ → Bool) (value : ℕ → ℕ) (n b : ℕ) → b < n → test b ≡ true → ((q : ℕ) → q < n → test q ≡ true → value q ≤ value b) → ((q : ℕ) → q < b → test q ≡ true → value q < value b)
+pub greatest_is : (test : ℕ → Bool) (value : ℕ → ℕ) (n b : ℕ) → b < n → test b ≡ true → ((q : ℕ) → q < n → test q ≡ true → value q ≤ value b)
+    → ((q : ℕ) → q < b → test q ≡ true → value q < value b)
     → first_greatest value (filter test (range_with_len 0 n)) ≡ Some b
 greatest_is test value n b within passes most before =
     let ps : List ℕ = filter test (range_with_len 0 n) in

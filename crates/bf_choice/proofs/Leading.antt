@@ -1,6 +1,8 @@
 -- The leader among the places that were seen.
-use Rattle.std.proofs.Common.{◌≡◌, ◌≢◌, ℕ, ◌+◌, ◌<◌, ◌≤◌, Bool, true, false, not, ◌&&◌, eqb, leb, List, Option, Some, None, length, sym, ap, subst, ◌∙◌, arith, ⊎_elim, slice_index}
-use Rattle.std.proofs.lemmas.Bool.{cases_lt, cases_Bool, true≢false, and_from, and_left, and_right, cond-true, cond-false, leb-true, leb-false, not_from_false, not_from_true, ne_eqb, eq-eqb}
+use Rattle.std.proofs.Common.{◌≡◌, ◌≢◌, ℕ, ◌+◌, ◌<◌, ◌≤◌, Bool, true, false, not, ◌&&◌, eqb, leb, List, Option, Some, None, length, sym, ap, subst, ◌∙◌, arith}
+use Rattle.std.proofs.Common.{⊎_elim, slice_index}
+use Rattle.std.proofs.lemmas.Bool.{cases_lt, cases_Bool, true≢false, and_from, and_left, and_right, cond-true, cond-false, leb-true, leb-false, not_from_false}
+use Rattle.std.proofs.lemmas.Bool.{not_from_true, ne_eqb, eq-eqb}
 use Rattle.std.specs.Option.{option_map}
 use Rattle.std.proofs.lemmas.List.{get_or_past}
 use Rattle.bf_search.specs.Candidates.{is_in}
@@ -24,7 +26,8 @@ Leader test value n (Some choice) = Leads test value n choice
 pub never : {b : Bool} {P : Type 0} → b ≡ false → b ≡ true → P
 never fails passes = absurd (true≢false (sym passes ∙ fails))
 
-pub leader_stays : (test : ℕ → Bool) (value : ℕ → ℕ) (n m : ℕ) (leader : Option Choice) → Leader test value n leader → n ≤ m → ((q : ℕ) → n ≤ q → q < m → test q ≡ false) → Leader test value m leader
+pub leader_stays : (test : ℕ → Bool) (value : ℕ → ℕ) (n m : ℕ) (leader : Option Choice) → Leader test value n leader → n ≤ m
+    → ((q : ℕ) → n ≤ q → q < m → test q ≡ false) → Leader test value m leader
 leader_stays test value n m None none up fails = λ q h. ⊎_elim (λ below. none q below) (λ above. fails q above h) (cases_lt q n)
 leader_stays test value n m (Some choice) leads up fails = record {
   seen = omega (arith, leads.seen);
@@ -34,13 +37,15 @@ leader_stays test value n m (Some choice) leads up fails = record {
   more_than_before = leads.more_than_before;
 }
 
-pub leader_meets : (test : ℕ → Bool) (value : ℕ → ℕ) (n m : ℕ) (leader : Option Choice) (later : Choice) → Leader test value n leader → later.place ≡ n → m ≡ n + 1 → test n ≡ true → later.value ≡ value n
+pub leader_meets : (test : ℕ → Bool) (value : ℕ → ℕ) (n m : ℕ) (leader : Option Choice) (later : Choice) → Leader test value n leader → later.place ≡ n
+    → m ≡ n + 1 → test n ≡ true → later.value ≡ value n
     → Leader test value m (Some (better_of leader later))
 leader_meets test value n m None later none here next e valued = record {
   seen = omega arith;
   passes = ap test here ∙ e;
   valued = valued ∙ ap value (sym here);
-  most = λ q h yes. ⊎_elim (λ below. never (none q below) yes) (λ above. let same : q ≡ later.place = omega arith in omega (arith, ap value same)) (cases_lt q n);
+  most = λ q h yes. ⊎_elim (λ below. never (none q below) yes) (λ above. let same : q ≡ later.place = omega arith in omega (arith, ap value same))
+      (cases_lt q n);
   more_than_before = λ q h yes. never (none q (omega arith)) yes;
 }
 leader_meets test value n m (Some earlier) later leads here next e valued =
@@ -51,7 +56,8 @@ leader_meets test value n m (Some earlier) later leads here next e valued =
       seen = omega (arith, leads.seen);
       passes = leads.passes;
       valued = leads.valued;
-      most = λ q h yes. ⊎_elim (λ below. leads.most q below yes) (λ above. let same : q ≡ n = omega arith in omega (arith, ap value same, leads.valued)) (cases_lt q n);
+      most = λ q h yes. ⊎_elim (λ below. leads.most q below yes) (λ above. let same : q ≡ n = omega arith in omega (arith, ap value same, leads.valued))
+          (cases_lt q n);
       more_than_before = leads.more_than_before;
     } in
     subst (Leads test value m) (sym (cond-true (leb later.value earlier.value) earlier later keeps)) stays)
@@ -61,7 +67,8 @@ leader_meets test value n m (Some earlier) later leads here next e valued =
       seen = omega arith;
       passes = ap test here ∙ e;
       valued = valued ∙ ap value (sym here);
-      most = λ q h yes. ⊎_elim (λ below. omega (arith, leads.most q below yes, leads.valued, ap value here)) (λ above. let same : q ≡ later.place = omega arith in omega (arith, ap value same)) (cases_lt q n);
+      most = λ q h yes. ⊎_elim (λ below. omega (arith, leads.most q below yes, leads.valued, ap value here))
+          (λ above. let same : q ≡ later.place = omega arith in omega (arith, ap value same)) (cases_lt q n);
       more_than_before = λ q h yes. omega (arith, leads.most q (omega arith) yes, leads.valued, ap value here);
     } in
     subst (Leads test value m) (sym (cond-false (leb later.value earlier.value) earlier later takes)) leads_now)
@@ -77,7 +84,8 @@ pub not_candidate : (mask skips : List Bool) (bad p : ℕ) → is_in mask p ≡ 
 not_candidate mask skips bad p h = and_left (is_in mask p && not (eqb p bad)) (not (is_in skips p)) (and_left (is_in mask p) (not (eqb p bad)) h)
 
 pub bad_place : (mask skips : List Bool) (bad p : ℕ) → p ≡ bad → is_eligible mask bad skips p ≡ false
-bad_place mask skips bad p h = and_left (is_in mask p && not (eqb p bad)) (not (is_in skips p)) (and_right (is_in mask p) (not (eqb p bad)) (not_from_true (eqb p bad) (eq-eqb p bad h)))
+bad_place mask skips bad p h = and_left (is_in mask p && not (eqb p bad)) (not (is_in skips p))
+    (and_right (is_in mask p) (not (eqb p bad)) (not_from_true (eqb p bad) (eq-eqb p bad h)))
 
 pub skipped_place : (mask skips : List Bool) (bad p : ℕ) → is_in skips p ≡ true → is_eligible mask bad skips p ≡ false
 skipped_place mask skips bad p h = and_right (is_in mask p && not (eqb p bad)) (not (is_in skips p)) (not_from_true (is_in skips p) h)
@@ -92,7 +100,8 @@ may_be_asked mask skips bad p candidate other kept =
 abbrev pub value_at : List Bool → List ℕ → ℕ → ℕ
 value_at mask weights p = value_of (count_in mask) (slice_index weights p)
 
-pub leader_is_best : (mask : List Bool) (weights : List ℕ) (bad : ℕ) (skips : List Bool) (leader : Option Choice) → Leader (is_eligible mask bad skips) (value_at mask weights) (length mask) leader
+pub leader_is_best : (mask : List Bool) (weights : List ℕ) (bad : ℕ) (skips : List Bool) (leader : Option Choice)
+    → Leader (is_eligible mask bad skips) (value_at mask weights) (length mask) leader
     → option_map (λ choice. choice.place) leader ≡ best mask weights bad skips
 unfolding best
 leader_is_best mask weights bad skips None none = sym (greatest_of_none (is_eligible mask bad skips) (value_at mask weights) (length mask) none)

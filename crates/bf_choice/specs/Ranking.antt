@@ -1,7 +1,7 @@
 -- The candidates in the order in which they are chosen.
-use Rattle.std.specs.Prelude.{◌≡◌, ◌≢◌, ◌⊎◌, ℕ, ◌-◌, ◌<◌, ◌≤◌, Bool, true, List, map, length, slice_index, All, Contains}
+use Rattle.std.specs.Prelude.{◌≡◌, ◌≢◌, ◌⊎◌, ℕ, ◌-◌, ◌<◌, ◌≤◌, Bool, true, List, map, length, slice_index, All, Contains, Option, IfSome}
 use Rattle.bf_search.specs.Candidates.{is_in}
-use Rattle.bf_search.specs.Choice.{count_in, value_of}
+use Rattle.bf_search.specs.Choice.{count_in, value_of, best}
 use Rattle.bf_choice.specs.declared.ranking.Rank.{Rank}
 
 -- the value of a place, by the weights
@@ -22,6 +22,20 @@ pub record IsRanking (mask : List Bool) (weights : List ℕ) (bad : ℕ) (ps : L
   pub whole : (p : ℕ) → IsOther mask bad p → Contains ps p
   pub in_order : (i j : ℕ) → i ≤ j → j < length ps → ComesBefore (value_at mask weights) (slice_index ps i) (slice_index ps j)
 
+-- a place stands there in the order
+abbrev pub StandsAt : List ℕ → ℕ → ℕ → Type 0
+StandsAt ps at p = (at < length ps) × (slice_index ps at ≡ p)
+
+-- of whatever candidates this is the ranking, the choice is the best of them that is not skipped
+abbrev pub IsBestRanked : List ℕ → List Bool → Option ℕ → Type 0
+IsBestRanked ps skips choice =
+    (mask : List Bool) (weights : List ℕ) (bad : ℕ) → IsRanking mask weights bad ps → choice ≡ best mask weights bad skips
+
+-- and a choice is one of them, but not the bad one
+abbrev pub IsOtherRanked : List ℕ → Option ℕ → Type 0
+IsOtherRanked ps choice =
+    (mask : List Bool) (weights : List ℕ) (bad : ℕ) → IsRanking mask weights bad ps → IfSome choice (IsOther mask bad)
+
 -- so many of the first are skipped
 pub record IsPassed (skips : List Bool) (ps : List ℕ) (passed : ℕ) : Type 0 where
   pub within : passed ≤ length ps
@@ -36,3 +50,7 @@ pub record IsRank (mask : List Bool) (weights : List ℕ) (bad : ℕ) (rank : Ra
 pub record AreRanks (mask : List Bool) (weights : List ℕ) (bad n : ℕ) (ranks : List Rank) : Type 0 where
   pub each : All (IsRank mask weights bad) ranks
   pub whole : (p : ℕ) → p < n → IsOther mask bad p → Contains (map (λ rank. rank.place) ranks) p
+
+-- the ranks of all candidates but the bad one
+abbrev pub AreAllRanks : List Bool → List ℕ → ℕ → List Rank → Type 0
+AreAllRanks mask weights bad ranks = AreRanks mask weights bad (length mask) ranks

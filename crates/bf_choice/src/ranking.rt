@@ -1,8 +1,8 @@
 //! The candidates in the order in which they are chosen.
-ghost use Rattle.std.specs.Prelude.{◌≡◌, ℕ, ◌+◌, ◌^◌, ◌≤◌, ◌<◌, List, Bool, length, slice_index, IfOk, IfSome, IfNone};
+ghost use Rattle.std.specs.Prelude.{◌≡◌, ◌+◌, ◌^◌, ◌≤◌, ◌<◌, length, IfOk, IfSome, IfNone};
 ghost use Rattle.std.specs.List.{All};
-ghost use Rattle.bf_search.specs.Choice.{best, count_in};
-ghost use Rattle.bf_choice.specs.Ranking.{IsOther, IsRanking, IsPassed, AreRanks};
+ghost use Rattle.bf_search.specs.Choice.{count_in};
+ghost use Rattle.bf_choice.specs.Ranking.{IsRanking, IsPassed, StandsAt, IsBestRanked, IsOtherRanked, AreAllRanks};
 
 use crate::value_of_weight;
 use bf_rows::Row;
@@ -58,8 +58,8 @@ impl Ranking {
     pub fn choose(&self, skips: &Row, passed: usize) -> Chosen
         requires within { All (λ p. p < length skips.now) self.now }
         requires passed { IsPassed skips.now self.now passed }
-        ensures best { (mask : List Bool) (weights : List ℕ) (bad : ℕ) → IsRanking mask weights bad self.now → result.place ≡ best mask weights bad skips.now }
-        ensures other { (mask : List Bool) (weights : List ℕ) (bad : ℕ) → IsRanking mask weights bad self.now → IfSome result.place (IsOther mask bad) }
+        ensures best { IsBestRanked self.now skips.now result.place }
+        ensures other { IsOtherRanked self.now result.place }
         ensures passed { IsPassed skips.now self.now result.passed }
     {
         let mut at = passed;
@@ -80,7 +80,7 @@ impl Ranking {
 
     /// The place that stands there in the order.
     fn place_at(&self, at: usize) -> Option<u32>
-        ensures some { IfSome result (λ place. (at < length self.now) × (slice_index self.now at ≡ place)) }
+        ensures some { IfSome result (StandsAt self.now at) }
         ensures none { IfNone result (length self.now ≤ at) }
         ensures can_go_on { IfSome result (λ _. at + 1 < 2 ^ 64) }
     {
@@ -95,7 +95,7 @@ impl Ranking {
 fn ranks(alloc: Global, mask: &Row, weights: &[u32], bad: u32) -> Result<Vec<Rank>, AllocError>
     requires weight_each { length weights.now ≡ length mask.now }
     requires within { All (λ weight. weight ≤ count_in mask.now) weights.now }
-    ensures { IfOk result (λ ranks. AreRanks mask.now weights.now bad (length mask.now) ranks.items) }
+    ensures { IfOk result (λ ranks. AreAllRanks mask.now weights.now bad ranks.items) }
 {
     let count = mask.count();
     let mut ranks = Vec::new(alloc);

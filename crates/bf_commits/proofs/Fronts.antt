@@ -16,4 +16,5 @@ pub front_whole : (xs : List ℕ) → IsFirstByte (is_byte 10) xs None → xs �
 front_whole xs nowhere =
     let fails : (j : ℕ) → j < length xs → is_byte 10 (get_or xs j 0) ≡ false =
     λ j lt. elim (cases_Bool (is_byte 10 (get_or xs j 0))) [ inl passes ↦ absurd (nowhere j (omega arith) lt passes) | inr fails ↦ fails ] in
-    sym (take_all (length xs) xs (omega arith)) ∙ ap (λ (n : ℕ). take n xs) (sym (position_or_len_is (is_byte 10) xs (length xs) 0 (omega arith) fails (λ lt. absurd (omega arith))))
+    sym (take_all (length xs) xs (omega arith)) ∙ ap (λ (n : ℕ). take n xs)
+    (sym (position_or_len_is (is_byte 10) xs (length xs) 0 (omega arith) fails (λ lt. absurd (omega arith))))

@@ -1,3 +1,3 @@
 pub mod Changes
 pub mod Fronts
-pub mod Joined
+pub mod Pieces

@@ -1,128 +1,119 @@
-//! The body of a commit, and the name that it gives the commit.
-ghost use Rattle.std.specs.Prelude.{◌≡◌, ℕ, ◌<◌, ◌++◌, length, codes, map, All, IfOk, OnOk};
-ghost use Rattle.std.specs.List.{flat_map};
-ghost use Rattle.std.specs.Option.{option_map};
+//! The name of a commit. Its body is hashed piece by piece, and never kept.
+ghost use Rattle.std.specs.Prelude.{◌≡◌, ◌*◌, ◌^◌, ◌<◌, ◌≤◌, ◌++◌, length, All, IfOk, OnErr};
 ghost use Rattle.hex.specs.Hex.{encode_lower};
-ghost use Rattle.bf_grammar.specs.declared.object.Kind.TheVariants as kind;
-ghost use Rattle.bf_grammar.specs.declared.object.Oid.{Oid};
-ghost use Rattle.bf_grammar.specs.Object.{name_of};
-ghost use Rattle.bf_history.specs.Bodies.{body_line, optional_line, author_of, commit_body};
-ghost use Rattle.bf_commits.specs.Said.{saying_of, name_at, parent_line};
+ghost use Rattle.bf_history.specs.Bodies.{author_of};
+ghost use Rattle.bf_commits.specs.Naming.{Adds, IsLength, body_length, commit_name, encoding_line, header_lines, parent_lines};
 
+use bf_grammar::Header;
 use bf_io::Bytes;
-use bf_oid::{Kind, Oid, object_name, oid_hex};
-use std::alloc::{AllocError, Global};
-
-/// What a commit says of itself, beside its tree and its parents: bytes as a stream gives them.
-#[derive(Clone, Copy)]
-pub struct Saying<'a> {
-    /// Who wrote it and when. Without an author the committer stands for it.
-    pub author: Option<&'a [u8]>,
-    /// Who committed it and when.
-    pub committer: &'a [u8],
-    /// The encoding of the message, where it is told.
-    pub encoding: Option<&'a [u8]>,
-    /// The message, taken as it is. It may be empty.
-    pub message: &'a [u8],
-}
+use bf_oid::{Kind, ObjectHasher, Oid, oid_hex};
+use std::alloc::AllocError;
 
 /// The name that git gives the commit of this tree with these parents, which are places of `names` and
-/// may repeat. An error comes only where memory ran out.
+/// may repeat. An error comes only where its body has 2^64 bytes or more.
 pub fn commit_name(
-    alloc: Global,
     tree: Oid,
     parents: &[u32],
     names: &[Oid],
-    saying: Saying<'_>,
+    header: &Header,
 ) -> Result<Oid, AllocError>
-    requires { All (λ p. p < length names.now) parents.now }
-    ensures { IfOk result (λ name. name.0 ≡ name_of kind.Commit (commit_body tree.0 (map (name_at names.now) parents.now) (saying_of saying.entry))) }
+    requires { All (λ place. place < length names.now) parents.now }
+    ensures oid { IfOk result (λ oid. oid.0 ≡ commit_name tree.0 parents.now names.now header.now) }
+    ensures large { OnErr result (2 ^ 64 ≤ body_length (length parents.now) header.now) }
 {
-    let mut body = Bytes::new(alloc);
-    put_body(&mut body, tree, parents, names, saying)?;
-    Ok(object_name(Kind::Commit, body.as_slice()))
+    let length = body_length(parents.len() as u64, header).ok_or(AllocError)?;
+    let mut hasher = ObjectHasher::start(Kind::Commit, length);
+    add_name(&mut hasher, b"tree ", tree);
+    add_parents(&mut hasher, parents, names);
+    add_header(&mut hasher, header);
+    Ok(hasher.finish())
 }
 
-/// Adds the body of a commit.
-fn put_body(
-    out: &mut Bytes,
-    tree: Oid,
-    parents: &[u32],
-    names: &[Oid],
-    saying: Saying<'_>,
-) -> Result<(), AllocError>
-    requires { All (λ p. p < length names.now) parents.now }
-    ensures { OnOk result (out.new ≡ out.old ++ commit_body tree.0 (map (name_at names.now) parents.now) (saying_of saying.entry)) }
+/// The length of a body with so many parents; `None` where it is 2^64 or more.
+fn body_length(parents: u64, header: &Header) -> Option<u64>
+    ensures { IsLength result (body_length parents header.now) }
 {
-    put_name_line(out, b"tree", tree)?;
-    put_parents(out, parents, names)?;
-    put_author(out, saying)?;
-    put_line(out, b"committer", saying.committer)?;
-    put_optional_line(out, b"encoding", saying.encoding)?;
-    out.append(b"\n")?;
-    out.append(saying.message)
+    parents
+        .checked_mul(48)?
+        .checked_add(45)?
+        .checked_add(header_length(header)?)
 }
 
-/// Adds the line of the author.
-fn put_author(out: &mut Bytes, saying: Saying<'_>) -> Result<(), AllocError>
-    ensures { OnOk result (out.new ≡ out.old ++ body_line (codes "author") (author_of (saying_of saying.entry))) }
+/// The length of the lines of a header and of its message, with the LF before each.
+fn header_length(header: &Header) -> Option<u64>
+    ensures { IsLength result (length (header_lines header.now)) }
 {
-    put_line(out, b"author", author_of(saying))
+    let words = (b"\nauthor ".len() + b"\ncommitter ".len() + b"\n\n".len()) as u64;
+    words
+        .checked_add(author_of(header).len() as u64)?
+        .checked_add(header.committer.len() as u64)?
+        .checked_add(encoding_length(&header.encoding)?)?
+        .checked_add(header.message.len() as u64)
 }
 
-fn author_of(saying: Saying<'_>) -> &[u8]
-    ensures { result.now ≡ author_of (saying_of saying.entry) }
+fn encoding_length(encoding: &Option<Bytes>) -> Option<u64>
+    ensures { IsLength result (length (encoding_line encoding.now)) }
 {
-    match saying.author {
-        Some(author) => author,
-        None => saying.committer,
+    match encoding {
+        Some(text) => (text.len() as u64).checked_add(b"\nencoding ".len() as u64),
+        None => Some(0),
     }
 }
 
 /// Adds a line for each parent.
-fn put_parents(out: &mut Bytes, parents: &[u32], names: &[Oid]) -> Result<(), AllocError>
-    requires { All (λ p. p < length names.now) parents.now }
-    ensures { OnOk result (out.new ≡ out.old ++ flat_map (parent_line names.now) parents.now) }
+fn add_parents(hasher: &mut ObjectHasher, parents: &[u32], names: &[Oid])
+    requires { All (λ place. place < length names.now) parents.now }
+    ensures lines { Adds hasher.old hasher.new (parent_lines names.now parents.now) }
+    ensures length { length (parent_lines names.now parents.now) ≡ 48 * length parents.now }
 {
-    for parent in parents {
-        put_parent(out, *parent, names)?;
-    }
-    Ok(())
-}
-
-/// Adds the line of the parent at a place.
-fn put_parent(out: &mut Bytes, place: u32, names: &[Oid]) -> Result<(), AllocError>
-    requires { place < length names.now }
-    ensures { OnOk result (out.new ≡ out.old ++ parent_line names.now place) }
-{
-    put_name_line(out, b"parent", names[place as usize])
-}
-
-/// Adds a line, where there is a text for it.
-fn put_optional_line(out: &mut Bytes, word: &[u8], text: Option<&[u8]>) -> Result<(), AllocError>
-    ensures { OnOk result (out.new ≡ out.old ++ optional_line word.now (option_map (λ t. t.now) text.entry)) }
-{
-    match text {
-        Some(text) => put_line(out, word, text),
-        None => Ok(()),
+    for place in parents {
+        add_name(hasher, b"\nparent ", names[*place as usize]);
     }
 }
 
-/// Adds a line that says a name in 40 hexadecimal digits.
-fn put_name_line(out: &mut Bytes, word: &[u8], name: Oid) -> Result<(), AllocError>
-    ensures { OnOk result (out.new ≡ out.old ++ body_line word.now (encode_lower name.0)) }
+/// Adds the lines of a header, an empty line and the message.
+fn add_header(hasher: &mut ObjectHasher, header: &Header)
+    ensures { Adds hasher.old hasher.new (header_lines header.now) }
+{
+    add(hasher, b"\nauthor ", author_of(header));
+    add(hasher, b"\ncommitter ", header.committer.as_slice());
+    add_encoding(hasher, &header.encoding);
+    add(hasher, b"\n\n", header.message.as_slice());
+}
+
+/// Adds the line of the encoding, where there is one.
+fn add_encoding(hasher: &mut ObjectHasher, encoding: &Option<Bytes>)
+    ensures { Adds hasher.old hasher.new (encoding_line encoding.now) }
+{
+    if let Some(encoding) = encoding {
+        add(hasher, b"\nencoding ", encoding.as_slice());
+    }
+}
+
+/// Without an author the committer stands for it.
+fn author_of(header: &Header) -> &[u8]
+    ensures { result.now ≡ author_of header.now }
+{
+    match &header.author {
+        Some(author) => author.as_slice(),
+        None => header.committer.as_slice(),
+    }
+}
+
+/// Adds a word and a name in 40 hexadecimal digits.
+fn add_name(hasher: &mut ObjectHasher, word: &[u8], name: Oid)
+    ensures name { Adds hasher.old hasher.new (word.now ++ encode_lower name.0) }
+    ensures length { length (encode_lower name.0) ≡ 40 }
 {
     let mut digits = [0; 40];
     oid_hex(name, &mut digits);
-    put_line(out, word, &digits)
+    add(hasher, word, &digits);
 }
 
-/// Adds a line of a word and a text.
-fn put_line(out: &mut Bytes, word: &[u8], text: &[u8]) -> Result<(), AllocError>
-    ensures { OnOk result (out.new ≡ out.old ++ body_line word.now text.now) }
+/// Adds a word and a text.
+fn add(hasher: &mut ObjectHasher, word: &[u8], text: &[u8])
+    ensures { Adds hasher.old hasher.new (word.now ++ text.now) }
 {
-    out.append(word)?;
-    out.append(b" ")?;
-    out.append(text)?;
-    out.append(b"\n")
+    hasher.update(word);
+    hasher.update(text);
 }

@@ -1,6 +1,5 @@
 //! The edits that the changes of a commit ask for.
 ghost use Rattle.std.specs.Prelude.{◌≡◌};
-ghost use Rattle.bf_grammar.specs.declared.command.Change.TheVariants.{Modify};
 ghost use Rattle.bf_history.specs.Imports.{Means};
 ghost use Rattle.bf_history.specs.Meanings.{each_of, edit_of, content_named, blob_marked, is_module, path_at};
 
@@ -25,7 +24,7 @@ pub fn edits_of(alloc: Global, marks: &Marks, changes: &[Change]) -> Result<Vec<
     Ok(edits)
 }
 
-/// The edit of a change.
+/// The edit of a change. The content of a file is looked at before its path.
 fn edit_of(alloc: Global, marks: &Marks, change: &Change) -> Result<Edit, ImportFault>
     ensures { Means (λ edit. edit) result (edit_of marks.now change.now) }
 {
@@ -35,29 +34,21 @@ fn edit_of(alloc: Global, marks: &Marks, change: &Change) -> Result<Edit, Import
             mode,
             dataref,
             path,
-        } => set_file(alloc, marks, *line, *mode, dataref, path.as_slice()),
+        } => {
+            let oid = content_named(marks, *line, *mode, dataref)?;
+            let path = path_at(alloc, *line, path.as_slice())?;
+            Ok(Edit::Set {
+                path,
+                mode: *mode,
+                oid,
+            })
+        }
         Change::Delete { line, path } => {
             let path = path_at(alloc, *line, path.as_slice())?;
             Ok(Edit::Remove { path })
         }
         Change::DeleteAll { .. } => Ok(Edit::Clear),
     }
-}
-
-/// The edit that sets a file. Its content is looked at before its path.
-fn set_file(
-    alloc: Global,
-    marks: &Marks,
-    line: u64,
-    mode: Mode,
-    dataref: &DataRef,
-    path: &[u8],
-) -> Result<Edit, ImportFault>
-    ensures { Means (λ edit. edit) result (edit_of marks.now (Modify line mode dataref.now path.now)) }
-{
-    let oid = content_named(marks, line, mode, dataref)?;
-    let path = path_at(alloc, line, path)?;
-    Ok(Edit::Set { path, mode, oid })
 }
 
 /// The path that a text writes, in a change of this line.

@@ -5,7 +5,7 @@ mod body;
 mod edits;
 mod subject;
 
-pub use body::{Saying, commit_name};
+pub use body::commit_name;
 pub use edits::edits_of;
 pub use subject::subject_of;
 

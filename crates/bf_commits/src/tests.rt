@@ -1,7 +1,7 @@
 //! Names that git gives commits, their subjects, and the edits of changes.
 use crate::*;
 use bf_forest::Edit;
-use bf_grammar::{Change, Changes, DataRef};
+use bf_grammar::{Change, Changes, DataRef, Header};
 use bf_history::{ImportFault, Marked};
 use bf_io::Bytes;
 use bf_oid::{Kind, Mode, Oid, object_name, oid_from_hex, oid_hex};
@@ -15,6 +15,29 @@ fn hex(oid: Oid) -> [u8; 40] {
     text
 }
 
+/// What a commit says.
+fn header(
+    alloc: Global,
+    author: Option<&[u8]>,
+    committer: &[u8],
+    encoding: Option<&[u8]>,
+    message: &[u8],
+) -> Result<Header, AllocError> {
+    Ok(Header {
+        author: part(alloc, author)?,
+        committer: Bytes::from_slice(alloc, committer)?,
+        encoding: part(alloc, encoding)?,
+        message: Bytes::from_slice(alloc, message)?,
+    })
+}
+
+fn part(alloc: Global, text: Option<&[u8]>) -> Result<Option<Bytes>, AllocError> {
+    match text {
+        Some(text) => Ok(Some(Bytes::from_slice(alloc, text)?)),
+        None => Ok(None),
+    }
+}
+
 #[test]
 fn commits_have_the_names_of_git(rt: HostRuntime) -> Result<(), Fail> {
     let alloc = rt.alloc();
@@ -22,35 +45,29 @@ fn commits_have_the_names_of_git(rt: HostRuntime) -> Result<(), Fail> {
     let with_a_file = oid_from_hex(b"aebda9dc3ba9fcf157d984e4875052d313f51a60").unwrap_or(Oid(
         [0; 20],
     ));
-    let alone = Saying {
-        author: None,
-        committer: b"T <t@e> 0 +0000",
-        encoding: None,
-        message: b"c0",
-    };
-    let with_author = Saying {
-        author: Some(b"A <a@e> 1 +0000"),
-        committer: b"T <t@e> 2 +0100",
-        encoding: None,
-        message: b"second\n\nbody\n",
-    };
-    let without_message = Saying {
-        author: None,
-        committer: b"T <t@e> 3 +0000",
-        encoding: Some(b"iso-8859-1"),
-        message: b"",
-    };
-    let with_all = Saying {
-        author: Some(b"A <a@e> 4 -0230"),
-        committer: b"T <t@e> 5 +0000",
-        encoding: Some(b"iso-8859-1"),
-        message: b"\n\ncaf\xe9\nbody",
-    };
-    let first = commit_name(alloc, empty, &[], &[], alone)?;
-    let second = commit_name(alloc, empty, &[0], &[first], with_author)?;
+    let author: [Option<&[u8]>; 2] = [Some(b"A <a@e> 1 +0000"), Some(b"A <a@e> 4 -0230")];
+    let latin: Option<&[u8]> = Some(b"iso-8859-1");
+    let alone = header(alloc, None, b"T <t@e> 0 +0000", None, b"c0")?;
+    let with_author = header(
+        alloc,
+        author[0],
+        b"T <t@e> 2 +0100",
+        None,
+        b"second\n\nbody\n",
+    )?;
+    let without_message = header(alloc, None, b"T <t@e> 3 +0000", latin, b"")?;
+    let with_all = header(
+        alloc,
+        author[1],
+        b"T <t@e> 5 +0000",
+        latin,
+        b"\n\ncaf\xe9\nbody",
+    )?;
+    let first = commit_name(empty, &[], &[], &alone)?;
+    let second = commit_name(empty, &[0], &[first], &with_author)?;
     let names = [first, second];
-    let third = commit_name(alloc, with_a_file, &[0, 1], &names, with_all)?;
-    let fourth = commit_name(alloc, empty, &[1, 0, 0], &names, without_message)?;
+    let third = commit_name(with_a_file, &[0, 1], &names, &with_all)?;
+    let fourth = commit_name(empty, &[1, 0, 0], &names, &without_message)?;
     let table: [(Oid, &[u8]); 4] = [
         (first, b"56b29d9c130e2ec4b506a48d4fe5a18d92d8d1e3"),
         (second, b"5ad05c58e436ce810be1299b11a09d495189cd96"),

@@ -7,7 +7,7 @@ use Rattle.bf_search.specs.declared.farm.Ending.{Ending}
 use Rattle.bf_search.specs.declared.farm.Ending.TheVariants as endings
 use Rattle.bf_search.specs.Outcomes.{Outcomes}
 use Rattle.bf_search.specs.State.{Search}
-use Rattle.bf_search.specs.Run.{End, Answered, Leg, Open, Aborted, leg_of, seq}
+use Rattle.bf_search.specs.Run.{End, Answered, Leg, Open, Aborted, leg_of, one_at_a_time}
 use Rattle.bf_search.specs.Farm.{end_of}
 use Rattle.bf_state.specs.Runs.{IsPartOf, is_open}
 use Rattle.bf_state.proofs.Tables.{seq_ends_alike}
@@ -15,15 +15,17 @@ use Rattle.bf_guesses.proofs.Used.{off_the_path, told as told_used}
 use Rattle.bf_spec.specs.Walks.{Tells}
 
 module _ (graph : List (List ℕ)) (known more : Outcomes) (part : IsPartOf known more) where
-  end_stays : (k : ℕ) (s : Search) (end : End) → (seq graph s known k).end ≡ end → ((q : ℕ) → end ≡ Open q → more q ≡ known q) → seq graph s more k ≡ seq graph s known k
+  end_stays : (k : ℕ) (s : Search) (end : End) → (one_at_a_time graph s known k).end ≡ end → ((q : ℕ) → end ≡ Open q → more q ≡ known q)
+      → one_at_a_time graph s more k ≡ one_at_a_time graph s known k
   end_stays k s (Open q) e same = off_the_path graph known more (leg_of k) s q part e (same q refl ∙ (told_used known graph (leg_of k) s).unknown q e)
   end_stays k s (Answered a) e same = seq_ends_alike graph s known more k part (ap is_open e)
   end_stays k s Leg e same = seq_ends_alike graph s known more k part (ap is_open e)
   end_stays k s (Aborted p outcome) e same = seq_ends_alike graph s known more k part (ap is_open e)
 
   -- The run is the same where nothing more is known of the place that it waits for.
-  pub seq_stays : (k : ℕ) (s : Search) → ((q : ℕ) → (seq graph s known k).end ≡ Open q → more q ≡ known q) → seq graph s more k ≡ seq graph s known k
-  seq_stays k s same = end_stays k s (seq graph s known k).end refl same
+  pub seq_stays : (k : ℕ) (s : Search) → ((q : ℕ) → (one_at_a_time graph s known k).end ≡ Open q → more q ≡ known q)
+      → one_at_a_time graph s more k ≡ one_at_a_time graph s known k
+  seq_stays k s same = end_stays k s (one_at_a_time graph s known k).end refl same
 
 -- ---- one ending an end
 

@@ -26,9 +26,11 @@ use Rattle.bf_core.proofs.Opened.{IsFree, best_is_free}
 use Rattle.bf_core.proofs.Joining.{told_open, same_is_run}
 use Rattle.bf_core.proofs.Beside.{seq_stays, told_alike, none_is_open, leg_told}
 use Rattle.bf_guesses.proofs.Causes.{leg_ends, leg_made}
-use Rattle.bf_core.proofs.Standing.{part_put, put_elsewhere, put_back, standing_place, claims_without, claims_posted, claims_pushed, no_claims, step_post, step_give, step_claim}
+use Rattle.bf_core.proofs.Standing.{part_put, put_elsewhere, put_back, standing_place, claims_without, claims_posted, claims_pushed, no_claims, step_post}
+use Rattle.bf_core.proofs.Standing.{step_give, step_claim}
 
-pub consumed_of : (first : Session) (leg : ℕ) (table : List (Option Outcome)) (claims : List Claim) (run : Consumed) → IsCore first leg table claims run → IsConsumed (seen first leg table claims run)
+pub consumed_of : (first : Session) (leg : ℕ) (table : List (Option Outcome)) (claims : List Claim) (run : Consumed) → IsCore first leg table claims run
+    → IsConsumed (seen first leg table claims run)
 consumed_of first leg table claims run h = record { entries = h.run.entries; state = h.run.state; ending = h.run.ending }
 
 pub waits : (core : Machine) → IsConsumed core → (core.ending ≡ None) ↔ (is_open (run_of core).end ≡ true)
@@ -39,20 +41,24 @@ pub leg_over : (first : Session) (leg : ℕ) (table : List (Option Outcome)) (cl
 leg_over first leg table claims run h =
     let whole : Run = consumed (setting_of (seen first leg table claims run)) table in
     let told = leg_told run.ending whole.end h.run.ending in (
-      λ e. let over = leg_ends run.tree.graph (outcomes_of_table table) h.parents first.search leg h.over (told.0 e) in record { has_end = over.0; made = ap (λ (es : List Entry). length (marks_of es)) h.run.entries ∙ over.1 },
-      λ over. told.1 (leg_made run.tree.graph (outcomes_of_table table) h.parents first.search leg h.over over.has_end (ap (λ (es : List Entry). length (marks_of es)) (sym h.run.entries) ∙ over.made)),
+      λ e. let over = leg_ends run.tree.graph (outcomes_of_table table) h.parents first.search leg h.over (told.0 e) in record
+          { has_end = over.0; made = ap (λ (es : List Entry). length (marks_of es)) h.run.entries ∙ over.1 },
+      λ over. told.1 (leg_made run.tree.graph (outcomes_of_table table) h.parents first.search leg h.over over.has_end
+          (ap (λ (es : List Entry). length (marks_of es)) (sym h.run.entries) ∙ over.made)),
     )
 
 -- ---- a start
 
 -- what a core keeps, from its first run
-pub starts : (graph : List (List ℕ)) (state : Session) (table : List (Option Outcome)) (leg : ℕ) (tree : Guesses) (run : Consumed) → IsGraph graph → IsSearchOver graph state.search → length table ≡ length graph
+pub starts : (graph : List (List ℕ)) (state : Session) (table : List (Option Outcome)) (leg : ℕ) (tree : Guesses) (run : Consumed) → IsGraph graph
+    → IsSearchOver graph state.search → length table ≡ length graph
     → tree.graph ≡ graph → tree.session ≡ with_search state tree.root.search → tree.root ≡ ask graph state.search → Begins tree table leg run
     → IsCore state leg table [] run × (run.tree.graph ≡ graph)
 starts graph state table leg tree run g over len on_graph on_session asked begins =
     let first : with_search tree.session state.search ≡ state = ap (λ (s : Session). with_search s state.search) on_session in
     let h : IsRunOn (record { graph = tree.graph; start = state.search; leg = leg }) (with_search tree.session state.search) table run
-    = begins state.search (subst IsGraph (sym on_graph) g) (subst (λ (x : List (List ℕ)). IsSearchOver x state.search) (sym on_graph) over) (asked ∙ ap (λ (x : List (List ℕ)). ask x state.search) (sym on_graph)) in
+    = begins state.search (subst IsGraph (sym on_graph) g) (subst (λ (x : List (List ℕ)). IsSearchOver x state.search) (sym on_graph) over)
+    (asked ∙ ap (λ (x : List (List ℕ)). ask x state.search) (sym on_graph)) in
     let e : run.tree.graph ≡ tree.graph = h.graph in
     let all : run.tree.graph ≡ graph = e ∙ on_graph in (
       record {
@@ -68,11 +74,20 @@ starts graph state table leg tree run g over len on_graph on_session asked begin
 
 -- ---- a giving back
 
-pub core_given : (first : Session) (leg : ℕ) (table : List (Option Outcome)) (claims left : List Claim) (run : Consumed) (worker : ℕ) → left ≡ without claims worker → IsCore first leg table claims run → IsCore first leg table left run
+pub core_given : (first : Session) (leg : ℕ) (table : List (Option Outcome)) (claims left : List Claim) (run : Consumed) (worker : ℕ)
+    → left ≡ without claims worker → IsCore first leg table claims run → IsCore first leg table left run
 core_given first leg table claims left run worker e h =
-    record { parents = h.parents; over = h.over; len = h.len; run = h.run; standing = subst (λ (cs : List Claim). AreClaims table cs) (sym e) (claims_without table claims worker h.standing) }
+    record {
+      parents = h.parents;
+      over = h.over;
+      len = h.len;
+      run = h.run;
+      standing = subst (λ (cs : List Claim). AreClaims table cs) (sym e)
+          (claims_without table claims worker h.standing);
+    }
 
-pub gives : (old : Machine) (left : List Claim) (worker p : ℕ) → stands old.claims worker p ≡ true → left ≡ without old.claims worker → IsStep old (Given worker p) (record old { claims = left })
+pub gives : (old : Machine) (left : List Claim) (worker p : ℕ) → stands old.claims worker p ≡ true → left ≡ without old.claims worker
+    → IsStep old (Given worker p) (record old { claims = left })
 gives old left worker p h e = record {
   farm = step_give (setting_of old) (farm_of old) worker p h ∙ ap (λ (cs : List Claim). Some (record (farm_of old) { claims = cs })) (sym e);
   setting = refl;
@@ -88,7 +103,8 @@ place_closed setting farm run Leg h = refl
 place_closed setting farm run (Aborted p outcome) h = refl
 
 -- the best place from the root is the best open place
-pub best_is : (o : Option Ending) (first : Session) (leg : ℕ) (table : List (Option Outcome)) (claims : List Claim) (run : Consumed) → run.ending ≡ o → IsCore first leg table claims run
+pub best_is : (o : Option Ending) (first : Session) (leg : ℕ) (table : List (Option Outcome)) (claims : List Claim) (run : Consumed) → run.ending ≡ o
+    → IsCore first leg table claims run
     → best_at o run.tree table claims ≡ best_place (setting_of (seen first leg table claims run)) (farm_of (seen first leg table claims run))
 best_is None first leg table claims run e h =
     let setting : Setting = setting_of (seen first leg table claims run) in
@@ -103,23 +119,27 @@ best_is (Some ending) first leg table claims run e h =
     sym (place_closed setting (farm_of (seen first leg table claims run)) whole whole.end told.1)
 
 -- the place of a pick is free
-pub best_free : (first : Session) (leg : ℕ) (table : List (Option Outcome)) (claims : List Claim) (run : Consumed) (o : Option Ending) (p : ℕ) → IsCore first leg table claims run → best_at o run.tree table claims ≡ Some p
+pub best_free : (first : Session) (leg : ℕ) (table : List (Option Outcome)) (claims : List Claim) (run : Consumed) (o : Option Ending) (p : ℕ)
+    → IsCore first leg table claims run → best_at o run.tree table claims ≡ Some p
     → IsFree run.tree.graph (outcomes_of_table table) claims p
 best_free first leg table claims run None p h e = best_is_free run.tree.graph (outcomes_of_table table) claims h.parents run.tree.root.search p e
 best_free first leg table claims run (Some ending) p h e = cc
 
 -- nodes play no part in what a core keeps
-pub core_same : (first : Session) (leg : ℕ) (table : List (Option Outcome)) (claims : List Claim) (old new : Consumed) → IsSameRun old new → IsCore first leg table claims old → IsCore first leg table claims new
+pub core_same : (first : Session) (leg : ℕ) (table : List (Option Outcome)) (claims : List Claim) (old new : Consumed) → IsSameRun old new
+    → IsCore first leg table claims old → IsCore first leg table claims new
 core_same first leg table claims old new same h = record {
   parents = subst IsGraph (sym same.tree.graph) h.parents;
   over = subst (λ (x : List (List ℕ)). IsSearchOver x first.search) (sym same.tree.graph) h.over;
   len = h.len ∙ ap (λ (x : List (List ℕ)). length x) (sym same.tree.graph);
   run = subst (λ (x : List (List ℕ)). IsRunOn (record { graph = x; start = first.search; leg = leg }) first table new) (sym same.tree.graph)
-      (same_is_run (record { graph = old.tree.graph; start = first.search; leg = leg }) first (consumed (record { graph = old.tree.graph; start = first.search; leg = leg }) table) old new same h.run);
+      (same_is_run (record { graph = old.tree.graph; start = first.search; leg = leg }) first
+      (consumed (record { graph = old.tree.graph; start = first.search; leg = leg }) table) old new same h.run);
   standing = h.standing;
 }
 
-pub core_picked : (first : Session) (leg : ℕ) (table : List (Option Outcome)) (claims more : List Claim) (old new : Consumed) (worker p : ℕ) → has_claim claims worker ≡ false → IsCore first leg table claims old → IsSameRun old new
+pub core_picked : (first : Session) (leg : ℕ) (table : List (Option Outcome)) (claims more : List Claim) (old new : Consumed) (worker p : ℕ)
+    → has_claim claims worker ≡ false → IsCore first leg table claims old → IsSameRun old new
     → best_at old.ending old.tree table claims ≡ Some p → more ≡ claims ++ record { worker = worker; place = p } ∷ [] → IsCore first leg table more new
 core_picked first leg table claims more old new worker p idle h same best e =
     let free = best_free first leg table claims old old.ending p h best in
@@ -129,7 +149,8 @@ core_picked first leg table claims more old new worker p idle h same best e =
       over = k.over;
       len = k.len;
       run = k.run;
-      standing = subst (λ (cs : List Claim). AreClaims table cs) (sym e) (claims_pushed table claims worker p h.standing idle free.unclaimed (let l = free.within in omega (arith, h.len)) free.unknown);
+      standing = subst (λ (cs : List Claim). AreClaims table cs) (sym e)
+          (claims_pushed table claims worker p h.standing idle free.unclaimed (let l = free.within in omega (arith, h.len)) free.unknown);
     }
 
 pub same_seen : (first : Session) (leg : ℕ) (table t : List (Option Outcome)) (claims cs : List Claim) (old new : Consumed) → IsSameRun old new → t ≡ table
@@ -146,22 +167,27 @@ same_seen first leg table t claims cs old new same e = λ i. record {
   paths = new.tree.paths;
 }
 
-pub picks : (first : Session) (leg : ℕ) (table : List (Option Outcome)) (claims more : List Claim) (old new : Consumed) (worker p : ℕ) → has_claim claims worker ≡ false → IsCore first leg table claims old → IsSameRun old new
-    → best_at old.ending old.tree table claims ≡ Some p → more ≡ claims ++ record { worker = worker; place = p } ∷ [] → IsStep (seen first leg table claims old) (Claimed worker p) (seen first leg table more new)
+pub picks : (first : Session) (leg : ℕ) (table : List (Option Outcome)) (claims more : List Claim) (old new : Consumed) (worker p : ℕ)
+    → has_claim claims worker ≡ false → IsCore first leg table claims old → IsSameRun old new
+    → best_at old.ending old.tree table claims ≡ Some p → more ≡ claims ++ record { worker = worker; place = p } ∷ []
+    → IsStep (seen first leg table claims old) (Claimed worker p) (seen first leg table more new)
 picks first leg table claims more old new worker p idle h same best e = record {
-  farm = step_claim (setting_of (seen first leg table claims old)) (farm_of (seen first leg table claims old)) worker p idle (sym (best_is old.ending first leg table claims old refl h) ∙ best)
+  farm = step_claim (setting_of (seen first leg table claims old)) (farm_of (seen first leg table claims old)) worker p idle
+      (sym (best_is old.ending first leg table claims old refl h) ∙ best)
       ∙ ap (λ (cs : List Claim). Some (record { table = table; claims = cs })) (sym e);
   setting = ap (λ (x : List (List ℕ)). record { graph = x; start = first.search; leg = leg }) same.tree.graph;
   first = refl;
 }
 
-pub all_taken : (first : Session) (leg : ℕ) (table : List (Option Outcome)) (claims : List Claim) (run : Consumed) → IsCore first leg table claims run → run.ending ≡ None → best_at run.ending run.tree table claims ≡ None
+pub all_taken : (first : Session) (leg : ℕ) (table : List (Option Outcome)) (claims : List Claim) (run : Consumed) → IsCore first leg table claims run
+    → run.ending ≡ None → best_at run.ending run.tree table claims ≡ None
     → IsAllTaken (seen first leg table claims run)
 all_taken first leg table claims run h e none = record { goes_on = e; none_open = sym (best_is run.ending first leg table claims run refl h) ∙ none }
 
 -- ---- a post
 
-module _ (first : Session) (leg : ℕ) (table : List (Option Outcome)) (claims : List Claim) (old new : Consumed) (worker p : ℕ) (outcome : Outcome) (h : IsCore first leg table claims old) (st : stands claims worker p ≡ true)
+module _ (first : Session) (leg : ℕ) (table : List (Option Outcome)) (claims : List Claim) (old new : Consumed) (worker p : ℕ) (outcome : Outcome)
+    (h : IsCore first leg table claims old) (st : stands claims worker p ≡ true)
     (goes_on : Consumes old (set table p (Some outcome)) new) where
   abbrev setting : Setting
   setting = record { graph = old.tree.graph; start = first.search; leg = leg }
@@ -174,11 +200,13 @@ module _ (first : Session) (leg : ℕ) (table : List (Option Outcome)) (claims :
     parents = subst IsGraph (sym after.graph) h.parents;
     over = subst (λ (x : List (List ℕ)). IsSearchOver x first.search) (sym after.graph) h.over;
     len = length-set table p (Some outcome) ∙ h.len ∙ ap (λ (x : List (List ℕ)). length x) (sym after.graph);
-    run = subst (λ (x : List (List ℕ)). IsRunOn (record { graph = x; start = first.search; leg = leg }) first (set table p (Some outcome)) new) (sym after.graph) after;
+    run = subst (λ (x : List (List ℕ)). IsRunOn (record { graph = x; start = first.search; leg = leg }) first (set table p (Some outcome)) new)
+        (sym after.graph) after;
     standing = subst (λ (cs : List Claim). AreClaims (set table p (Some outcome)) cs) (sym e) (claims_posted table claims worker p outcome h.standing st);
   }
 
-  pub posts : (left : List Claim) → left ≡ without claims worker → IsStep (seen first leg table claims old) (Posted worker p outcome) (seen first leg (set table p (Some outcome)) left new)
+  pub posts : (left : List Claim) → left ≡ without claims worker
+      → IsStep (seen first leg table claims old) (Posted worker p outcome) (seen first leg (set table p (Some outcome)) left new)
   posts left e = record {
     farm = step_post (setting_of (seen first leg table claims old)) (farm_of (seen first leg table claims old)) worker p outcome st
         ∙ ap (λ (cs : List Claim). Some (record { table = set table p (Some outcome); claims = cs })) (sym e);
@@ -186,10 +214,12 @@ module _ (first : Session) (leg : ℕ) (table : List (Option Outcome)) (claims :
     first = refl;
   }
 
-  pub unmoved : (left : List Claim) → (run_of (seen first leg table claims old)).end ≢ Open p → IsUnmoved (seen first leg table claims old) (seen first leg (set table p (Some outcome)) left new)
+  pub unmoved : (left : List Claim) → (run_of (seen first leg table claims old)).end ≢ Open p
+      → IsUnmoved (seen first leg table claims old) (seen first leg (set table p (Some outcome)) left new)
   unmoved left other =
       let same : consumed setting (set table p (Some outcome)) ≡ consumed setting table
-      = seq_stays setting.graph (outcomes_of_table table) (outcomes_of_table (set table p (Some outcome))) (part_put table p outcome (standing_place table claims worker p h.standing st).1) leg setting.start
+      = seq_stays setting.graph (outcomes_of_table table) (outcomes_of_table (set table p (Some outcome)))
+      (part_put table p outcome (standing_place table claims worker p h.standing st).1) leg setting.start
       (λ q e. put_elsewhere table p q outcome (λ here. other (e ∙ ap (λ (x : ℕ). Open x) here))) in
       record {
         entries = after.entries ∙ ap (λ (r : Run). r.entries) same ∙ sym h.run.entries;
@@ -197,20 +227,24 @@ module _ (first : Session) (leg : ℕ) (table : List (Option Outcome)) (claims :
         ending = told_alike new.ending old.ending (consumed setting table).end (subst (λ (r : Run). Tells new.ending r.end) same after.ending) h.run.ending;
       }
 
-pub withdraws : (first : Session) (leg : ℕ) (table : List (Option Outcome)) (claims : List Claim) (run : Consumed) (worker : ℕ) → IsUnwanted run table claims worker ↔ IsWithdrawn (seen first leg table claims run) worker
+pub withdraws : (first : Session) (leg : ℕ) (table : List (Option Outcome)) (claims : List Claim) (run : Consumed) (worker : ℕ)
+    → IsUnwanted run table claims worker ↔ IsWithdrawn (seen first leg table claims run) worker
 withdraws first leg table claims run worker = (
   λ h. record { claim = h.claim; among = h.among; by = h.by; dropped = λ wanted. h.unwanted wanted.goes_on wanted.asked },
   λ h. record { claim = h.claim; among = h.among; by = h.by; unwanted = λ none asked. h.dropped (record { goes_on = none; asked = asked }) },
 )
 
 -- what a post leaves
-pub record IsPosted (first : Session) (leg : ℕ) (table : List (Option Outcome)) (claims : List Claim) (old : Consumed) (worker p : ℕ) (outcome : Outcome) (now : List (Option Outcome)) (left : List Claim) (new : Consumed) : Type 0 where
+pub record IsPosted (first : Session) (leg : ℕ) (table : List (Option Outcome)) (claims : List Claim) (old : Consumed) (worker p : ℕ) (outcome : Outcome)
+    (now : List (Option Outcome)) (left : List Claim) (new : Consumed) : Type 0 where
   pub core : IsCore first leg now left new
   pub event : IsStep (seen first leg table claims old) (Posted worker p outcome) (seen first leg now left new)
   pub beside : (run_of (seen first leg table claims old)).end ≢ Open p → IsUnmoved (seen first leg table claims old) (seen first leg now left new)
 
-pub posted : (first : Session) (leg : ℕ) (table : List (Option Outcome)) (claims : List Claim) (old : Consumed) (worker p : ℕ) (outcome : Outcome) (now : List (Option Outcome)) (left : List Claim) (new : Consumed) → IsCore first leg table claims old
-    → stands claims worker p ≡ true → now ≡ set table p (Some outcome) → left ≡ without claims worker → Consumes old now new → IsPosted first leg table claims old worker p outcome now left new
+pub posted : (first : Session) (leg : ℕ) (table : List (Option Outcome)) (claims : List Claim) (old : Consumed) (worker p : ℕ) (outcome : Outcome)
+    (now : List (Option Outcome)) (left : List Claim) (new : Consumed) → IsCore first leg table claims old
+    → stands claims worker p ≡ true → now ≡ set table p (Some outcome) → left ≡ without claims worker → Consumes old now new
+    → IsPosted first leg table claims old worker p outcome now left new
 posted first leg table claims old worker p outcome now left new h st put e goes_on =
     let on : Consumes old (set table p (Some outcome)) new = subst (λ (t : List (Option Outcome)). Consumes old t new) put goes_on in
     subst (λ (t : List (Option Outcome)). IsPosted first leg table claims old worker p outcome t left new) (sym put)
@@ -220,13 +254,16 @@ posted first leg table claims old worker p outcome now left new h st put e goes_
       beside = unmoved first leg table claims old new worker p outcome h st on left;
     })
 
-pub claims_put : (table now : List (Option Outcome)) (claims left : List Claim) (worker p : ℕ) (outcome : Outcome) → AreClaims table claims → stands claims worker p ≡ true → now ≡ set table p (Some outcome) → left ≡ without claims worker → AreClaims now left
+pub claims_put : (table now : List (Option Outcome)) (claims left : List Claim) (worker p : ℕ) (outcome : Outcome) → AreClaims table claims
+    → stands claims worker p ≡ true → now ≡ set table p (Some outcome) → left ≡ without claims worker → AreClaims now left
 claims_put table now claims left worker p outcome h st put e =
-    subst (λ (t : List (Option Outcome)). AreClaims t left) (sym put) (subst (λ (cs : List Claim). AreClaims (set table p (Some outcome)) cs) (sym e) (claims_posted table claims worker p outcome h st))
+    subst (λ (t : List (Option Outcome)). AreClaims t left) (sym put)
+    (subst (λ (cs : List Claim). AreClaims (set table p (Some outcome)) cs) (sym e) (claims_posted table claims worker p outcome h st))
 
 pub place_put : (table now : List (Option Outcome)) (p : ℕ) (outcome : Outcome) → p < length table → now ≡ set table p (Some outcome) → p < length now
 place_put table now p outcome l put = subst (λ (t : List (Option Outcome)). p < length t) (sym put) (omega (arith, l, length-set table p (Some outcome)))
 
 -- an outcome that was taken out again
-pub taken_back : (table now back : List (Option Outcome)) (p : ℕ) (outcome : Outcome) → outcomes_of_table table p ≡ None → now ≡ set table p (Some outcome) → back ≡ set now p None → back ≡ table
+pub taken_back : (table now back : List (Option Outcome)) (p : ℕ) (outcome : Outcome) → outcomes_of_table table p ≡ None → now ≡ set table p (Some outcome)
+    → back ≡ set now p None → back ≡ table
 taken_back table now back p outcome unknown put e = e ∙ ap (λ (t : List (Option Outcome)). set t p None) put ∙ put_back table p outcome unknown

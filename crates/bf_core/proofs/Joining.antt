@@ -1,5 +1,6 @@
 -- A core goes on with its run: what was consumed before, and a walk from the root of its tree.
-use Rattle.std.proofs.Common.{◌≡◌, ◌≢◌, ℕ, zero, suc, ◌+◌, ◌-◌, ◌↔◌, Bool, true, false, is_some, List, [], ◌∷◌, ◌++◌, length, drop, map, Option, Some, None, Result, Ok, Err, refl, sym, ap, ◌∙◌, subst, length-append, arith}
+use Rattle.std.proofs.Common.{◌≡◌, ◌≢◌, ℕ, zero, suc, ◌+◌, ◌-◌, ◌↔◌, Bool, true, false, is_some, List, [], ◌∷◌, ◌++◌, length, drop, map, Option, Some, None}
+use Rattle.std.proofs.Common.{Result, Ok, Err, refl, sym, ap, ◌∙◌, subst, length-append, arith}
 use Rattle.std.specs.Result.{IfOk, OnOk, OnErr}
 use Rattle.std.specs.List.{All, Contains}
 use Rattle.std.proofs.lemmas.Bool.{both_ways}
@@ -43,7 +44,8 @@ same_tree_trans a b c h k = record {
 }
 
 -- what a run has come to is kept where nothing but nodes has changed
-pub same_is_run : (setting : Setting) (first : Session) (r : Run) (old new : Consumed) → IsSameRun old new → IsRun setting first r old → IsRun setting first r new
+pub same_is_run : (setting : Setting) (first : Session) (r : Run) (old new : Consumed) → IsSameRun old new → IsRun setting first r old
+    → IsRun setting first r new
 same_is_run setting first r old new same h = record {
   graph = same.tree.graph ∙ h.graph;
   session = h.session ∙ ap (λ (s : Session). with_search s setting.start) (sym same.tree.session);
@@ -69,7 +71,8 @@ told_closed (Some ending) end e h = h.1
 pub ended_consumes : (old new : Consumed) (table : List (Option Outcome)) → is_some old.ending ≡ true → IsSameRun old new → Consumes old table new
 ended_consumes old new table e same = λ setting first before g over part h.
     subst (λ (r : Run). IsRun setting first r new)
-    (sym (seq_ends_alike setting.graph setting.start (outcomes_of_table before) (outcomes_of_table table) setting.leg part (told_closed old.ending (consumed setting before).end e h.ending)))
+    (sym (seq_ends_alike setting.graph setting.start (outcomes_of_table before) (outcomes_of_table table) setting.leg part
+    (told_closed old.ending (consumed setting before).end e h.ending)))
     (same_is_run setting first (consumed setting before) old new same h)
 
 -- ---- a walk
@@ -98,14 +101,16 @@ pub record IsWhole (whole r : Run) (entries : List Entry) (count : ℕ) : Type 0
   pub search : whole.search ≡ r.search
   pub end : whole.end ≡ r.end
 
-pub joined_is_run : (setting : Setting) (first : Session) (whole r : Run) (tree : Guesses) (entries : List Entry) (count : ℕ) (left : Option ℕ) (known : Outcomes) (walked : Walked) (new : Consumed)
+pub joined_is_run : (setting : Setting) (first : Session) (whole r : Run) (tree : Guesses) (entries : List Entry) (count : ℕ) (left : Option ℕ)
+    (known : Outcomes) (walked : Walked) (new : Consumed)
     → tree.graph ≡ setting.graph → first ≡ with_search tree.session setting.start → left ≡ left_after (leg_of setting.leg) count
     → IsWhole whole r entries count → IsWalk tree known left walked r → IsJoined tree entries left walked new → IsRun setting first whole new
 joined_is_run setting first whole r tree entries count left known walked new on_graph on_session on_left w walk joined = record {
   graph = joined.graph ∙ on_graph;
   session = on_session ∙ ap (λ (s : Session). with_search s setting.start) (sym joined.session);
   entries = joined.entries ∙ ap (λ (es : List Entry). entries ++ es) walk.entries ∙ sym w.entries_are;
-  state = joined.state ∙ walk.state ∙ sym (ap (λ (s : Session). with_search s whole.search) on_session ∙ ap (λ (s : Search). with_search tree.session s) w.search);
+  state = joined.state ∙ walk.state ∙ sym (ap (λ (s : Session). with_search s whole.search) on_session ∙ ap (λ (s : Search). with_search tree.session s)
+      w.search);
   ending = subst (λ (o : Option Ending). Tells o whole.end) (sym joined.ending) (subst (λ (e : End). Tells walked.ending e) (sym w.end) walk.ending);
   waits = λ p e. record {
     search = ap (λ (a : Asked). a.search) joined.root ∙ walk.there (open_no_leg r.end p (sym w.end ∙ e)) ∙ sym w.search;
@@ -129,7 +134,8 @@ waiting_consumes old mid new table walked r waits same walk joined = λ setting 
     let none : Tells None (consumed setting before).end = subst (λ (o : Option Ending). Tells o (consumed setting before).end) (same.ending ∙ waits) b.ending in
     let place = told_open (consumed setting before).end none in
     let at : IsAtRoot setting (consumed setting before) mid = b.waits place.0 place.1 in
-    let rest : run setting.graph (outcomes_of_table table) (left_after (leg_of setting.leg) (length (consumed setting before).used)) (consumed setting before).search ≡ r
+    let rest : run setting.graph (outcomes_of_table table) (left_after (leg_of setting.leg) (length (consumed setting before).used))
+    (consumed setting before).search ≡ r
     = sym (walk.is
     ∙ ap (λ (g : List (List ℕ)). run g (outcomes_of_table table) mid.left mid.tree.root.search) b.graph
     ∙ ap (λ (l : Option ℕ). run setting.graph (outcomes_of_table table) l mid.tree.root.search) at.left
@@ -138,9 +144,16 @@ waiting_consumes old mid new table walked r waits same walk joined = λ setting 
     = run_follows setting.graph (outcomes_of_table before) (outcomes_of_table table) g part (leg_of setting.leg) setting.start over none
     ∙ ap (λ (x : Run). in_sequence (consumed setting before) x) rest in
     subst (λ (x : Run). IsRun setting first x new) (sym whole)
-    (joined_is_run setting first (in_sequence (consumed setting before) r) r mid.tree mid.entries.items (length (consumed setting before).used) mid.left (outcomes_of_table table) walked new
+    (joined_is_run setting first (in_sequence (consumed setting before) r) r mid.tree mid.entries.items (length (consumed setting before).used) mid.left
+    (outcomes_of_table table) walked new
     b.graph b.session at.left
-    (record { entries_are = ap (λ (es : List Entry). es ++ r.entries) (sym b.entries); used = length-append (consumed setting before).used r.used; search = refl; end = refl })
+    (record {
+      entries_are = ap (λ (es : List Entry). es ++ r.entries) (sym b.entries);
+      used = length-append (consumed setting before).used r.used;
+      search =
+          refl;
+      end = refl;
+    })
     walk joined)
 
 -- ---- the first walk
@@ -149,7 +162,13 @@ waiting_consumes old mid new table walked r waits same walk joined = λ setting 
 over_asked : (graph : List (List ℕ)) (s : Search) → IsGraph graph → IsSearchOver graph s → IsSearchOver graph (ask graph s).search
 over_asked graph s g over =
     subst (λ (t : Search). IsSearchOver graph t) (sym (ask_leaves graph s))
-    (record { bad = over.bad; goods = over.goods; skips = over.skips; expected = decision_within graph s (ask graph s).search.checked (ask graph s).step g (record { checked = refl; step = refl }) })
+    (record {
+      bad = over.bad;
+      goods = over.goods;
+      skips = over.skips;
+      expected = decision_within graph s (ask graph s).search.checked (ask graph s).step g
+          (record { checked = refl; step = refl });
+    })
 
 unspent : (leg : ℕ) → IsUnspent (leg_of leg)
 unspent zero = tt
@@ -159,26 +178,32 @@ left_after-none : (left : Option ℕ) → left_after left 0 ≡ left
 left_after-none None = refl
 left_after-none (Some k) = let e : k - 0 ≡ k = omega arith in ap (λ n. Some n) e
 
-pub first_begins : (tree : Guesses) (table : List (Option Outcome)) (leg : ℕ) (entries : List Entry) (walked : Walked) (r : Run) (new : Consumed) → entries ≡ map (λ p. SkippedBase p) tree.root.step.warned
+pub first_begins : (tree : Guesses) (table : List (Option Outcome)) (leg : ℕ) (entries : List Entry) (walked : Walked) (r : Run) (new : Consumed)
+    → entries ≡ map (λ p. SkippedBase p) tree.root.step.warned
     → IsWalk tree (outcomes_of_table table) (leg_of leg) walked r → IsJoined tree entries (leg_of leg) walked new → Begins tree table leg new
 first_begins tree table leg entries walked r new warned walk joined = λ s g over is.
     let known : Outcomes = outcomes_of_table table in
-    let rest : run tree.graph known (leg_of leg) (ask tree.graph s).search ≡ r = sym (walk.is ∙ ap (λ (a : Asked). run tree.graph known (leg_of leg) a.search) is) in
-    let warnings : map (λ p. SkippedBase p) (ask tree.graph s).step.warned ≡ entries = sym (warned ∙ ap (λ (a : Asked). map (λ p. SkippedBase p) a.step.warned) is) in
+    let rest : run tree.graph known (leg_of leg) (ask tree.graph s).search ≡ r = sym
+    (walk.is ∙ ap (λ (a : Asked). run tree.graph known (leg_of leg) a.search) is) in
+    let warnings : map (λ p. SkippedBase p) (ask tree.graph s).step.warned ≡ entries = sym
+    (warned ∙ ap (λ (a : Asked). map (λ p. SkippedBase p) a.step.warned) is) in
     let whole : run tree.graph known (leg_of leg) s ≡ with_entries entries r
     = run_asked tree.graph known (leg_of leg) s g over (over_asked tree.graph s g over) (unspent leg)
     ∙ ap (λ (x : Run). with_entries (map (λ p. SkippedBase p) (ask tree.graph s).step.warned) x) rest
     ∙ ap (λ (es : List Entry). with_entries es r) warnings in
     subst (λ (x : Run). IsRun (record { graph = tree.graph; start = s; leg = leg }) (with_search tree.session s) x new) (sym whole)
-    (joined_is_run (record { graph = tree.graph; start = s; leg = leg }) (with_search tree.session s) (with_entries entries r) r tree entries 0 (leg_of leg) known walked new
+    (joined_is_run (record { graph = tree.graph; start = s; leg = leg }) (with_search tree.session s) (with_entries entries r) r tree entries 0 (leg_of leg)
+    known walked new
     refl refl (sym (left_after-none (leg_of leg))) (record { entries_are = refl; used = omega arith; search = refl; end = refl }) walk joined)
 
 -- ---- nodes and workers
 
-pub joined_nodes : (old mid new : Consumed) (walked : Walked) (r : Run) (known : Outcomes) → IsSameRun old mid → IsWalk mid.tree known mid.left walked r → IsJoined mid.tree mid.entries.items mid.left walked new
+pub joined_nodes : (old mid new : Consumed) (walked : Walked) (r : Run) (known : Outcomes) → IsSameRun old mid → IsWalk mid.tree known mid.left walked r
+    → IsJoined mid.tree mid.entries.items mid.left walked new
     → KeepsNodes old.tree.paths (marks_since old.entries.items new.entries.items) new.tree.paths
 joined_nodes old mid new walked r known same walk joined = λ path h.
-    let added : new.entries.items ≡ old.entries.items ++ walked.entries.items = joined.entries ∙ ap (λ (es : List Entry). es ++ walked.entries.items) same.entries in
+    let added : new.entries.items ≡ old.entries.items ++ walked.entries.items = joined.entries ∙ ap (λ (es : List Entry). es ++ walked.entries.items)
+    same.entries in
     let marks : marks_since old.entries.items new.entries.items ≡ walked.path.items
     = ap (λ (es : List Entry). marks_of (drop (length old.entries.items) es)) added
     ∙ ap marks_of (after_length old.entries.items walked.entries.items ∙ walk.entries) ∙ sym walk.path in
@@ -188,8 +213,10 @@ nothing_since : (xs : List Entry) → drop (length xs) xs ≡ []
 nothing_since [] = refl
 nothing_since (x ∷ xs) = nothing_since xs
 
-pub same_nodes : (old : Consumed) (tree : Guesses) → IsSameTree old.tree tree → KeepsNodes old.tree.paths (marks_since old.entries.items old.entries.items) tree.paths
-same_nodes old tree same = λ path h. same.kept path (subst (λ (ms : List Mark). Contains old.tree.paths (ms ++ path)) (ap marks_of (nothing_since old.entries.items)) h)
+pub same_nodes : (old : Consumed) (tree : Guesses) → IsSameTree old.tree tree
+    → KeepsNodes old.tree.paths (marks_since old.entries.items old.entries.items) tree.paths
+same_nodes old tree same = λ path h. same.kept path
+    (subst (λ (ms : List Mark). Contains old.tree.paths (ms ++ path)) (ap marks_of (nothing_since old.entries.items)) h)
 
 -- a claim of a place without an outcome
 abbrev IsUnwantedPlace : Consumed → Outcomes → ℕ → Type 0
@@ -198,7 +225,8 @@ IsUnwantedPlace core known p = core.ending ≡ None → ¬ IsAsked core.tree.gra
 asked_on : (graph : List (List ℕ)) (known : Outcomes) (s t : Search) (p : ℕ) → s ≡ t → IsAsked graph known s p → IsAsked graph known t p
 asked_on graph known s t p e h = subst (λ (x : Search). IsAsked graph known x p) e h
 
-module _ (mid new : Consumed) (table : List (Option Outcome)) (walked : Walked) (r : Run) (walk : IsWalk mid.tree (outcomes_of_table table) mid.left walked r) (joined : IsJoined mid.tree mid.entries.items mid.left walked new) where
+module _ (mid new : Consumed) (table : List (Option Outcome)) (walked : Walked) (r : Run) (walk : IsWalk mid.tree (outcomes_of_table table) mid.left walked r)
+    (joined : IsJoined mid.tree mid.entries.items mid.left walked new) where
   state_is : new.state.search ≡ (run mid.tree.graph (outcomes_of_table table) mid.left mid.tree.root.search).search
   state_is = ap (λ (s : Session). s.search) (joined.state ∙ walk.state) ∙ ap (λ (x : Run). x.search) walk.is
 
@@ -207,24 +235,30 @@ module _ (mid new : Consumed) (table : List (Option Outcome)) (walked : Walked) 
       let place = told_open r.end (subst (λ (o : Option Ending). Tells o r.end) e walk.ending) in
       (place.0, sym (ap (λ (x : Run). x.end) walk.is) ∙ place.1)
 
-  idle_unwanted : (o : Option Ending) (p : ℕ) → walked.ending ≡ o → outcomes_of_table table p ≡ None → IsIdle mid.tree table (is_some o) p → IsUnwantedPlace new (outcomes_of_table table) p
+  idle_unwanted : (o : Option Ending) (p : ℕ) → walked.ending ≡ o → outcomes_of_table table p ≡ None → IsIdle mid.tree table (is_some o) p
+      → IsUnwantedPlace new (outcomes_of_table table) p
   idle_unwanted None p e unknown idle = λ here asked.
       let place = waits_at e in
       idle ((run_passes mid.tree.graph (outcomes_of_table table) mid.left mid.tree.root.search place.0 place.1).back p
-      (subst (λ (g : List (List ℕ)). IsAsked g (outcomes_of_table table) (run mid.tree.graph (outcomes_of_table table) mid.left mid.tree.root.search).search p) joined.graph
-      (asked_on new.tree.graph (outcomes_of_table table) new.state.search (run mid.tree.graph (outcomes_of_table table) mid.left mid.tree.root.search).search p state_is asked)))
+      (subst (λ (g : List (List ℕ)). IsAsked g (outcomes_of_table table) (run mid.tree.graph (outcomes_of_table table) mid.left mid.tree.root.search).search p)
+      joined.graph
+      (asked_on new.tree.graph (outcomes_of_table table) new.state.search (run mid.tree.graph (outcomes_of_table table) mid.left mid.tree.root.search).search p
+      state_is asked)))
   idle_unwanted (Some ending) p e unknown idle = λ here asked. let clash : Some ending ≡ None = sym e ∙ sym joined.ending ∙ here in cc
 
-  unwanted_idle : (o : Option Ending) (p : ℕ) → walked.ending ≡ o → outcomes_of_table table p ≡ None → IsUnwantedPlace new (outcomes_of_table table) p → IsIdle mid.tree table (is_some o) p
+  unwanted_idle : (o : Option Ending) (p : ℕ) → walked.ending ≡ o → outcomes_of_table table p ≡ None → IsUnwantedPlace new (outcomes_of_table table) p
+      → IsIdle mid.tree table (is_some o) p
   unwanted_idle None p e unknown h = λ asked.
       let place = waits_at e in
       h (joined.ending ∙ e)
       (subst (λ (g : List (List ℕ)). IsAsked g (outcomes_of_table table) new.state.search p) (sym joined.graph)
-      (asked_on mid.tree.graph (outcomes_of_table table) (run mid.tree.graph (outcomes_of_table table) mid.left mid.tree.root.search).search new.state.search p (sym state_is)
+      (asked_on mid.tree.graph (outcomes_of_table table) (run mid.tree.graph (outcomes_of_table table) mid.left mid.tree.root.search).search new.state.search p
+      (sym state_is)
       ((run_passes mid.tree.graph (outcomes_of_table table) mid.left mid.tree.root.search place.0 place.1).on p unknown asked)))
   unwanted_idle (Some ending) p e unknown h = tt
 
-pub unwanted_workers : (mid new : Consumed) (table : List (Option Outcome)) (claims : List Claim) (walked : Walked) (r : Run) (ended : Bool) (w : ℕ) → IsWalk mid.tree (outcomes_of_table table) mid.left walked r
+pub unwanted_workers : (mid new : Consumed) (table : List (Option Outcome)) (claims : List Claim) (walked : Walked) (r : Run) (ended : Bool) (w : ℕ)
+    → IsWalk mid.tree (outcomes_of_table table) mid.left walked r
     → IsJoined mid.tree mid.entries.items mid.left walked new → All (λ c. outcomes_of_table table c.place ≡ None) claims → ended ≡ is_some walked.ending
     → IsIdleWorker mid.tree table ended claims w ↔ IsUnwanted new table claims w
 unwanted_workers mid new table claims walked r ended w walk joined unknown e = (
@@ -232,7 +266,8 @@ unwanted_workers mid new table claims walked r ended w walk joined unknown e = (
     claim = h.claim;
     among = h.among;
     by = h.by;
-    unwanted = idle_unwanted mid new table walked r walk joined walked.ending h.claim.place refl (All-contains (λ c. outcomes_of_table table c.place ≡ None) claims h.claim unknown h.among)
+    unwanted = idle_unwanted mid new table walked r walk joined walked.ending h.claim.place refl
+        (All-contains (λ c. outcomes_of_table table c.place ≡ None) claims h.claim unknown h.among)
         (subst (λ (b : Bool). IsIdle mid.tree table b h.claim.place) e h.idle);
   },
   λ h. record {
@@ -240,23 +275,34 @@ unwanted_workers mid new table claims walked r ended w walk joined unknown e = (
     among = h.among;
     by = h.by;
     idle = subst (λ (b : Bool). IsIdle mid.tree table b h.claim.place) (sym e)
-        (unwanted_idle mid new table walked r walk joined walked.ending h.claim.place refl (All-contains (λ c. outcomes_of_table table c.place ≡ None) claims h.claim unknown h.among) h.unwanted);
+        (unwanted_idle mid new table walked r walk joined walked.ending h.claim.place refl
+        (All-contains (λ c. outcomes_of_table table c.place ≡ None) claims h.claim unknown h.among) h.unwanted);
   },
 )
 
 -- where the run had ended nobody is waited for
-pub ended_workers : (tree : Guesses) (new : Consumed) (table : List (Option Outcome)) (claims : List Claim) (w : ℕ) → is_some new.ending ≡ true → IsIdleWorker tree table true claims w ↔ IsUnwanted new table claims w
+pub ended_workers : (tree : Guesses) (new : Consumed) (table : List (Option Outcome)) (claims : List Claim) (w : ℕ) → is_some new.ending ≡ true
+    → IsIdleWorker tree table true claims w ↔ IsUnwanted new table claims w
 ended_workers tree new table claims w e = (
-  λ h. record { claim = h.claim; among = h.among; by = h.by; unwanted = λ none. let clash : is_some new.ending ≡ false = ap (λ (o : Option Ending). is_some o) none in absurd (both_ways (is_some new.ending) clash e) },
+  λ h. record {
+    claim = h.claim;
+    among = h.among;
+    by = h.by;
+    unwanted = λ none. let clash : is_some new.ending ≡ false = ap (λ (o : Option Ending). is_some o)
+        none in absurd (both_ways (is_some new.ending) clash e);
+  },
   λ h. record { claim = h.claim; among = h.among; by = h.by; idle = tt },
 )
 
 -- ---- what the calls of a tree say
 
-pub walk_of : (tree mid : Guesses) (known : Outcomes) (left : Option ℕ) (walked : Walked) → IsSameTree tree mid → walked.entries.items ≡ (run tree.graph known left tree.root.search).entries
+pub walk_of : (tree mid : Guesses) (known : Outcomes) (left : Option ℕ) (walked : Walked) → IsSameTree tree mid
+    → walked.entries.items ≡ (run tree.graph known left tree.root.search).entries
     → walked.used.items ≡ (run tree.graph known left tree.root.search).used → Tells walked.ending (run tree.graph known left tree.root.search).end
-    → walked.state ≡ with_search tree.session (run tree.graph known left tree.root.search).search → walked.path.items ≡ marks_of (run tree.graph known left tree.root.search).entries
-    → ((run tree.graph known left tree.root.search).end ≢ Leg → (asked_at tree.graph tree.root walked.path.items).search ≡ (run tree.graph known left tree.root.search).search)
+    → walked.state ≡ with_search tree.session (run tree.graph known left tree.root.search).search
+    → walked.path.items ≡ marks_of (run tree.graph known left tree.root.search).entries
+    → ((run tree.graph known left tree.root.search).end ≢ Leg
+    → (asked_at tree.graph tree.root walked.path.items).search ≡ (run tree.graph known left tree.root.search).search)
     → IsWalk mid known left walked (run tree.graph known left tree.root.search)
 walk_of tree mid known left walked same entries used ending state path there = record {
   is = ap (λ (g : List (List ℕ)). run g known left tree.root.search) (sym same.graph) ∙ ap (λ (a : Asked). run mid.graph known left a.search) (sym same.root);
@@ -265,7 +311,8 @@ walk_of tree mid known left walked same entries used ending state path there = r
   ending = ending;
   state = state ∙ ap (λ (s : Session). with_search s (run tree.graph known left tree.root.search).search) (sym same.session);
   path = path;
-  there = λ h. ap (λ (g : List (List ℕ)). (asked_at g mid.root walked.path.items).search) same.graph ∙ ap (λ (a : Asked). (asked_at tree.graph a walked.path.items).search) same.root ∙ there h;
+  there = λ h. ap (λ (g : List (List ℕ)). (asked_at g mid.root walked.path.items).search) same.graph ∙ ap
+      (λ (a : Asked). (asked_at tree.graph a walked.path.items).search) same.root ∙ there h;
 }
 
 pub same_run_of : (old : Consumed) (mid : Guesses) → IsSameTree old.tree mid → IsSameRun old (record old { tree = mid })
@@ -300,13 +347,16 @@ if_ok_map (Ok x) f h = f x h
 if_ok_map (Err e) f h = tt
 
 -- nodes play no part in it
-pub begins_along : (tree now : Guesses) (table : List (Option Outcome)) (leg : ℕ) (core : Consumed) → IsSameTree tree now → Begins now table leg core → Begins tree table leg core
+pub begins_along : (tree now : Guesses) (table : List (Option Outcome)) (leg : ℕ) (core : Consumed) → IsSameTree tree now → Begins now table leg core
+    → Begins tree table leg core
 begins_along tree now table leg core same h = λ s g over is.
     subst (λ (x : List (List ℕ)). IsRunOn (record { graph = x; start = s; leg = leg }) (with_search tree.session s) table core) same.graph
     (subst (λ (x : Session). IsRunOn (record { graph = now.graph; start = s; leg = leg }) (with_search x s) table core) same.session
-    (h s (subst IsGraph (sym same.graph) g) (subst (λ (x : List (List ℕ)). IsSearchOver x s) (sym same.graph) over) (same.root ∙ is ∙ ap (λ (x : List (List ℕ)). ask x s) (sym same.graph))))
+    (h s (subst IsGraph (sym same.graph) g) (subst (λ (x : List (List ℕ)). IsSearchOver x s) (sym same.graph) over)
+    (same.root ∙ is ∙ ap (λ (x : List (List ℕ)). ask x s) (sym same.graph))))
 
-pub begins_by : (tree now : Guesses) (table : List (Option Outcome)) (leg : ℕ) (left : Option ℕ) (entries : List Entry) (walked : Walked) (r : Run) (core : Consumed) → left ≡ leg_of leg → entries ≡ map (λ p. SkippedBase p) tree.root.step.warned
+pub begins_by : (tree now : Guesses) (table : List (Option Outcome)) (leg : ℕ) (left : Option ℕ) (entries : List Entry) (walked : Walked) (r : Run)
+    (core : Consumed) → left ≡ leg_of leg → entries ≡ map (λ p. SkippedBase p) tree.root.step.warned
     → IsSameTree tree now → IsWalk now (outcomes_of_table table) left walked r → IsJoined now entries left walked core → Begins tree table leg core
 begins_by tree now table leg left entries walked r core e warned same walk joined =
     begins_along tree now table leg core same

@@ -14,7 +14,8 @@ use Rattle.bf_search.specs.Outcomes.{Outcomes, verdict_of}
 use Rattle.bf_search.specs.State.{Search, ask, mark}
 use Rattle.bf_search.proofs.Turns.{asking}
 use Rattle.bf_search.specs.declared.farm.Claim.{Claim}
-use Rattle.bf_search.specs.OpenPaths.{OpenPath, is_claimed, is_better, better, followed_by, after_verdict, after_claim, after_look, after_step, best_within, best_open, place_of}
+use Rattle.bf_search.specs.OpenPaths.{OpenPath, is_claimed, is_better, better, followed_by, after_verdict, after_claim, after_look, after_step, best_within}
+use Rattle.bf_search.specs.OpenPaths.{best_open, place_of}
 
 -- nobody tests this place of the graph, and its outcome is not known
 pub record IsFree (graph : List (List ℕ)) (known : Outcomes) (claims : List Claim) (p : ℕ) : Type 0 where
@@ -43,17 +44,20 @@ module _ (graph : List (List ℕ)) (known : Outcomes) (claims : List Claim) (g :
   free_verdict go s p Abort h = tt
   free_verdict go s p (MarkOf m) h = free_followed m (go (mark s m p)) (h (mark s m p))
 
-  free_claim : (go : Search → Option OpenPath) (s : Search) (p : ℕ) (b : Bool) → p < length graph → known p ≡ None → is_claimed claims p ≡ b → ((t : Search) → AsksFree (go t)) → AsksFree (after_claim graph go s p b)
+  free_claim : (go : Search → Option OpenPath) (s : Search) (p : ℕ) (b : Bool) → p < length graph → known p ≡ None → is_claimed claims p ≡ b
+      → ((t : Search) → AsksFree (go t)) → AsksFree (after_claim graph go s p b)
   free_claim go s p false within unknown is h = record { within = within; unknown = unknown; unclaimed = is }
   free_claim go s p true within unknown is h =
       free_better (followed_by Good (go (mark s Good p))) (followed_by Bad (go (mark s Bad p)))
       (free_followed Good (go (mark s Good p)) (h (mark s Good p))) (free_followed Bad (go (mark s Bad p)) (h (mark s Bad p)))
 
-  free_look : (go : Search → Option OpenPath) (s : Search) (p : ℕ) (o : Option Outcome) → p < length graph → known p ≡ o → ((t : Search) → AsksFree (go t)) → AsksFree (after_look graph claims go s p o)
+  free_look : (go : Search → Option OpenPath) (s : Search) (p : ℕ) (o : Option Outcome) → p < length graph → known p ≡ o → ((t : Search) → AsksFree (go t))
+      → AsksFree (after_look graph claims go s p o)
   free_look go s p None within is h = free_claim go s p (is_claimed claims p) within is refl h
   free_look go s p (Some outcome) within is h = free_verdict go s p (verdict_of outcome) h
 
-  free_step : (go : Search → Option OpenPath) (s : Search) (a : Ask) → ((p : ℕ) → a ≡ Test p → p < length graph) → ((t : Search) → AsksFree (go t)) → AsksFree (after_step graph known claims go s a)
+  free_step : (go : Search → Option OpenPath) (s : Search) (a : Ask) → ((p : ℕ) → a ≡ Test p → p < length graph) → ((t : Search) → AsksFree (go t))
+      → AsksFree (after_step graph known claims go s a)
   free_step go s (Test p) within h = free_look go s p (known p) (within p refl) refl h
   free_step go s (FirstBad p) within h = tt
   free_step go s (OnlySkipped ps) within h = tt
@@ -68,7 +72,8 @@ module _ (graph : List (List ℕ)) (known : Outcomes) (claims : List Claim) (g :
   unfolding best_within
   free_within zero s = tt
   free_within (suc n) s =
-      free_step (best_within n graph known claims) (ask graph s).search (ask graph s).step.ask (λ p e. (asking graph s p g e).asks_for.within) (λ t. free_within n t)
+      free_step (best_within n graph known claims) (ask graph s).search (ask graph s).step.ask (λ p e. (asking graph s p g e).asks_for.within)
+      (λ t. free_within n t)
 
   free_open : (s : Search) → AsksFree (best_open graph known claims s)
   unfolding best_open

@@ -24,11 +24,13 @@ module _ (graph : List (List ℕ)) (known : Outcomes) where
 
   leads_again : (s : Search) (ms : List Mark) (p left : ℕ) → Leads graph known s ms p left → Leads graph known (ask graph s).search ms p left
   leads_again s [] p left h = subst (λ (a : Asked). (a.step.ask ≡ Test p) × (left ≡ left_of graph a.search)) (sym (ask_again graph s)) h
-  leads_again s (m ∷ ms) p left h = subst (λ (a : Asked). (q : ℕ) × (a.step.ask ≡ Test q) × Allows (known q) m × Leads graph known (mark a.search m q) ms p left) (sym (ask_again graph s)) h
+  leads_again s (m ∷ ms) p left h = subst (λ (a : Asked). (q : ℕ) × (a.step.ask ≡ Test q) × Allows (known q) m × Leads graph known (mark a.search m q) ms p
+      left) (sym (ask_again graph s)) h
 
   leads_before : (s : Search) (ms : List Mark) (p left : ℕ) → Leads graph known (ask graph s).search ms p left → Leads graph known s ms p left
   leads_before s [] p left h = subst (λ (a : Asked). (a.step.ask ≡ Test p) × (left ≡ left_of graph a.search)) (ask_again graph s) h
-  leads_before s (m ∷ ms) p left h = subst (λ (a : Asked). (q : ℕ) × (a.step.ask ≡ Test q) × Allows (known q) m × Leads graph known (mark a.search m q) ms p left) (ask_again graph s) h
+  leads_before s (m ∷ ms) p left h = subst (λ (a : Asked). (q : ℕ) × (a.step.ask ≡ Test q) × Allows (known q) m × Leads graph known (mark a.search m q) ms p
+      left) (ask_again graph s) h
 
   -- both ways between a start and the end of a run that waits there
   pub record IsPassing (s t : Search) : Type 0 where
@@ -45,15 +47,20 @@ module _ (graph : List (List ℕ)) (known : Outcomes) where
   }
 
   -- a known outcome forces the first mark
-  forced : (s : Search) (q p : ℕ) (outcome : Outcome) (m : Mark) (ms : List Mark) (left : ℕ) → (ask graph s).step.ask ≡ Test q → known q ≡ Some outcome → verdict_of outcome ≡ MarkOf m
+  forced : (s : Search) (q p : ℕ) (outcome : Outcome) (m : Mark) (ms : List Mark) (left : ℕ) → (ask graph s).step.ask ≡ Test q → known q ≡ Some outcome
+      → verdict_of outcome ≡ MarkOf m
       → known p ≡ None → Leads graph known s ms p left → IsAsked graph known (mark (ask graph s).search m q) p
   forced s q p outcome m [] left asks is v unknown h = let e : q ≡ p = cc in let clash : known q ≡ None = ap known e ∙ unknown in cc
   forced s q p outcome m (n ∷ ms) left asks is v unknown (r, h, allowed, rest) =
       let e : r ≡ q = cc in
       let here : known r ≡ Some outcome = ap known e ∙ is in
       let told : verdict_of outcome ≡ MarkOf n = subst (λ (o : Option Outcome). Allows o n) here allowed in
-      let same : n ≡ m = cc in
-      (ms, left, subst (λ (k : Mark). Leads graph known (mark (ask graph s).search k q) ms p left) same (subst (λ (x : ℕ). Leads graph known (mark (ask graph s).search n x) ms p left) e rest))
+      let same : n ≡ m = cc in (
+        ms,
+        left,
+        subst (λ (k : Mark). Leads graph known (mark (ask graph s).search k q) ms p left) same
+            (subst (λ (x : ℕ). Leads graph known (mark (ask graph s).search n x) ms p left) e rest),
+      )
 
   marked_on : (s t : Search) (q : ℕ) (outcome : Outcome) (m : Mark) → (ask graph s).step.ask ≡ Test q → known q ≡ Some outcome → verdict_of outcome ≡ MarkOf m
       → IsPassing (mark (ask graph s).search m q) t → IsPassing s t
@@ -64,7 +71,8 @@ module _ (graph : List (List ℕ)) (known : Outcomes) where
         (m ∷ b.0, b.1, (q, asks, subst (λ (o : Option Outcome). Allows o m) (sym is) v, b.2));
   }
 
-  verdict_passes : (go : Go) (left : Option ℕ) (s : Search) (q : ℕ) (outcome : Outcome) (v : Verdict) → (ask graph s).step.ask ≡ Test q → known q ≡ Some outcome → verdict_of outcome ≡ v
+  verdict_passes : (go : Go) (left : Option ℕ) (s : Search) (q : ℕ) (outcome : Outcome) (v : Verdict) → (ask graph s).step.ask ≡ Test q → known q ≡ Some outcome
+      → verdict_of outcome ≡ v
       → ((l : Option ℕ) (t : Search) → Passes t (go l t)) → Passes s (after_verdict go left (ask graph s).search q outcome v)
   verdict_passes go left s q outcome Abort asks is v h = λ p e. cc
   verdict_passes go left s q outcome (MarkOf m) asks is v h = λ p e.

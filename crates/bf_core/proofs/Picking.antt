@@ -1,5 +1,6 @@
 -- The workers of the claims that pass.
-use Rattle.std.proofs.Common.{◌≡◌, ◌≢◌, ℕ, zero, suc, ◌+◌, ◌<◌, ◌==◌, ◌⊎◌, ◌↔◌, Bool, true, false, Option, eqb-true, eq-eqb, List, [], ◌∷◌, ◌++◌, length, get_or, take, refl, sym, ap, ◌∙◌, subst, inl, inr, ⊎_elim, arith}
+use Rattle.std.proofs.Common.{◌≡◌, ◌≢◌, ℕ, zero, suc, ◌+◌, ◌<◌, ◌==◌, ◌⊎◌, ◌↔◌, Bool, true, false, Option, eqb-true, eq-eqb, List, [], ◌∷◌, ◌++◌, length}
+use Rattle.std.proofs.Common.{get_or, take, refl, sym, ap, ◌∙◌, subst, inl, inr, ⊎_elim, arith}
 use Rattle.std.specs.List.{AllPairs, Contains}
 use Rattle.std.proofs.lemmas.List.Elements.{Contains-get_or}
 use Rattle.std.specs.Prelude.{IsTrue}
@@ -47,14 +48,16 @@ picked_no P [] ws c p h = inr (p, h)
 picked_no P (d ∷ cs) ws c p (inl (rest, q, e, h)) = inl (rest, q, e, picked_no P cs rest c p h)
 picked_no P (d ∷ cs) ws c p (inr (q, h)) = inr (q, picked_no P cs ws c p h)
 
-first_or_later : (P : Claim → Type 0) (d : Claim) (cs : List Claim) (rest : List ℕ) (w : ℕ) → P d → (Contains rest w → Passes P cs w) → Contains (d.worker ∷ rest) w → Passes P (d ∷ cs) w
+first_or_later : (P : Claim → Type 0) (d : Claim) (cs : List Claim) (rest : List ℕ) (w : ℕ) → P d → (Contains rest w → Passes P cs w)
+    → Contains (d.worker ∷ rest) w → Passes P (d ∷ cs) w
 first_or_later P d cs rest w q h (zero, l, is) = record { claim = d; among = (0, omega arith, refl); by = is; passes = q }
 first_or_later P d cs rest w q h (suc k, l, is) = later P d cs w (h (k, omega arith, is))
 
 -- each of them is a worker of a claim that passes
 pub picked_passes : (P : Claim → Type 0) (cs : List Claim) (ws : List ℕ) (w : ℕ) → Picked P cs ws → Contains ws w → Passes P cs w
 picked_passes P [] ws w h c = let here : Contains [] w = subst (λ (xs : List ℕ). Contains xs w) h c in absurd (omega (arith, here.1))
-picked_passes P (d ∷ cs) ws w (inl (rest, q, e, h)) c = first_or_later P d cs rest w q (λ k. picked_passes P cs rest w h k) (subst (λ (xs : List ℕ). Contains xs w) e c)
+picked_passes P (d ∷ cs) ws w (inl (rest, q, e, h)) c = first_or_later P d cs rest w q (λ k. picked_passes P cs rest w h k)
+    (subst (λ (xs : List ℕ). Contains xs w) e c)
 picked_passes P (d ∷ cs) ws w (inr (q, h)) c = later P d cs w (picked_passes P cs ws w h c)
 
 -- each worker of a claim that passes is one of them
@@ -87,10 +90,13 @@ picked_apart P (d ∷ cs) ws (inl (rest, q, e, h)) apart =
 picked_apart P (d ∷ cs) ws (inr (q, h)) apart = picked_apart P cs ws h (apart_tail d cs apart)
 
 -- the step of a loop over the claims
-pub more_yes : (P : Claim → Type 0) (cs : List Claim) (i : ℕ) (d : Claim) (ws : List ℕ) → i < length cs → P (get_or cs i d) → Picked P (take i cs) ws → Picked P (take (i + 1) cs) (ws ++ (get_or cs i d).worker ∷ [])
-more_yes P cs i d ws l p h = subst (λ (xs : List Claim). Picked P xs (ws ++ (get_or cs i d).worker ∷ [])) (sym (take_more cs i d l)) (picked_yes P (take i cs) ws (get_or cs i d) p h)
+pub more_yes : (P : Claim → Type 0) (cs : List Claim) (i : ℕ) (d : Claim) (ws : List ℕ) → i < length cs → P (get_or cs i d) → Picked P (take i cs) ws
+    → Picked P (take (i + 1) cs) (ws ++ (get_or cs i d).worker ∷ [])
+more_yes P cs i d ws l p h = subst (λ (xs : List Claim). Picked P xs (ws ++ (get_or cs i d).worker ∷ [])) (sym (take_more cs i d l))
+    (picked_yes P (take i cs) ws (get_or cs i d) p h)
 
-pub more_no : (P : Claim → Type 0) (cs : List Claim) (i : ℕ) (d : Claim) (ws : List ℕ) → i < length cs → (P (get_or cs i d) → ⊥) → Picked P (take i cs) ws → Picked P (take (i + 1) cs) ws
+pub more_no : (P : Claim → Type 0) (cs : List Claim) (i : ℕ) (d : Claim) (ws : List ℕ) → i < length cs → (P (get_or cs i d) → ⊥) → Picked P (take i cs) ws
+    → Picked P (take (i + 1) cs) ws
 more_no P cs i d ws l p h = subst (λ (xs : List Claim). Picked P xs ws) (sym (take_more cs i d l)) (picked_no P (take i cs) ws (get_or cs i d) p h)
 
 -- ---- the workers in order
@@ -102,44 +108,55 @@ flips x y =
     (λ apart. apart ∙ sym (ne_eqb y x (λ e. both_ways (x == y) apart (eq-eqb x y (sym e)))))
     (cases_Bool (x == y))
 
-pub rising : (P : Claim → Type 0) (cs : List Claim) (ws sorted : List ℕ) → IsApart cs → Picked P cs ws → IsPermutation ws sorted → IsSorted nat_cmp sorted → IsStrictlyIncreasing sorted
+pub rising : (P : Claim → Type 0) (cs : List Claim) (ws sorted : List ℕ) → IsApart cs → Picked P cs ws → IsPermutation ws sorted → IsSorted nat_cmp sorted
+    → IsStrictlyIncreasing sorted
 rising P cs ws sorted apart h moved order =
     IsStrictlyIncreasing-from_distinct sorted (IsNonDecreasingBy-from_sort (λ x. x) sorted order)
     (IsDistinct-IsPermutation (λ x y. x == y) flips ws sorted moved (IsDistinct-from_AllPairs Decides-eqb ws (picked_apart P cs ws h apart)))
 
 -- ---- the step of the loop
 
-idle_along : (tree now : Guesses) (table : List (Option Outcome)) (ended : Bool) (p : ℕ) → IsSameTree tree now → IsIdle now table ended p ↔ IsIdle tree table ended p
+idle_along : (tree now : Guesses) (table : List (Option Outcome)) (ended : Bool) (p : ℕ) → IsSameTree tree now
+    → IsIdle now table ended p ↔ IsIdle tree table ended p
 idle_along tree now table true p same = (λ h. tt, λ h. tt)
 idle_along tree now table false p same = (
-  λ h asked. h (subst (λ (g : List (List ℕ)). IsAsked g (outcomes_of_table table) now.root.search p) (sym same.graph) (subst (λ (a : Asked). IsAsked tree.graph (outcomes_of_table table) a.search p) (sym same.root) asked)),
-  λ h asked. h (subst (λ (a : Asked). IsAsked tree.graph (outcomes_of_table table) a.search p) same.root (subst (λ (g : List (List ℕ)). IsAsked g (outcomes_of_table table) now.root.search p) same.graph asked)),
+  λ h asked. h (subst (λ (g : List (List ℕ)). IsAsked g (outcomes_of_table table) now.root.search p) (sym same.graph)
+      (subst (λ (a : Asked). IsAsked tree.graph (outcomes_of_table table) a.search p) (sym same.root) asked)),
+  λ h asked. h (subst (λ (a : Asked). IsAsked tree.graph (outcomes_of_table table) a.search p) same.root
+      (subst (λ (g : List (List ℕ)). IsAsked g (outcomes_of_table table) now.root.search p) same.graph asked)),
 )
 
-module _ (tree now : Guesses) (table : List (Option Outcome)) (ended : Bool) (claims : List Claim) (i : ℕ) (d : Claim) (ws : List ℕ) (l : i < length claims) (same : IsSameTree tree now) where
+module _ (tree now : Guesses) (table : List (Option Outcome)) (ended : Bool) (claims : List Claim) (i : ℕ) (d : Claim) (ws : List ℕ) (l : i < length claims)
+    (same : IsSameTree tree now) where
   abbrev Idle : Claim → Type 0
   Idle c = IsIdle tree table ended c.place
 
-  pub idle_more : (b : Bool) (new : List ℕ) → b ≡ true → (IsTrue b ↔ IsIdle now table ended (get_or claims i d).place) → new ≡ ws ++ (get_or claims i d).worker ∷ [] → Picked Idle (take i claims) ws → Picked Idle (take (i + 1) claims) new
+  pub idle_more : (b : Bool) (new : List ℕ) → b ≡ true → (IsTrue b ↔ IsIdle now table ended (get_or claims i d).place)
+      → new ≡ ws ++ (get_or claims i d).worker ∷ [] → Picked Idle (take i claims) ws → Picked Idle (take (i + 1) claims) new
   idle_more b new passes told is h =
       subst (λ (xs : List ℕ). Picked Idle (take (i + 1) claims) xs) (sym is)
       (more_yes Idle claims i d ws l ((idle_along tree now table ended (get_or claims i d).place same).0 (told.0 (subst IsTrue (sym passes) refl))) h)
 
-  pub asked_more : (b : Bool) (new : List ℕ) → b ≡ false → (IsTrue b ↔ IsIdle now table ended (get_or claims i d).place) → new ≡ ws → Picked Idle (take i claims) ws → Picked Idle (take (i + 1) claims) new
+  pub asked_more : (b : Bool) (new : List ℕ) → b ≡ false → (IsTrue b ↔ IsIdle now table ended (get_or claims i d).place) → new ≡ ws
+      → Picked Idle (take i claims) ws → Picked Idle (take (i + 1) claims) new
   asked_more b new fails told is h =
       subst (λ (xs : List ℕ). Picked Idle (take (i + 1) claims) xs) (sym is)
       (more_no Idle claims i d ws l (λ idle. both_ways b fails (told.1 ((idle_along tree now table ended (get_or claims i d).place same).1 idle))) h)
 
 -- who is listed
-pub listed : (tree : Guesses) (table : List (Option Outcome)) (ended : Bool) (claims : List Claim) (ws sorted : List ℕ) (w : ℕ) → Picked (λ c. IsIdle tree table ended c.place) claims ws → IsPermutation ws sorted
+pub listed : (tree : Guesses) (table : List (Option Outcome)) (ended : Bool) (claims : List Claim) (ws sorted : List ℕ) (w : ℕ)
+    → Picked (λ c. IsIdle tree table ended c.place) claims ws → IsPermutation ws sorted
     → Contains sorted w ↔ IsIdleWorker tree table ended claims w
 listed tree table ended claims ws sorted w h moved = (
-  λ k. let p = picked_passes (λ c. IsIdle tree table ended c.place) claims ws w h (Contains-permutation sorted ws w (IsPermutation-sym ws sorted moved) k) in record { claim = p.claim; among = p.among; by = p.by; idle = p.passes },
-  λ k. Contains-permutation ws sorted w moved (subst (λ (x : ℕ). Contains ws x) k.by (passes_picked (λ c. IsIdle tree table ended c.place) claims ws k.claim h k.among k.idle)),
+  λ k. let p = picked_passes (λ c. IsIdle tree table ended c.place) claims ws w h (Contains-permutation sorted ws w (IsPermutation-sym ws sorted moved) k) in
+      record { claim = p.claim; among = p.among; by = p.by; idle = p.passes },
+  λ k. Contains-permutation ws sorted w moved (subst (λ (x : ℕ). Contains ws x) k.by
+      (passes_picked (λ c. IsIdle tree table ended c.place) claims ws k.claim h k.among k.idle)),
 )
 
 -- nodes play no part in it
-pub idle_worker_along : (tree now : Guesses) (table : List (Option Outcome)) (ended : Bool) (claims : List Claim) (w : ℕ) → IsSameTree tree now → IsIdleWorker tree table ended claims w ↔ IsIdleWorker now table ended claims w
+pub idle_worker_along : (tree now : Guesses) (table : List (Option Outcome)) (ended : Bool) (claims : List Claim) (w : ℕ) → IsSameTree tree now
+    → IsIdleWorker tree table ended claims w ↔ IsIdleWorker now table ended claims w
 idle_worker_along tree now table ended claims w same = (
   λ h. record { claim = h.claim; among = h.among; by = h.by; idle = (idle_along tree now table ended h.claim.place same).1 h.idle },
   λ h. record { claim = h.claim; among = h.among; by = h.by; idle = (idle_along tree now table ended h.claim.place same).0 h.idle },

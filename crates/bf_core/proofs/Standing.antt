@@ -1,5 +1,6 @@
 -- The claims that stand: what a claim, a post and a giving back leave of them.
-use Rattle.std.proofs.Common.{◌≡◌, ◌≢◌, ℕ, ◌<◌, ◌⊎◌, Bool, true, false, not, ◌&&◌, ◌==◌, List, [], ◌∷◌, ◌++◌, length, get_or, set, Option, Some, None, refl, sym, ap, ◌∙◌, subst, inl, inr, ⊎_elim, arith, eqb-true, eq-eqb}
+use Rattle.std.proofs.Common.{◌≡◌, ◌≢◌, ℕ, ◌<◌, ◌⊎◌, Bool, true, false, not, ◌&&◌, ◌==◌, List, [], ◌∷◌, ◌++◌, length, get_or, set, Option, Some, None, refl}
+use Rattle.std.proofs.Common.{sym, ap, ◌∙◌, subst, inl, inr, ⊎_elim, arith, eqb-true, eq-eqb}
 use Rattle.std.proofs.lemmas.Bool.{cases_Bool, cases_order, both_ways, and_parts, not-true, cond-true, false_from_ne_true}
 use Rattle.std.proofs.lemmas.List.{length-set, get_or-set_other, set-set, set-get_or, get_or_default}
 use Rattle.std.proofs.lemmas.List.Elements.{All-filter, All-push, All-contains, All-weaker, filter_passes}
@@ -19,17 +20,21 @@ use Rattle.bf_core.specs.Claims.{IsApart, AreClaims}
 
 -- ---- tables
 
-pub part_put : (table : List (Option Outcome)) (p : ℕ) (outcome : Outcome) → outcomes_of_table table p ≡ None → IsPartOf (outcomes_of_table table) (outcomes_of_table (set table p (Some outcome)))
+pub part_put : (table : List (Option Outcome)) (p : ℕ) (outcome : Outcome) → outcomes_of_table table p ≡ None
+    → IsPartOf (outcomes_of_table table) (outcomes_of_table (set table p (Some outcome)))
 part_put table p outcome unknown = λ q. ⊎_elim
-    (λ same. subst (λ (o : Option Outcome). IfSome o (λ x. outcomes_of_table (set table p (Some outcome)) q ≡ Some x)) (sym (ap (outcomes_of_table table) (eqb-true q p same) ∙ unknown)) tt)
+    (λ same. subst (λ (o : Option Outcome). IfSome o (λ x. outcomes_of_table (set table p (Some outcome)) q ≡ Some x))
+    (sym (ap (outcomes_of_table table) (eqb-true q p same) ∙ unknown)) tt)
     (λ apart. kept q (outcomes_of_table table q) refl (get_or-set_other table p q (Some outcome) None (λ e. both_ways (q == p) apart (eq-eqb q p e))))
     (cases_Bool (q == p))
   where
-    kept : (q : ℕ) (o : Option Outcome) → outcomes_of_table table q ≡ o → outcomes_of_table (set table p (Some outcome)) q ≡ outcomes_of_table table q → IfSome o (λ x. outcomes_of_table (set table p (Some outcome)) q ≡ Some x)
+    kept : (q : ℕ) (o : Option Outcome) → outcomes_of_table table q ≡ o → outcomes_of_table (set table p (Some outcome)) q ≡ outcomes_of_table table q
+        → IfSome o (λ x. outcomes_of_table (set table p (Some outcome)) q ≡ Some x)
     kept q None is e = tt
     kept q (Some x) is e = e ∙ is
 
-pub put_elsewhere : (table : List (Option Outcome)) (p q : ℕ) (outcome : Outcome) → q ≢ p → outcomes_of_table (set table p (Some outcome)) q ≡ outcomes_of_table table q
+pub put_elsewhere : (table : List (Option Outcome)) (p q : ℕ) (outcome : Outcome) → q ≢ p
+    → outcomes_of_table (set table p (Some outcome)) q ≡ outcomes_of_table table q
 put_elsewhere table p q outcome apart = get_or-set_other table p q (Some outcome) None apart
 
 -- an outcome that is taken out again
@@ -63,11 +68,13 @@ among : (claims : List Claim) (worker p : ℕ) (s : Stands claims worker p) → 
 among claims worker p s = (s.at, s.below, s.is s.claim)
 
 -- the place of a claim that stands
-pub standing_place : (table : List (Option Outcome)) (claims : List Claim) (worker p : ℕ) → AreClaims table claims → stands claims worker p ≡ true → (p < length table) × (outcomes_of_table table p ≡ None)
+pub standing_place : (table : List (Option Outcome)) (claims : List Claim) (worker p : ℕ) → AreClaims table claims → stands claims worker p ≡ true
+    → (p < length table) × (outcomes_of_table table p ≡ None)
 standing_place table claims worker p h st =
     let s = standing claims worker p st in (
       subst (λ (q : ℕ). q < length table) s.of (All-contains (λ c. c.place < length table) claims s.claim h.within (among claims worker p s)),
-      subst (λ (q : ℕ). outcomes_of_table table q ≡ None) s.of (All-contains (λ c. outcomes_of_table table c.place ≡ None) claims s.claim h.unknown (among claims worker p s)),
+      subst (λ (q : ℕ). outcomes_of_table table q ≡ None) s.of
+          (All-contains (λ c. outcomes_of_table table c.place ≡ None) claims s.claim h.unknown (among claims worker p s)),
     )
 
 -- the claims without those of a worker
@@ -98,13 +105,16 @@ others_apart claims worker p apart s = λ k d l.
     (cases_order k s.at)
 
 -- after a post the claims that are left are still of places without an outcome
-pub claims_posted : (table : List (Option Outcome)) (claims : List Claim) (worker p : ℕ) (outcome : Outcome) → AreClaims table claims → stands claims worker p ≡ true → AreClaims (set table p (Some outcome)) (without claims worker)
+pub claims_posted : (table : List (Option Outcome)) (claims : List Claim) (worker p : ℕ) (outcome : Outcome) → AreClaims table claims
+    → stands claims worker p ≡ true → AreClaims (set table p (Some outcome)) (without claims worker)
 claims_posted table claims worker p outcome h st =
     let rest = claims_without table claims worker h in
     let other : All (λ c. not (c.worker == worker) ≡ true) (without claims worker) = filter_passes (λ c. not (c.worker == worker)) claims in
-    let far : All (IsOther worker p) (without claims worker) = All-filter (λ c. not (c.worker == worker)) (IsOther worker p) claims (others_apart claims worker p h.apart (standing claims worker p st)) in
+    let far : All (IsOther worker p) (without claims worker) = All-filter (λ c. not (c.worker == worker)) (IsOther worker p) claims
+    (others_apart claims worker p h.apart (standing claims worker p st)) in
     record {
-      within = All-weaker (λ c. c.place < length table) (λ c. c.place < length (set table p (Some outcome))) (λ c l. omega (arith, l, length-set table p (Some outcome))) (without claims worker) rest.within;
+      within = All-weaker (λ c. c.place < length table) (λ c. c.place < length (set table p (Some outcome)))
+          (λ c l. omega (arith, l, length-set table p (Some outcome))) (without claims worker) rest.within;
       unknown = λ k d l.
           let c : Claim = get_or (without claims worker) k d in
           ⊎_elim
@@ -115,10 +125,12 @@ claims_posted table claims worker p outcome h st =
     }
 
 fails_at : (test : Claim → Bool) (claims : List Claim) (k : ℕ) (d : Claim) → list_any test claims ≡ false → k < length claims → test (get_or claims k d) ≡ false
-fails_at test claims k d h l = false_from_ne_true (test (get_or claims k d)) (λ passes. both_ways (list_any test claims) h (list_any_at test claims k d l passes))
+fails_at test claims k d h l = false_from_ne_true (test (get_or claims k d))
+    (λ passes. both_ways (list_any test claims) h (list_any_at test claims k d l passes))
 
 -- one more claim
-pub claims_pushed : (table : List (Option Outcome)) (claims : List Claim) (worker p : ℕ) → AreClaims table claims → has_claim claims worker ≡ false → is_claimed claims p ≡ false → p < length table → outcomes_of_table table p ≡ None
+pub claims_pushed : (table : List (Option Outcome)) (claims : List Claim) (worker p : ℕ) → AreClaims table claims → has_claim claims worker ≡ false
+    → is_claimed claims p ≡ false → p < length table → outcomes_of_table table p ≡ None
     → AreClaims table (claims ++ record { worker = worker; place = p } ∷ [])
 claims_pushed table claims worker p h idle free within unknown = record {
   within = All-push (λ c. c.place < length table) claims (record { worker = worker; place = p }) h.within within;
@@ -138,13 +150,16 @@ no_claims table = record { within = λ k d l. absurd (omega arith); unknown = λ
 
 pub step_post : (setting : Setting) (farm : Farm) (worker p : ℕ) (outcome : Outcome) → stands farm.claims worker p ≡ true
     → step setting farm (Posted worker p outcome) ≡ Some (record { table = set farm.table p (Some outcome); claims = without farm.claims worker })
-step_post setting farm worker p outcome h = cond-true (stands farm.claims worker p) (Some (record { table = set farm.table p (Some outcome); claims = without farm.claims worker })) None h
+step_post setting farm worker p outcome h = cond-true (stands farm.claims worker p)
+    (Some (record { table = set farm.table p (Some outcome); claims = without farm.claims worker })) None h
 
-pub step_give : (setting : Setting) (farm : Farm) (worker p : ℕ) → stands farm.claims worker p ≡ true → step setting farm (Given worker p) ≡ Some (record farm { claims = without farm.claims worker })
+pub step_give : (setting : Setting) (farm : Farm) (worker p : ℕ) → stands farm.claims worker p ≡ true
+    → step setting farm (Given worker p) ≡ Some (record farm { claims = without farm.claims worker })
 step_give setting farm worker p h = cond-true (stands farm.claims worker p) (Some (record farm { claims = without farm.claims worker })) None h
 
 pub step_claim : (setting : Setting) (farm : Farm) (worker p : ℕ) → has_claim farm.claims worker ≡ false → best_place setting farm ≡ Some p
     → step setting farm (Claimed worker p) ≡ Some (record farm { claims = farm.claims ++ record { worker = worker; place = p } ∷ [] })
 step_claim setting farm worker p idle best =
-    cond-true (not (has_claim farm.claims worker) && is_best (best_place setting farm) p) (Some (record farm { claims = farm.claims ++ record { worker = worker; place = p } ∷ [] })) None
+    cond-true (not (has_claim farm.claims worker) && is_best (best_place setting farm) p)
+    (Some (record farm { claims = farm.claims ++ record { worker = worker; place = p } ∷ [] })) None
     (ap (λ (b : Bool). not b && is_best (best_place setting farm) p) idle ∙ ap (λ (o : Option ℕ). is_best o p) best ∙ eq-eqb p p refl)

@@ -1,5 +1,5 @@
 -- The claims of workers, and the workers whose claimed places no path asks for.
-use Rattle.std.specs.Prelude.{◌≡◌, ◌≢◌, ℕ, ◌<◌, Bool, true, false, List, [], ◌++◌, length, All, Contains, Option, None}
+use Rattle.std.specs.Prelude.{◌≡◌, ◌≢◌, ◌↔◌, ℕ, ◌<◌, Bool, true, false, List, [], ◌++◌, length, All, Contains, Option, None}
 use Rattle.std.specs.List.{AllPairs}
 use Rattle.bf_search.specs.declared.farm.Claim.{Claim}
 use Rattle.bf_search.specs.declared.outcomes.Mark.{Mark}
@@ -40,3 +40,8 @@ pub record IsIdleWorker (tree : Guesses) (table : List (Option Outcome)) (ended 
   pub among : Contains claims claim
   pub by : claim.worker ≡ worker
   pub idle : IsIdle tree table ended claim.place
+
+-- these are the workers whose claimed place no path asks for
+abbrev pub AreIdle : Guesses → List (Option Outcome) → Bool → List Claim → List ℕ → Type 0
+AreIdle tree table ended claims workers =
+    (worker : ℕ) → Contains workers worker ↔ IsIdleWorker tree table ended claims worker

@@ -1,5 +1,5 @@
 -- What a core has consumed: a run, with the tree of guesses from where it stands.
-use Rattle.std.specs.Prelude.{◌≡◌, ℕ, List, ◌++◌, length, drop, Contains, Option, Some, None}
+use Rattle.std.specs.Prelude.{◌≡◌, ◌↔◌, ℕ, List, ◌++◌, length, drop, Contains, Option, Some, None}
 use Rattle.bf_graph.specs.Graph.{IsGraph}
 use Rattle.bf_search.specs.declared.entries.Entry.{Entry}
 use Rattle.bf_search.specs.declared.farm.Claim.{Claim}
@@ -9,12 +9,12 @@ use Rattle.bf_search.specs.declared.outcomes.Outcome.{Outcome}
 use Rattle.bf_search.specs.Outcomes.{outcomes_of_table}
 use Rattle.bf_search.specs.State.{Search, IsSearchOver, ask}
 use Rattle.bf_search.specs.Run.{Open, Run, leg_of, left_after}
-use Rattle.bf_search.specs.OpenPaths.{best_open, place_of}
+use Rattle.bf_search.specs.OpenPaths.{OpenPath, best_open, place_of}
 use Rattle.bf_search.specs.Farm.{Setting, consumed}
 use Rattle.bf_state.specs.Runs.{IsPartOf}
 use Rattle.bf_state.specs.Session.{Session, with_search}
 use Rattle.bf_spec.specs.Walks.{Tells}
-use Rattle.bf_spec.specs.Tree.{Guesses}
+use Rattle.bf_spec.specs.Tree.{Guesses, HasNode}
 use Rattle.bf_spec.specs.Guessed.{asked_at}
 use Rattle.bf_guesses.specs.Ends.{marks_of}
 use Rattle.bf_spec.specs.Ways.{IsAsked}
@@ -63,6 +63,14 @@ pub record IsJoined (tree : Guesses) (before : List Entry) (marks : Option ℕ) 
   pub ending : new.ending ≡ walked.ending
   pub left : new.left ≡ left_after marks (length walked.used.items)
 
+-- a walk was added to a run
+abbrev pub IsJoinedTo : Consumed → Walked → Consumed → Type 0
+IsJoinedTo old walked new = IsJoined old.tree old.entries.items old.left walked new
+
+-- A path has a node where the marks that were made since, followed by it, had one.
+abbrev pub KeepsNodesAhead : Consumed → Consumed → Type 0
+KeepsNodesAhead old new = KeepsNodes old.tree.paths (marks_since old.entries.items new.entries.items) new.tree.paths
+
 -- the run on a table, from the search whose ask is the root of a tree
 abbrev pub Begins : Guesses → List (Option Outcome) → ℕ → Consumed → Type 0
 Begins tree table leg core =
@@ -83,12 +91,22 @@ best_at (Some ending) tree table claims = None
 abbrev pub GivesBest : Consumed → List (Option Outcome) → List Claim → Option ℕ → Type 0
 GivesBest core table claims place = place ≡ best_at core.ending core.tree table claims
 
+-- where the run has not ended, the best open path from the root has a node
+abbrev pub HasNodeOfBest : Consumed → List (Option Outcome) → List Claim → Consumed → Type 0
+HasNodeOfBest old table claims new =
+    (path : OpenPath) → old.ending ≡ None
+    → best_open old.tree.graph (outcomes_of_table table) claims old.tree.root.search ≡ Some path → HasNode new.tree path.marks
+
 -- a worker whose claimed place no path asks for
 pub record IsUnwanted (core : Consumed) (table : List (Option Outcome)) (claims : List Claim) (worker : ℕ) : Type 0 where
   pub claim : Claim
   pub among : Contains claims claim
   pub by : claim.worker ≡ worker
   pub unwanted : core.ending ≡ None → ¬ IsAsked core.tree.graph (outcomes_of_table table) core.state.search claim.place
+
+-- these are the workers whose claimed place no path asks for
+abbrev pub AreUnwanted : Consumed → List (Option Outcome) → List Claim → List ℕ → Type 0
+AreUnwanted core table claims workers = (worker : ℕ) → Contains workers worker ↔ IsUnwanted core table claims worker
 
 -- The facts that a core keeps.
 pub record IsCore (first : Session) (leg : ℕ) (table : List (Option Outcome)) (claims : List Claim) (core : Consumed) : Type 0 where

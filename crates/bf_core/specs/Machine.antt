@@ -1,5 +1,5 @@
 -- What contracts see of a core, and what its calls leave of it.
-use Rattle.std.specs.Prelude.{◌≡◌, ◌≢◌, ◌↔◌, ℕ, ◌<◌, length, List, [], ◌∷◌, ◌++◌, Contains, Option, Some, None}
+use Rattle.std.specs.Prelude.{◌≡◌, ◌≢◌, ◌↔◌, ℕ, ◌<◌, Bool, false, length, List, [], ◌∷◌, ◌++◌, Contains, Option, Some, None, Result, Err, IsTrue}
 use Rattle.bf_graph.specs.Graph.{IsGraph}
 use Rattle.bf_search.specs.declared.entries.Entry.{Entry}
 use Rattle.bf_search.specs.declared.farm.Claim.{Claim}
@@ -17,6 +17,8 @@ use Rattle.bf_state.specs.Session.{Session, with_search}
 use Rattle.bf_spec.specs.Walks.{Tells}
 use Rattle.bf_guesses.specs.Ends.{marks_of}
 use Rattle.bf_spec.specs.Ways.{IsAsked}
+use Rattle.bf_core.specs.declared.answers.ApplyFault.{ApplyFault}
+use Rattle.bf_core.specs.declared.answers.ApplyFault.TheVariants.{Illegal}
 use Rattle.bf_core.specs.declared.answers.Pick.{Pick}
 use Rattle.bf_core.specs.declared.answers.Pick.TheVariants.{Work}
 use Rattle.bf_core.specs.declared.consuming.Consumed.{Consumed}
@@ -127,6 +129,10 @@ pub record IsRefused (core : Machine) (event told : Event) : Type 0 where
   pub same : told ≡ event
   pub not_legal : step (setting_of core) (farm_of core) event ≡ None
 
+-- an event that is answered as illegal is the one that was asked for, and it is not legal
+abbrev pub RefusesIllegal : {T : Type 0} → Machine → Event → Result T ApplyFault → Type 0
+RefusesIllegal core event result = (told : Event) → result ≡ Err (Illegal told) → IsRefused core event told
+
 -- a leg has an end, and so many marks were made
 pub record IsLegOver (core : Machine) : Type 0 where
   pub has_end : 0 < core.leg
@@ -138,6 +144,18 @@ pub record IsLegOver (core : Machine) : Type 0 where
 abbrev pub ClaimsWork : Machine → ℕ → Machine → Pick → Type 0
 ClaimsWork old worker new (Work p) = IsStep old (Claimed worker p) new
 ClaimsWork old worker new other = Unit {0}
+
+-- where it is done, a worker has claimed a place
+abbrev pub ClaimsIf : Machine → ℕ → ℕ → Machine → Bool → Type 0
+ClaimsIf old worker p new done = IsTrue done → IsStep old (Claimed worker p) new
+
+-- where it is done, nothing but claims and nodes has changed
+abbrev pub LeavesRestIf : Machine → Machine → Bool → Type 0
+LeavesRestIf old new done = IsTrue done → new ≡ record old { claims = new.claims; paths = new.paths }
+
+-- where it is not done, the claim of this place by a worker is not legal
+abbrev pub IsIllegalUnless : Machine → ℕ → ℕ → Bool → Type 0
+IsIllegalUnless core worker p done = done ≡ false → step (setting_of core) (farm_of core) (Claimed worker p) ≡ None
 
 -- nothing but nodes and the claim of a pick has changed
 abbrev pub LeavesPick : Machine → ℕ → Machine → Pick → Type 0

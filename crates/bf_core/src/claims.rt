@@ -3,7 +3,7 @@ ghost use Rattle.std.specs.Prelude.{◌≡◌, ◌↔◌, ◌<◌, ℕ, length, 
 ghost use Rattle.std.specs.List.Sorted.{IsStrictlyIncreasing};
 ghost use Rattle.bf_search.specs.Farm.{has_claim, stands, without};
 ghost use Rattle.bf_search.specs.Outcomes.{outcomes_of_table};
-ghost use Rattle.bf_core.specs.Claims.{IsApart, IsIdle, IsIdleWorker, IsSameTree};
+ghost use Rattle.bf_core.specs.Claims.{IsApart, IsIdle, AreIdle, IsSameTree};
 
 use bf_search::Claim;
 use bf_spec::{SpecTree, Table};
@@ -70,7 +70,7 @@ pub(crate) fn withdrawn(
     requires places { All (λ claim. claim.place < length tree.old.graph) claims.now }
     requires apart { IsApart claims.now }
     ensures ascending { IfOk result (λ workers. IsStrictlyIncreasing workers.items) }
-    ensures idle { IfOk result (λ workers. (worker : ℕ) → Contains workers.items worker ↔ IsIdleWorker tree.old table.now ended claims.now worker) }
+    ensures idle { IfOk result (λ idle. AreIdle tree.old table.now ended claims.now idle.items) }
     ensures tree { IsSameTree tree.old tree.new }
 {
     let mut workers = Vec::new(alloc);

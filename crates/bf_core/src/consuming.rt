@@ -9,7 +9,8 @@ ghost use Rattle.bf_search.specs.OpenPaths.{OpenPath, best_open};
 ghost use Rattle.bf_state.specs.Session.{Session};
 ghost use Rattle.bf_spec.specs.Tree.{HasNode};
 ghost use Rattle.bf_core.specs.Claims.{AreClaims, KeepsNodes, IsSameTree};
-ghost use Rattle.bf_core.specs.Consuming.{IsJoined, IsSameRun, Begins, Consumes, GivesBest, IsUnwanted, marks_since};
+ghost use Rattle.bf_core.specs.Consuming.{IsJoinedTo, IsSameRun, Begins, Consumes, GivesBest};
+ghost use Rattle.bf_core.specs.Consuming.{AreUnwanted, KeepsNodesAhead, HasNodeOfBest};
 
 use crate::claims::withdrawn;
 use bf_search::{Claim, Ending, Entry};
@@ -77,8 +78,9 @@ impl<'r> Consumed<'r> {
         requires claims { AreClaims table.now claims.now }
         ensures run { OnOk result (Consumes self.old table.now self.new) }
         ensures ascending { IfOk result (λ workers. IsStrictlyIncreasing workers.items) }
-        ensures unwanted { IfOk result (λ workers. (worker : ℕ) → Contains workers.items worker ↔ IsUnwanted self.new table.now claims.now worker) }
-        ensures nodes { OnOk result (KeepsNodes self.old.tree.paths (marks_since self.old.entries.items self.new.entries.items) self.new.tree.paths) }
+        ensures unwanted { IfOk result (λ workers.
+            AreUnwanted self.new table.now claims.now workers.items) }
+        ensures nodes { OnOk result (KeepsNodesAhead self.old self.new) }
         ensures err { OnErr result (IsSameRun self.old self.new) }
     {
         if self.ending.is_some() {
@@ -94,7 +96,7 @@ impl<'r> Consumed<'r> {
     /// Adds a walk from the root, and moves the root to its end. After an error all is as before.
     fn commit(&mut self, walked: Walked) -> Result<(), AllocError>
         requires { HasNode self.old.tree walked.path.items }
-        ensures ok { OnOk result (IsJoined self.old.tree self.old.entries.items self.old.left walked self.new) }
+        ensures ok { OnOk result (IsJoinedTo self.old walked self.new) }
         ensures err { OnErr result (IsSameRun self.old self.new) }
     {
         let Walked {
@@ -120,7 +122,7 @@ impl<'r> Consumed<'r> {
         claims: &[Claim],
     ) -> Result<Option<u32>, AllocError>
         ensures best { IfOk result (GivesBest self.old table.now claims.now) }
-        ensures answer { OnOk result ((path : OpenPath) → self.old.ending ≡ None → best_open self.old.tree.graph (outcomes_of_table table.now) claims.now self.old.tree.root.search ≡ Some path → HasNode self.new.tree path.marks) }
+        ensures answer { OnOk result (HasNodeOfBest self.old table.now claims.now self.new) }
         ensures same { IsSameRun self.old self.new }
     {
         if self.ending.is_some() {

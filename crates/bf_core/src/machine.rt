@@ -9,7 +9,8 @@ ghost use Rattle.bf_guesses.specs.Ends.{HasEnds};
 ghost use Rattle.bf_core.specs.Claims.{AreClaims, KeepsNodes};
 ghost use Rattle.bf_core.specs.Machine.{setting_of, farm_of, run_of, IsConsumed, IsStarted, IsStep, IsSameButNodes};
 ghost use Rattle.bf_core.specs.Machine.{IsAllTaken, ClaimsWork, LeavesPick, HasBestNode, KeepsGuesses};
-ghost use Rattle.bf_core.specs.Machine.{StaysBeside, AreWithdrawn, IsRefused, IsLegOver, IsOverGraph};
+ghost use Rattle.bf_core.specs.Machine.{StaysBeside, AreWithdrawn, RefusesIllegal, IsLegOver, IsOverGraph};
+ghost use Rattle.bf_core.specs.Machine.{ClaimsIf, LeavesRestIf, IsIllegalUnless};
 
 use crate::answers::{ApplyFault, CoreParts, Pick, Withdrawn};
 use crate::claims::{end_claim, has_claim, stands, without};
@@ -251,7 +252,7 @@ impl<'r> Core<'r> {
     /// memory, all is as before and no node is lost.
     pub fn apply(&mut self, event: Event) -> Result<(), ApplyFault>
         ensures ok { OnOk result (IsStep self.old event self.new) }
-        ensures illegal { (e : EventValue) → result ≡ Err (ApplyFault.Illegal e) → IsRefused self.old event e }
+        ensures illegal { RefusesIllegal self.old event result }
         ensures consumed { OnOk result (IsConsumed self.new) }
         ensures nodes { OnOk result (KeepsGuesses self.old self.new) }
         ensures err { OnErr result (IsSameButNodes self.old self.new) }
@@ -285,9 +286,9 @@ impl<'r> Core<'r> {
     /// Claims a place for a worker where that is legal, and says whether it is. After an error all is as
     /// before, and no node is lost.
     fn claim(&mut self, worker: u32, place: u32) -> Result<bool, AllocError>
-        ensures claimed { IfOk result (λ done. IsTrue done → IsStep self.old (Event.Claim worker place) self.new) }
-        ensures rest { IfOk result (λ done. IsTrue done → self.new ≡ record self.old { claims = self.new.claims; paths = self.new.paths }) }
-        ensures illegal { IfOk result (λ done. done ≡ false → step (setting_of self.old) (farm_of self.old) (Event.Claim worker place) ≡ None) }
+        ensures claimed { IfOk result (ClaimsIf self.old worker place self.new) }
+        ensures rest { IfOk result (LeavesRestIf self.old self.new) }
+        ensures illegal { IfOk result (IsIllegalUnless self.old worker place) }
         ensures same { IfOk result (λ done. done ≡ false → IsSameButNodes self.old self.new) }
         ensures consumed { IsConsumed self.new }
         ensures nodes { KeepsNodes self.old.paths [] self.new.paths }

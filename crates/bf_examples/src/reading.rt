@@ -15,8 +15,8 @@ fn messages(alloc: Global, stream: &[u8]) -> Result<Bytes, StreamFault> {
         if reader.over() {
             break;
         }
-        if let Some(Command::Commit { message, .. }) = reader.next()? {
-            messages.append(message.as_slice())?;
+        if let Some(Command::Commit(commit)) = reader.next()? {
+            messages.append(commit.header.message.as_slice())?;
         }
     }
     Ok(messages)

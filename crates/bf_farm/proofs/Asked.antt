@@ -1,6 +1,7 @@
 -- The calling thread tests what the run waits for, and nothing else.
-use Rattle.std.proofs.Common.{◌≡◌, ℕ, zero, suc, ◌<◌, Bool, true, false, not, ◌&&◌, ◌||◌, ◌==◌, cond, List, [], ◌∷◌, ◌++◌, length, get_or, set, Option, Some, None, refl, sym, ap, subst, ◌∙◌, arith, eqb-true, eq-eqb, Result, Ok, Err, ◌≤◌}
-use Rattle.std.specs.Result.{IfOk, OnOk}
+use Rattle.std.proofs.Common.{◌≡◌, ℕ, zero, suc, ◌<◌, Bool, true, false, not, ◌&&◌, ◌||◌, ◌==◌, cond, List, [], ◌∷◌, ◌++◌, length, get_or, set, Option, Some}
+use Rattle.std.proofs.Common.{None, refl, sym, ap, subst, ◌∙◌, arith, eqb-true, eq-eqb, Result, Ok, Err, ◌≤◌}
+use Rattle.std.specs.Result.{OnOk}
 use Rattle.std.proofs.lemmas.Bool.{and_parts}
 use Rattle.bf_io.specs.Causes.{Rose}
 use Rattle.bf_search.specs.declared.farm.Claim.{Claim}
@@ -15,7 +16,7 @@ use Rattle.bf_guesses.proofs.Used.{told}
 use Rattle.bf_core.specs.declared.answers.Pick.{Pick}
 use Rattle.bf_core.specs.declared.answers.Pick.TheVariants.{Work, NotYet, Ended}
 use Rattle.bf_farm.specs.Cores.{CoreView, run_of, IsSameStart}
-use Rattle.bf_grammar.specs.declared.object.Oid.{Oid}
+use Rattle.bf_oid.specs.declared.object.Oid.{Oid}
 use Rattle.bf_tester.specs.declared.answer.Answer.{Answer}
 use Rattle.bf_farm.specs.Boards.{BoardView, Does, DoesIf, PicksNew, PicksFor, claimed_by, unclaimed, IsSameBoard}
 use Rattle.bf_farm.specs.Ends.{HasFailed, IsAsking, IsNext, GainsClaim, missing}
@@ -219,10 +220,6 @@ failed_after_give old new p before now failed asking does rose latest = record {
 pub on_ok : {X E A B : Type 0} (r : Result X E) → (A → B) → OnOk r A → OnOk r B
 on_ok (Ok x) f h = f h
 on_ok (Err e) f h = tt
-
-pub if_ok : {X E : Type 0} {P Q : X → Type 0} (r : Result X E) → ((x : X) → P x → Q x) → IfOk r P → IfOk r Q
-if_ok (Ok x) f h = f x h
-if_ok (Err e) f h = tt
 
 pub rose_since : (first before now : ℕ) → first ≤ before → Rose before now → Rose first now
 rose_since first before now later rose = omega (arith, rose)

@@ -1,11 +1,13 @@
 -- What a run gains by the outcome that it waits for: this one, and no other that the first table lacks.
-use Rattle.std.proofs.Common.{◌≡◌, ◌≢◌, ℕ, zero, suc, ◌<◌, Bool, true, false, ◌==◌, append_assoc, List, [], ◌∷◌, ◌++◌, length, get_or, set, Option, Some, None, refl, sym, ap, ◌∙◌, subst, arith, eqb-true, eq-eqb, ⊎_elim}
+use Rattle.std.proofs.Common.{◌≡◌, ◌≢◌, ℕ, zero, suc, ◌<◌, Bool, true, false, ◌==◌, append_assoc, List, [], ◌∷◌, ◌++◌, length, get_or, set, Option, Some, None}
+use Rattle.std.proofs.Common.{refl, sym, ap, ◌∙◌, subst, arith, eqb-true, eq-eqb, ⊎_elim}
 use Rattle.std.proofs.lemmas.Bool.{cases_Bool, both_ways, cond-true, cond-false}
 use Rattle.std.proofs.lemmas.List.{append-nil, get_or-set_same, map-append}
-use Rattle.std.proofs.lemmas.List.Elements.{All-nil, All-cons, All-head, All-tail, All-contains, All-append, All-contains_itself, Contains-append_left, Contains-append_right, filter-append}
+use Rattle.std.proofs.lemmas.List.Elements.{All-nil, All-cons, All-head, All-tail, All-contains, All-append, All-contains_itself, Contains-append_left}
+use Rattle.std.proofs.lemmas.List.Elements.{Contains-append_right, filter-append}
 use Rattle.std.specs.List.{All, AllPairs, Contains, filter, slice_get}
 use Rattle.std.specs.Option.{IfSome, is_none, is_some}
-use Rattle.bf_grammar.specs.declared.object.Oid.{Oid}
+use Rattle.bf_oid.specs.declared.object.Oid.{Oid}
 use Rattle.bf_search.specs.declared.outcomes.Outcome.{Outcome}
 use Rattle.bf_search.specs.declared.farm.Event.TheVariants as events
 use Rattle.bf_search.specs.Farm.{Setting, Farm, consumed, stands}
@@ -25,6 +27,7 @@ use Rattle.bf_farm.specs.Gains.{lacking_pairs, IsUsedAt, IsGained, GainsMore}
 use Rattle.bf_farm.proofs.Asked.{one_stands, none_after_give, none_after_post}
 use Rattle.bf_farm.proofs.GoingOn.{run_goes_on}
 use Rattle.bf_farm.proofs.History.{done_where}
+use Rattle.bf_farm.proofs.Parts.{all_right}
 
 abbrev Pair : Type 0
 Pair = ℕ × Outcome
@@ -33,10 +36,6 @@ abbrev Differ : Pair → Pair → Type 0
 Differ a b = a.0 ≢ b.0
 
 -- ---- lists
-
-all_right : {X : Type 0} (P : X → Type 0) (xs ys : List X) → All P (xs ++ ys) → All P ys
-all_right P [] ys h = h
-all_right P (x ∷ xs) ys h = all_right P xs ys (All-tail P x (xs ++ ys) h)
 
 pairs_tail : {X : Type 0} (R : X → X → Type 0) (x : X) (xs : List X) → AllPairs R (x ∷ xs) → AllPairs R xs
 pairs_tail R x xs h = λ i j d l m. h (suc i) (suc j) d (omega arith) (omega arith)
@@ -86,80 +85,83 @@ known_is_some o x e = ap (λ (y : Option Outcome). is_some y) e
 module _ (setting : Setting) (first table : List (Option Outcome)) (p : ℕ) (outcome : Outcome) (over : IsOverGraph setting)
     (waits : (consumed setting table).end ≡ Open p) (within : p < length table)
     (part : IsPartOf (outcomes_of_table first) (outcomes_of_table table))
-    (learnt : (q : ℕ) → is_some (outcomes_of_table table q) ≡ true → is_none (outcomes_of_table first q) ≡ true → IsUsedAt (consumed setting table).used q) where
-  abbrev longer : List (Option Outcome)
-  longer = set table p (Some outcome)
+    (learnt : (q : ℕ) → is_some (outcomes_of_table table q) ≡ true → is_none (outcomes_of_table first q) ≡ true → IsUsedAt (consumed setting table).used q)
+  where
+    abbrev longer : List (Option Outcome)
+    longer = set table p (Some outcome)
 
-  abbrev used : List Pair
-  used = (consumed setting table).used
+    abbrev used : List Pair
+    used = (consumed setting table).used
 
-  unknown : outcomes_of_table table p ≡ None
-  unknown = (told (outcomes_of_table table) setting.graph (leg_of setting.leg) setting.start).unknown p waits
+    unknown : outcomes_of_table table p ≡ None
+    unknown = (told (outcomes_of_table table) setting.graph (leg_of setting.leg) setting.start).unknown p waits
 
-  put : outcomes_of_table longer p ≡ Some outcome
-  put = get_or-set_same table p (Some outcome) None within
+    put : outcomes_of_table longer p ≡ Some outcome
+    put = get_or-set_same table p (Some outcome) None within
 
-  goes : (rest : List Pair) × ((consumed setting longer).used ≡ used ++ (p, outcome) ∷ rest)
-  goes = run_goes_on (outcomes_of_table table) (outcomes_of_table longer) (part_put table p outcome unknown) p outcome put setting.graph (leg_of setting.leg)
-      setting.start waits
+    goes : (rest : List Pair) × ((consumed setting longer).used ≡ used ++ (p, outcome) ∷ rest)
+    goes = run_goes_on (outcomes_of_table table) (outcomes_of_table longer) (part_put table p outcome unknown) p outcome put setting.graph (leg_of setting.leg)
+        setting.start waits
 
-  differ : AllPairs Differ (used ++ (p, outcome) ∷ goes.0)
-  differ = subst (λ (l : List Pair). AllPairs Differ l) goes.1
-      (used_differ setting.graph (outcomes_of_table longer) over.parents (leg_of setting.leg) setting.start over.places)
+    differ : AllPairs Differ (used ++ (p, outcome) ∷ goes.0)
+    differ = subst (λ (l : List Pair). AllPairs Differ l) goes.1
+        (used_differ setting.graph (outcomes_of_table longer) over.parents (leg_of setting.leg) setting.start over.places)
 
-  known_after : All (λ b. outcomes_of_table longer b.0 ≡ Some b.1) (used ++ (p, outcome) ∷ goes.0)
-  known_after = subst (λ (l : List Pair). All (λ b. outcomes_of_table longer b.0 ≡ Some b.1) l) goes.1
-      (told (outcomes_of_table longer) setting.graph (leg_of setting.leg) setting.start).used
+    known_after : All (λ b. outcomes_of_table longer b.0 ≡ Some b.1) (used ++ (p, outcome) ∷ goes.0)
+    known_after = subst (λ (l : List Pair). All (λ b. outcomes_of_table longer b.0 ≡ Some b.1) l) goes.1
+        (told (outcomes_of_table longer) setting.graph (leg_of setting.leg) setting.start).used
 
-  -- a pair that is used later was known in the first table
-  known_before : (b : Pair) → Contains goes.0 b → is_none (outcomes_of_table first b.0) ≡ false
-  known_before b among = ⊎_elim (λ none. absurd (twice none)) (λ e. e) (cases_Bool (is_none (outcomes_of_table first b.0)))
-    where
-      later : Contains ((p, outcome) ∷ goes.0) b
-      later = Contains-append_right ((p, outcome) ∷ []) goes.0 b among
+    -- a pair that is used later was known in the first table
+    known_before : (b : Pair) → Contains goes.0 b → is_none (outcomes_of_table first b.0) ≡ false
+    known_before b among = ⊎_elim (λ none. absurd (twice none)) (λ e. e) (cases_Bool (is_none (outcomes_of_table first b.0)))
+      where
+        later : Contains ((p, outcome) ∷ goes.0) b
+        later = Contains-append_right ((p, outcome) ∷ []) goes.0 b among
 
-      apart : p ≢ b.0
-      apart = All-contains (Differ (p, outcome)) goes.0 b (pairs_head Differ (p, outcome) goes.0 (pairs_right Differ used ((p, outcome) ∷ goes.0) differ)) among
+        apart : p ≢ b.0
+        apart = All-contains (Differ (p, outcome)) goes.0 b (pairs_head Differ (p, outcome) goes.0 (pairs_right Differ used ((p, outcome) ∷ goes.0) differ))
+            among
 
-      some : is_some (outcomes_of_table table b.0) ≡ true
-      some = known_is_some (outcomes_of_table table b.0) b.1
-          (sym (put_elsewhere table p b.0 outcome (λ e. apart (sym e)))
-          ∙ All-contains (λ b. outcomes_of_table longer b.0 ≡ Some b.1) (used ++ (p, outcome) ∷ goes.0) b known_after
-          (Contains-append_right used ((p, outcome) ∷ goes.0) b later))
+        some : is_some (outcomes_of_table table b.0) ≡ true
+        some = known_is_some (outcomes_of_table table b.0) b.1
+            (sym (put_elsewhere table p b.0 outcome (λ e. apart (sym e)))
+            ∙ All-contains (λ b. outcomes_of_table longer b.0 ≡ Some b.1) (used ++ (p, outcome) ∷ goes.0) b known_after
+            (Contains-append_right used ((p, outcome) ∷ goes.0) b later))
 
-      twice : is_none (outcomes_of_table first b.0) ≡ true → ⊥
-      twice none =
-          let at : IsUsedAt used b.0 = learnt b.0 some none in
-          All-contains (Differ at.pair) ((p, outcome) ∷ goes.0) b
-          (All-contains (λ a. All (Differ a) ((p, outcome) ∷ goes.0)) used at.pair (pairs_across Differ used ((p, outcome) ∷ goes.0) differ) at.among) later
-          at.place
+        twice : is_none (outcomes_of_table first b.0) ≡ true → ⊥
+        twice none =
+            let at : IsUsedAt used b.0 = learnt b.0 some none in
+            All-contains (Differ at.pair) ((p, outcome) ∷ goes.0) b
+            (All-contains (λ a. All (Differ a) ((p, outcome) ∷ goes.0)) used at.pair (pairs_across Differ used ((p, outcome) ∷ goes.0) differ) at.among) later
+            at.place
 
-  abbrev lacks : Pair → Bool
-  lacks pair = is_none (outcomes_of_table first pair.0)
+    abbrev lacks : Pair → Bool
+    lacks pair = is_none (outcomes_of_table first pair.0)
 
-  pub one_lacked : lacking_pairs first (consumed setting longer).used ≡ lacking_pairs first used ++ (p, outcome) ∷ []
-  one_lacked =
-      ap (λ (l : List Pair). lacking_pairs first l) goes.1 ∙ filter-append lacks used ((p, outcome) ∷ goes.0)
-      ∙ ap (λ (l : List Pair). lacking_pairs first used ++ l)
-      (filter_first lacks (p, outcome) goes.0 (none_of (outcomes_of_table first p) (outcomes_of_table table p) (part p) unknown)
-      (filter_none lacks goes.0 (λ k d l. known_before (get_or goes.0 k d) (All-contains_itself goes.0 k d l))))
+    pub one_lacked : lacking_pairs first (consumed setting longer).used ≡ lacking_pairs first used ++ (p, outcome) ∷ []
+    one_lacked =
+        ap (λ (l : List Pair). lacking_pairs first l) goes.1 ∙ filter-append lacks used ((p, outcome) ∷ goes.0)
+        ∙ ap (λ (l : List Pair). lacking_pairs first used ++ l)
+        (filter_first lacks (p, outcome) goes.0 (none_of (outcomes_of_table first p) (outcomes_of_table table p) (part p) unknown)
+        (filter_none lacks goes.0 (λ k d l. known_before (get_or goes.0 k d) (All-contains_itself goes.0 k d l))))
 
-  pub part_of_more : IsPartOf (outcomes_of_table first) (outcomes_of_table longer)
-  part_of_more = part_then (outcomes_of_table first) (outcomes_of_table table) (outcomes_of_table longer) part (part_put table p outcome unknown)
+    pub part_of_more : IsPartOf (outcomes_of_table first) (outcomes_of_table longer)
+    part_of_more = part_then (outcomes_of_table first) (outcomes_of_table table) (outcomes_of_table longer) part (part_put table p outcome unknown)
 
-  pub learnt_more : (q : ℕ) → is_some (outcomes_of_table longer q) ≡ true → is_none (outcomes_of_table first q) ≡ true → IsUsedAt (consumed setting longer).used q
-  learnt_more q known lacked = subst (λ (l : List Pair). IsUsedAt l q) (sym goes.1) (⊎_elim
-      (λ same. record {
-        pair = (p, outcome);
-        among = Contains-append_right used ((p, outcome) ∷ goes.0) (p, outcome) (0, omega arith, refl);
-        place = sym (eqb-true q p same);
-      })
-      (λ apart. before (learnt q
-      (subst (λ (o : Option Outcome). is_some o ≡ true) (put_elsewhere table p q outcome (λ e. both_ways (q == p) apart (eq-eqb q p e))) known) lacked))
-      (cases_Bool (q == p)))
-    where
-      before : IsUsedAt used q → IsUsedAt (used ++ (p, outcome) ∷ goes.0) q
-      before at = record { pair = at.pair; among = Contains-append_left used ((p, outcome) ∷ goes.0) at.pair at.among; place = at.place }
+    pub learnt_more : (q : ℕ) → is_some (outcomes_of_table longer q) ≡ true → is_none (outcomes_of_table first q) ≡ true
+        → IsUsedAt (consumed setting longer).used q
+    learnt_more q known lacked = subst (λ (l : List Pair). IsUsedAt l q) (sym goes.1) (⊎_elim
+        (λ same. record {
+          pair = (p, outcome);
+          among = Contains-append_right used ((p, outcome) ∷ goes.0) (p, outcome) (0, omega arith, refl);
+          place = sym (eqb-true q p same);
+        })
+        (λ apart. before (learnt q
+        (subst (λ (o : Option Outcome). is_some o ≡ true) (put_elsewhere table p q outcome (λ e. both_ways (q == p) apart (eq-eqb q p e))) known) lacked))
+        (cases_Bool (q == p)))
+      where
+        before : IsUsedAt used q → IsUsedAt (used ++ (p, outcome) ∷ goes.0) q
+        before at = record { pair = at.pair; among = Contains-append_left used ((p, outcome) ∷ goes.0) at.pair at.among; place = at.place }
 
 -- ---- what was gained
 

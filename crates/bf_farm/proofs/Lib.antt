@@ -5,6 +5,7 @@ pub mod History
 pub mod Listed
 pub mod Marking
 pub mod Noted
+pub mod Parts
 pub mod Planned
 pub mod Promised
 pub mod Reporting

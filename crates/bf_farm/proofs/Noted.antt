@@ -1,8 +1,9 @@
 -- The events of the calling thread: a test for each answer that is gained.
-use Rattle.std.proofs.Common.{◌≡◌, ℕ, Bool, true, false, cond, ◌||◌, ◌==◌, eq-eqb, List, [], ◌∷◌, ◌++◌, Option, Some, None, refl, sym, ap, subst, ◌∙◌, append_assoc}
+use Rattle.std.proofs.Common.{◌≡◌, ℕ, Bool, true, false, cond, ◌||◌, ◌==◌, eq-eqb, List, [], ◌∷◌, ◌++◌, Option, Some, None, refl, sym, ap, subst, ◌∙◌}
+use Rattle.std.proofs.Common.{append_assoc}
 use Rattle.std.proofs.lemmas.List.{append-nil, append_cancel_left, flat_map_more}
 use Rattle.std.specs.List.{flat_map}
-use Rattle.bf_grammar.specs.declared.object.Oid.{Oid}
+use Rattle.bf_oid.specs.declared.object.Oid.{Oid}
 use Rattle.bf_search.specs.declared.farm.Event.{Event}
 use Rattle.bf_search.specs.declared.farm.Event.TheVariants as events
 use Rattle.bf_search.specs.declared.outcomes.Outcome.{Outcome}

@@ -1,12 +1,12 @@
 -- A report over a whole plan is the run on the plan.
 use Rattle.std.proofs.Common.{◌≡◌, ◌≢◌, ℕ, false, List, Option, Some, None, refl, sym, ap, ◌∙◌, IfSome}
-use Rattle.bf_grammar.specs.declared.object.Oid.{Oid}
+use Rattle.bf_oid.specs.declared.object.Oid.{Oid}
 use Rattle.bf_search.specs.declared.farm.Ending.{Ending}
 use Rattle.bf_search.specs.declared.farm.Ending.TheVariants as endings
 use Rattle.bf_search.specs.declared.outcomes.Outcome.{Outcome}
 use Rattle.bf_search.specs.Farm.{Setting, end_of}
 use Rattle.bf_search.specs.Outcomes.{outcomes_of_plan, outcomes_of_table, planned}
-use Rattle.bf_search.specs.Run.{End, seq}
+use Rattle.bf_search.specs.Run.{End, one_at_a_time}
 use Rattle.bf_state.specs.Runs.{is_open, IsPartOf}
 use Rattle.bf_state.specs.Session.{Session}
 use Rattle.bf_state.proofs.Tables.{seq_ends_alike}
@@ -38,7 +38,7 @@ closed (endings.TestFault p) unfailed = absurd (unfailed p refl)
 
 pub on_the_plan : (setting : Setting) (first : Session) (names : List Oid) (plan : List Outcome) (report : Report)
     → IsReport setting first names report → TableFollows (Some plan) report.table → ((p : ℕ) → report.ending ≢ endings.TestFault p)
-    → run_on setting report.used.items ≡ seq setting.graph setting.start (outcomes_of_plan plan) setting.leg
+    → run_on setting report.used.items ≡ one_at_a_time setting.graph setting.start (outcomes_of_plan plan) setting.leg
 on_the_plan setting first names plan report is follows unfailed =
     is.table
     ∙ sym (seq_ends_alike setting.graph setting.start (outcomes_of_table report.table) (outcomes_of_plan plan) setting.leg

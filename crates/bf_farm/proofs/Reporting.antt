@@ -1,7 +1,7 @@
 -- What is reported of a board that tells of answers alone.
 use Rattle.std.proofs.Common.{◌≡◌, ℕ, List, [], get_or, Option, Some, None, All, Contains, sym, ap, ◌∙◌, subst, arith}
 use Rattle.std.specs.List.{slice_get}
-use Rattle.bf_grammar.specs.declared.object.Oid.{Oid}
+use Rattle.bf_oid.specs.declared.object.Oid.{Oid}
 use Rattle.bf_io.specs.Causes.{Rose}
 use Rattle.bf_search.specs.declared.farm.Ending.{Ending}
 use Rattle.bf_search.specs.declared.farm.Event.{Event}
@@ -53,7 +53,8 @@ pub sound_start : (told : Option (List Outcome)) (names : List Oid) (answers : L
     → b.core.farm ≡ unclaimed table → b.events ≡ []
     → TableIn names answers table → TableFollows told table → IsSound told names answers b
 sound_start told names answers b table farm events known plan = record {
-  table = λ p outcome h. let e = subst (λ (f : Farm). outcomes_of_table f.table p ≡ Some outcome) farm h in record { answered = known p outcome e; planned = plan p outcome e };
+  table = λ p outcome h. let e = subst (λ (f : Farm). outcomes_of_table f.table p ≡ Some outcome) farm h in record
+      { answered = known p outcome e; planned = plan p outcome e };
   posts = subst (λ (es : List Event). All (λ e. IsSoundEvent told names answers e) es) (sym events) (λ k d l. absurd (omega arith));
 }
 

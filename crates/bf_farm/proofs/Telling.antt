@@ -1,17 +1,18 @@
 -- The answers of the places that a run used tell the run.
-use Rattle.std.proofs.Common.{◌≡◌, ◌≢◌, ℕ, suc, true, ◌||◌, is_some, List, [], ◌∷◌, ◌++◌, length, get_or, map, Option, Some, None, All, refl, sym, ap, ◌∙◌, subst, arith}
+use Rattle.std.proofs.Common.{◌≡◌, ◌≢◌, ℕ, suc, true, ◌||◌, is_some, List, [], ◌∷◌, ◌++◌, length, get_or, map, Option, Some, None, All, refl, sym, ap, ◌∙◌}
+use Rattle.std.proofs.Common.{subst, arith}
 use Rattle.std.specs.List.{AllPairs}
 use Rattle.std.proofs.lemmas.Bool.{both_ways}
 use Rattle.std.proofs.lemmas.List.{get_or-map, length-map}
 use Rattle.std.proofs.lemmas.List.Elements.{All-nil, All-cons}
-use Rattle.bf_grammar.specs.declared.object.Oid.{Oid}
+use Rattle.bf_oid.specs.declared.object.Oid.{Oid}
 use Rattle.bf_search.specs.declared.entries.Entry.{Entry}
 use Rattle.bf_search.specs.declared.farm.Ending.{Ending}
 use Rattle.bf_search.specs.declared.farm.Ending.TheVariants as endings
 use Rattle.bf_search.specs.declared.outcomes.Outcome.{Outcome}
 use Rattle.bf_search.specs.Outcomes.{Outcomes, outcomes_of_pairs, outcomes_of_table}
 use Rattle.bf_search.specs.Farm.{Setting, consumed, end_of}
-use Rattle.bf_search.specs.Run.{End, Answered, Leg, Open, Aborted, Run, leg_of, seq}
+use Rattle.bf_search.specs.Run.{End, Answered, Leg, Open, Aborted, Run, leg_of, one_at_a_time}
 use Rattle.bf_spec.specs.Walks.{Tells}
 use Rattle.bf_state.specs.Runs.{is_open}
 use Rattle.bf_state.specs.Session.{Session, with_search}
@@ -25,6 +26,7 @@ use Rattle.bf_farm.specs.Ends.{StopsAt}
 use Rattle.bf_farm.specs.declared.report.Report.{Report}
 use Rattle.bf_farm.specs.Used.{marked_places, aborting_place, ending_place, used_places, AreAnswersAt}
 use Rattle.bf_farm.proofs.Listed.{listed}
+use Rattle.bf_farm.proofs.Parts.{all_left, all_right}
 
 same_pair : (known : Outcomes) (a : Answer) (pair : ℕ × Outcome) → a.place ≡ pair.0 → known a.place ≡ Some a.outcome → known pair.0 ≡ Some pair.1
     → pair_of a ≡ pair
@@ -56,7 +58,8 @@ used_are setting table names answers h =
 pub run_is : (setting : Setting) (table : List (Option Outcome)) (names : List Oid) (answers : List Answer)
     → AreAnswersAt names table (used_places (consumed setting table)) answers → run_on setting answers ≡ consumed setting table
 run_is setting table names answers h =
-    ap (λ (pairs : List (ℕ × Outcome)). seq setting.graph setting.start (outcomes_of_pairs pairs) setting.leg) (used_are setting table names answers h)
+    ap (λ (pairs : List (ℕ × Outcome)). one_at_a_time setting.graph setting.start (outcomes_of_pairs pairs) setting.leg)
+    (used_are setting table names answers h)
     ∙ pairs_tell setting.graph (outcomes_of_table table) (leg_of setting.leg) setting.start
 
 -- ---- what a report says
@@ -96,14 +99,6 @@ used_known setting table =
     (listed (outcomes_of_table table) setting.graph (leg_of setting.leg) setting.start)
     (all_known (outcomes_of_table table) (consumed setting table).used (told (outcomes_of_table table) setting.graph (leg_of setting.leg) setting.start).used)
 
-all_left : (P : ℕ → Type 0) (xs ys : List ℕ) → All P (xs ++ ys) → All P xs
-all_left P [] ys h = All-nil P
-all_left P (x ∷ xs) ys h = All-cons P x xs (h 0 x (omega arith)) (all_left P xs ys (λ k d l. h (suc k) d (omega arith)))
-
-all_right : (P : ℕ → Type 0) (xs ys : List ℕ) → All P (xs ++ ys) → All P ys
-all_right P [] ys h = h
-all_right P (x ∷ xs) ys h = all_right P xs ys (λ k d l. h (suc k) d (omega arith))
-
 pub marked_known : (setting : Setting) (table other : List (Option Outcome)) (entries : List Entry) → other ≡ table
     → entries ≡ (consumed setting table).entries
     → All (λ p. is_some (outcomes_of_table other p) ≡ true) (marked_places entries)
@@ -134,7 +129,8 @@ answers_of_run setting names table other entries o answers same is tells h =
     (ending_tells o (consumed setting table).end tells)) h)
 
 -- answers of pairs with different places have different places
-apart_pairs : (answers : List Answer) → AllPairs (λ (a b : ℕ × Outcome). a.0 ≢ b.0) (map pair_of answers) → AllPairs (λ (a b : Answer). a.place ≢ b.place) answers
+apart_pairs : (answers : List Answer) → AllPairs (λ (a b : ℕ × Outcome). a.0 ≢ b.0) (map pair_of answers)
+    → AllPairs (λ (a b : Answer). a.place ≢ b.place) answers
 apart_pairs answers h = λ i j d below within.
     subst (λ (pair : ℕ × Outcome). pair.0 ≢ (get_or answers j d).place) (get_or-map pair_of answers i d (pair_of d) (omega arith))
     (subst (λ (pair : ℕ × Outcome). (get_or (map pair_of answers) i (pair_of d)).0 ≢ pair.0) (get_or-map pair_of answers j d (pair_of d) within)
@@ -174,7 +170,8 @@ reports setting first names table report entries state ending same h over =
           (used_differ setting.graph (outcomes_of_table table) over.parents (leg_of setting.leg) setting.start over.places));
       leg = (
         λ e. over_by setting table report over entries (sym ending ∙ ap (λ (x : Ending). end_of x) e),
-        λ spent. leg_only report.ending (ending ∙ leg_made setting.graph (outcomes_of_table table) over.parents setting.start setting.leg over.places spent.has_end
+        λ spent. leg_only report.ending (ending ∙ leg_made setting.graph (outcomes_of_table table) over.parents setting.start setting.leg over.places
+            spent.has_end
             (sym (ap (λ (es : List Entry). length (marks_of es)) entries) ∙ spent.made)),
       );
     }

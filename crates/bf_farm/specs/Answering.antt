@@ -2,22 +2,23 @@
 use Rattle.std.specs.Prelude.{◌≡◌, ◌≢◌, ◌↔◌, ℕ, ◌<◌, ◌≤◌, ◌*◌, ◌^◌, true, List, ◌++◌, length, map, filter, All, Option, Some}
 use Rattle.std.specs.List.{flat_map, slice_get, AllPairs}
 use Rattle.std.specs.Option.{is_none}
-use Rattle.bf_grammar.specs.declared.object.Oid.{Oid}
+use Rattle.bf_oid.specs.declared.object.Oid.{Oid}
 use Rattle.bf_io.specs.Causes.{Rose}
 use Rattle.bf_search.specs.declared.entries.Entry.{Entry}
 use Rattle.bf_search.specs.declared.farm.Ending.TheVariants.{Leg, TestFault}
 use Rattle.bf_search.specs.declared.farm.Event.{Event}
 use Rattle.bf_search.specs.declared.outcomes.Outcome.{Outcome}
 use Rattle.bf_search.specs.Farm.{Setting, consumed, end_of}
-use Rattle.bf_search.specs.Outcomes.{outcomes_of_pairs, outcomes_of_table}
+use Rattle.bf_search.specs.Outcomes.{outcomes_of_pairs, outcomes_of_plan, outcomes_of_table}
 use Rattle.bf_search.specs.OpenPaths.{left_of}
-use Rattle.bf_search.specs.Run.{Run, seq}
+use Rattle.bf_search.specs.Run.{Run, one_at_a_time}
 use Rattle.bf_guesses.specs.Ends.{marks_of}
 use Rattle.bf_guesses.specs.Halving.{IsLine, NoneSkipped, IsGoodOrBad}
 use Rattle.bf_state.specs.Session.{Session, with_search}
 use Rattle.bf_tester.specs.declared.answer.Answer.{Answer}
 use Rattle.bf_farm.specs.declared.report.Report.{Report}
 use Rattle.bf_farm.specs.Boards.{LeadsTo, unclaimed}
+use Rattle.bf_farm.specs.Cores.{CoreView}
 use Rattle.bf_farm.specs.Ends.{TestsOn, awaited, failed_test, test_of}
 use Rattle.bf_farm.specs.Reports.{TableIn, TableFollows, PostsIn, AreAmong}
 
@@ -25,13 +26,9 @@ use Rattle.bf_farm.specs.Reports.{TableIn, TableFollows, PostsIn, AreAmong}
 abbrev pub pair_of : Answer → ℕ × Outcome
 pair_of a = (a.place, a.outcome)
 
--- a run from the search of a session
-abbrev pub setting_at : List (List ℕ) → Session → ℕ → Setting
-setting_at graph first leg = record { graph = graph; start = first.search; leg = leg }
-
 -- the run on the answers that were used
 abbrev pub run_on : Setting → List Answer → Run
-run_on setting used = seq setting.graph setting.start (outcomes_of_pairs (map pair_of used)) setting.leg
+run_on setting used = one_at_a_time setting.graph setting.start (outcomes_of_pairs (map pair_of used)) setting.leg
 
 -- a leg has an end, and so many marks were made
 pub record IsLegOver (leg : ℕ) (entries : List Entry) : Type 0 where
@@ -48,6 +45,23 @@ pub record IsReport (setting : Setting) (first : Session) (names : List Oid) (re
   pub named : All (λ a. slice_get names a.place ≡ Some a.name) report.used.items
   pub once : AllPairs (λ a b. a.place ≢ b.place) report.used.items
   pub leg : (report.ending ≡ Leg) ↔ IsLegOver setting.leg report.entries.items
+
+-- so from what a core started with
+abbrev pub IsReportOver : CoreView → List Oid → Report → Type 0
+IsReportOver core names report = IsReport core.setting core.first names report
+
+-- each used answer is one of its table
+abbrev pub UsesItsTable : Report → Type 0
+UsesItsTable report = All (λ a. outcomes_of_table report.table a.place ≡ Some a.outcome) report.used.items
+
+-- no failed test ended it
+abbrev pub IsUnfailed : Report → Type 0
+IsUnfailed report = (p : ℕ) → report.ending ≢ TestFault p
+
+-- the run on the answers that it used is the run on a plan
+abbrev pub IsRunOfPlan : Setting → List Outcome → Report → Type 0
+IsRunOfPlan setting plan report =
+    run_on setting report.used.items ≡ one_at_a_time setting.graph setting.start (outcomes_of_plan plan) setting.leg
 
 -- Its events are legal from the given table, leave no claim, and lead to the reported table.
 abbrev pub HasHistory : Setting → List (Option Outcome) → Report → Type 0

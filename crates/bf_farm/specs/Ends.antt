@@ -18,6 +18,10 @@ missing [] = 0
 missing (None ∷ table) = suc (missing table)
 missing (Some outcome ∷ table) = missing table
 
+-- a turn that goes on leaves fewer places without an outcome
+abbrev pub MissesFewer : CoreView → CoreView → Turn → Type 0
+MissesFewer old new turn = turn ≡ GoesOn → missing new.farm.table < missing old.farm.table
+
 -- The run waits for this place, and the calling thread has claimed it alone.
 pub record IsAsking (core : CoreView) (p : ℕ) : Type 0 where
   pub claims : core.farm.claims ≡ (record { worker = 0; place = p }) ∷ []

@@ -1,8 +1,11 @@
 pub mod Answering
 pub mod Boards
+pub mod Cases
 pub mod Cores
 pub mod Ends
 pub mod Gains
 pub mod Reports
 pub mod Used
 pub mod Sound
+pub mod Testers
+pub mod Workers

@@ -1,7 +1,7 @@
 -- What a run of tests reports: answers that were given, and no others.
 use Rattle.std.specs.Prelude.{◌≡◌, ℕ, Bool, List, All, Contains, Option, Some}
 use Rattle.std.specs.List.{slice_get}
-use Rattle.bf_grammar.specs.declared.object.Oid.{Oid}
+use Rattle.bf_oid.specs.declared.object.Oid.{Oid}
 use Rattle.bf_search.specs.declared.farm.Event.{Event}
 use Rattle.bf_search.specs.declared.farm.Event.TheVariants as events
 use Rattle.bf_search.specs.declared.outcomes.Outcome.{Outcome}
@@ -48,13 +48,6 @@ pub record Manner : Type 0 where
 abbrev pub manner_by : {T : Type 0} → (T → Option (List Outcome)) → (T → List (List ℕ)) → (T → Bool) → (T → List Ground) → (T → List Answer) → T → Manner
 manner_by told command is_lenient grounds recalled t =
     record { told = told t; command = command t; is_lenient = is_lenient t; grounds = grounds t; recalled = recalled t }
-
--- a tester that tested more: it is of the same manner, and its answers follow the plan
-abbrev pub IsPart : {T : Type 0} → (T → Option (List Outcome)) → (T → List
-    (List ℕ)) → (T → Bool) → (T → List Ground) → (T → List Answer) → (T → List Answer) → T → T → Type 0
-IsPart told command is_lenient grounds recalled answers before after =
-    (manner_by told command is_lenient grounds recalled after ≡ manner_by told command is_lenient grounds recalled before)
-    × AnswersFollow (told before) (answers after)
 
 -- some answers are among these
 abbrev pub AreAmong : List Answer → List Answer → Type 0

@@ -1,6 +1,6 @@
 -- A board that tells of answers alone.
 use Rattle.std.specs.Prelude.{◌≡◌, ℕ, List, All, Option, Some}
-use Rattle.bf_grammar.specs.declared.object.Oid.{Oid}
+use Rattle.bf_oid.specs.declared.object.Oid.{Oid}
 use Rattle.bf_search.specs.declared.farm.Event.{Event}
 use Rattle.bf_search.specs.declared.farm.Event.TheVariants as events
 use Rattle.bf_search.specs.declared.outcomes.Outcome.{Outcome}
@@ -25,6 +25,11 @@ IsSoundEvent told names answers (events.Give worker p) = Unit {0}
 pub record IsSound (told : Option (List Outcome)) (names : List Oid) (answers : List Answer) (board : BoardView) : Type 0 where
   pub table : (p : ℕ) (outcome : Outcome) → outcomes_of_table board.core.farm.table p ≡ Some outcome → IsSoundPost told names answers p outcome
   pub posts : All (λ e. IsSoundEvent told names answers e) board.events
+
+-- a board that told of answers alone still does
+abbrev pub KeepsSound : BoardView → BoardView → Type 0
+KeepsSound old new =
+    (told : Option (List Outcome)) (names : List Oid) (answers : List Answer) → IsSound told names answers old → IsSound told names answers new
 
 -- some answers, which follow the plan, are among these
 pub record ArePartOf (told : Option (List Outcome)) (answers part : List Answer) : Type 0 where

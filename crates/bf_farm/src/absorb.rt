@@ -1,7 +1,7 @@
 //! The answers of the workers come home.
-ghost use Rattle.std.specs.Prelude.{◌≡◌, All, OnOk};
-ghost use Rattle.bf_tester.specs.declared.answer.Answer.{Answer};
-ghost use Rattle.bf_farm.specs.Reports.{manner_by, AreAmong};
+ghost use Rattle.std.specs.Prelude.{◌≡◌, OnOk};
+ghost use Rattle.bf_farm.specs.Testers.{KeepsManner, HasAnswersOf};
+ghost use Rattle.bf_farm.specs.Workers.{AreOfManner, HasAllAnswersOf};
 
 use crate::worker::Worker;
 use bf_tester::Tester;
@@ -12,12 +12,12 @@ pub(crate) fn absorb_all<T: Tester>(
     tester: &mut T,
     workers: Vec<Worker<T>>,
 ) -> Result<(), AllocError>
-    requires { All (λ w. manner_by T.told T.command T.is_lenient T.grounds T.recalled w.tester ≡ manner_by T.told T.command T.is_lenient T.grounds T.recalled tester.old) workers.items }
-    ensures manner { manner_by T.told T.command T.is_lenient T.grounds T.recalled tester.new ≡ manner_by T.told T.command T.is_lenient T.grounds T.recalled tester.old }
+    requires { AreOfManner T.Tester tester.old workers.items }
+    ensures manner { KeepsManner T.Tester tester.old tester.new }
     ensures is_split { T.is_split tester.new ≡ T.is_split tester.old }
     ensures faults { T.faults tester.new ≡ T.faults tester.old }
-    ensures own { AreAmong (T.answers tester.new) (T.answers tester.old) }
-    ensures absorbed { OnOk result (All (λ w. AreAmong (T.answers tester.new) (T.answers w.tester)) workers.items) }
+    ensures own { HasAnswersOf T.Tester tester.new tester.old }
+    ensures absorbed { OnOk result (HasAllAnswersOf T.Tester tester.new workers.items) }
 {
     for worker in workers {
         absorb(tester, worker.tester)?;
@@ -27,12 +27,12 @@ pub(crate) fn absorb_all<T: Tester>(
 
 /// Absorbs the answers of one tester.
 fn absorb<T: Tester>(tester: &mut T, other: T) -> Result<(), AllocError>
-    requires { manner_by T.told T.command T.is_lenient T.grounds T.recalled other ≡ manner_by T.told T.command T.is_lenient T.grounds T.recalled tester.old }
-    ensures manner { manner_by T.told T.command T.is_lenient T.grounds T.recalled tester.new ≡ manner_by T.told T.command T.is_lenient T.grounds T.recalled tester.old }
+    requires { KeepsManner T.Tester tester.old other }
+    ensures manner { KeepsManner T.Tester tester.old tester.new }
     ensures is_split { T.is_split tester.new ≡ T.is_split tester.old }
     ensures faults { T.faults tester.new ≡ T.faults tester.old }
-    ensures own { AreAmong (T.answers tester.new) (T.answers tester.old) }
-    ensures absorbed { OnOk result (AreAmong (T.answers tester.new) (T.answers other)) }
+    ensures own { HasAnswersOf T.Tester tester.new tester.old }
+    ensures absorbed { OnOk result (HasAnswersOf T.Tester tester.new other) }
 {
     match tester.absorb(other) {
         Ok(()) => Ok(()),

@@ -1,18 +1,15 @@
 //! Testing one commit at a time, on a board of one's own.
-ghost use Rattle.std.specs.Prelude.{◌≡◌, false, ◌≤◌, ◌<◌, [], ◌++◌, length, List, Option, None, Some, OnOk, IfOk};
-ghost use Rattle.bf_io.specs.Causes.{Rose};
-ghost use Rattle.bf_search.specs.Farm.{best_place};
-ghost use Rattle.bf_search.specs.Run.{Open};
-ghost use Rattle.bf_farm.specs.Cores.{IsSameStart, run_of};
-ghost use Rattle.bf_farm.specs.Answering.{IsReport, IsSoundReport, HasHistory, HasFault, IsAlone, ReportsTests, setting_at, lacking, Halves};
-ghost use Rattle.bf_farm.specs.Gains.{GainsMore};
+ghost use Rattle.std.specs.Prelude.{◌≡◌, false, ◌≤◌, ◌<◌, [], length, OnOk, IfOk};
+ghost use Rattle.bf_farm.specs.Answering.{HasHistory, IsAlone, Halves, IsReportOver};
+ghost use Rattle.bf_farm.specs.Cases.{setting_of, IsReportOn, HasHistoryOn};
+ghost use Rattle.bf_farm.specs.Cores.{IsSameStart, IsSameLength};
+ghost use Rattle.bf_farm.specs.Ends.{IsAsking, IsNext, GainsClaim, MissesFewer};
+ghost use Rattle.bf_farm.specs.Reports.{TableIn, TableFollows};
+ghost use Rattle.bf_farm.specs.Sound.{IsSound, KeepsSound};
+ghost use Rattle.bf_farm.specs.Testers.{KeepsManner, StaysSound, GainsBy, EndsBy, TurnEndsBy};
+ghost use Rattle.bf_farm.specs.Testers.{TestsOnBy, TurnTestsBy, TestsClaimedBy, ReportsTestsBy};
+ghost use Rattle.bf_farm.specs.Testers.{IsSoundBy, HasFaultBy, GainsLacking};
 ghost use Rattle.bf_guesses.specs.Ends.{HasEnds};
-ghost use Rattle.bf_farm.specs.Ends.{EndsWith, IsAsking, IsNext, TurnEnds, GainsClaim, TestsClaimed, TestsOn, TurnTests, missing};
-ghost use Rattle.bf_farm.specs.Reports.{manner_by, TableIn, TableFollows};
-ghost use Rattle.bf_farm.specs.Sound.{IsSound};
-ghost use Rattle.bf_grammar.specs.declared.object.Oid.{Oid as OidValue};
-ghost use Rattle.bf_search.specs.declared.outcomes.Outcome.{Outcome};
-ghost use Rattle.bf_tester.specs.declared.answer.Answer.{Answer};
 
 use crate::board::Board;
 use crate::case::Case;
@@ -40,7 +37,7 @@ enum Turn {
 fn next_place(board: &mut Board<'_>) -> Result<Option<u32>, AllocError>
     requires { board.old.core.farm.claims ≡ [] }
     ensures next { IfOk result (IsNext board.new.core) }
-    ensures sound { OnOk result ((told : Option (List Outcome)) (names : List OidValue) (answers : List Answer) → IsSound told names answers board.old → IsSound told names answers board.new) }
+    ensures sound { OnOk result (KeepsSound board.old board.new) }
     ensures start { OnOk result (IsSameStart board.old.core board.new.core) }
     ensures first { OnOk result (board.new.first ≡ board.old.first) }
     ensures table { OnOk result (board.new.core.farm.table ≡ board.old.core.farm.table) }
@@ -64,17 +61,20 @@ fn test_claimed<R: Host, T: Tester>(
     requires named { place < length names.now }
     requires within { place < length board.old.core.farm.table }
     requires asking { IsAsking board.old.core place }
-    ensures sound { OnOk result (IsSound (T.told tester.old) names.now (T.answers tester.old) board.old → IsSound (T.told tester.old) names.now (T.answers tester.new) board.new) }
-    ensures gains { OnOk result (GainsMore names.now board.old.core (T.answers tester.old) board.new.core (T.answers tester.new)) }
+    ensures sound { OnOk result
+        (StaysSound T.Tester tester.old tester.new names.now board.old board.new) }
+    ensures gains { OnOk result
+        (GainsBy T.Tester tester.old tester.new names.now board.old board.new) }
     ensures start { OnOk result (IsSameStart board.old.core board.new.core) }
     ensures first { OnOk result (board.new.first ≡ board.old.first) }
-    ensures manner { manner_by T.told T.command T.is_lenient T.grounds T.recalled tester.new ≡ manner_by T.told T.command T.is_lenient T.grounds T.recalled tester.old }
+    ensures manner { KeepsManner T.Tester tester.old tester.new }
     ensures is_split { T.is_split tester.new ≡ T.is_split tester.old }
     ensures faults { T.faults tester.old ≤ T.faults tester.new }
-    ensures ends { IfOk result (TurnEnds board.new.core (T.faults tester.old) (T.faults tester.new) (T.failed tester.new)) }
-    ensures fewer { IfOk result (λ turn. turn ≡ Turn.GoesOn → missing board.new.core.farm.table < missing board.old.core.farm.table) }
-    ensures len { OnOk result (length board.new.core.farm.table ≡ length board.old.core.farm.table) }
-    ensures alone { IfOk result (TestsClaimed place board.old.events (T.answers tester.old) board.new.events (T.answers tester.new)) }
+    ensures ends { IfOk result (TurnEndsBy T.Tester tester.old tester.new board.new) }
+    ensures fewer { IfOk result (MissesFewer board.old.core board.new.core) }
+    ensures len { OnOk result (IsSameLength board.old.core board.new.core) }
+    ensures alone { IfOk result
+        (TestsClaimedBy T.Tester tester.old tester.new place board.old board.new) }
 {
     let name = names[place as usize];
     match tester.test(rt, place, name, &mut StopView::none()) {
@@ -100,17 +100,19 @@ fn take_turn<R: Host, T: Tester>(
 ) -> Result<Turn, AllocError>
     requires named { length names.now ≡ length board.old.core.farm.table }
     requires claims { board.old.core.farm.claims ≡ [] }
-    ensures sound { OnOk result (IsSound (T.told tester.old) names.now (T.answers tester.old) board.old → IsSound (T.told tester.old) names.now (T.answers tester.new) board.new) }
-    ensures gains { OnOk result (GainsMore names.now board.old.core (T.answers tester.old) board.new.core (T.answers tester.new)) }
+    ensures sound { OnOk result
+        (StaysSound T.Tester tester.old tester.new names.now board.old board.new) }
+    ensures gains { OnOk result
+        (GainsBy T.Tester tester.old tester.new names.now board.old board.new) }
     ensures start { OnOk result (IsSameStart board.old.core board.new.core) }
     ensures first { OnOk result (board.new.first ≡ board.old.first) }
-    ensures manner { manner_by T.told T.command T.is_lenient T.grounds T.recalled tester.new ≡ manner_by T.told T.command T.is_lenient T.grounds T.recalled tester.old }
+    ensures manner { KeepsManner T.Tester tester.old tester.new }
     ensures is_split { T.is_split tester.new ≡ T.is_split tester.old }
     ensures faults { T.faults tester.old ≤ T.faults tester.new }
-    ensures ends { IfOk result (TurnEnds board.new.core (T.faults tester.old) (T.faults tester.new) (T.failed tester.new)) }
-    ensures fewer { IfOk result (λ turn. turn ≡ Turn.GoesOn → missing board.new.core.farm.table < missing board.old.core.farm.table) }
-    ensures len { OnOk result (length board.new.core.farm.table ≡ length board.old.core.farm.table) }
-    ensures alone { IfOk result (TurnTests board.old.events (T.answers tester.old) board.new.events (T.answers tester.new)) }
+    ensures ends { IfOk result (TurnEndsBy T.Tester tester.old tester.new board.new) }
+    ensures fewer { IfOk result (MissesFewer board.old.core board.new.core) }
+    ensures len { OnOk result (IsSameLength board.old.core board.new.core) }
+    ensures alone { IfOk result (TurnTestsBy T.Tester tester.old tester.new board.old board.new) }
 {
     match next_place(board)? {
         Some(place) => test_claimed(rt, board, names, tester, place),
@@ -128,17 +130,19 @@ pub(crate) fn go_on<R: Host, T: Tester>(
 ) -> Result<Option<u32>, AllocError>
     requires named { length names.now ≡ length board.old.core.farm.table }
     requires claims { board.old.core.farm.claims ≡ [] }
-    ensures sound { OnOk result (IsSound (T.told tester.old) names.now (T.answers tester.old) board.old → IsSound (T.told tester.old) names.now (T.answers tester.new) board.new) }
-    ensures gains { OnOk result (GainsMore names.now board.old.core (T.answers tester.old) board.new.core (T.answers tester.new)) }
+    ensures sound { OnOk result
+        (StaysSound T.Tester tester.old tester.new names.now board.old board.new) }
+    ensures gains { OnOk result
+        (GainsBy T.Tester tester.old tester.new names.now board.old board.new) }
     ensures start { OnOk result (IsSameStart board.old.core board.new.core) }
     ensures first { OnOk result (board.new.first ≡ board.old.first) }
-    ensures manner { manner_by T.told T.command T.is_lenient T.grounds T.recalled tester.new ≡ manner_by T.told T.command T.is_lenient T.grounds T.recalled tester.old }
+    ensures manner { KeepsManner T.Tester tester.old tester.new }
     ensures is_split { T.is_split tester.new ≡ T.is_split tester.old }
     ensures later { T.faults tester.old ≤ T.faults tester.new }
-    ensures ends { IfOk result (EndsWith board.new.core (T.faults tester.old) (T.faults tester.new) (T.failed tester.new)) }
+    ensures ends { IfOk result (EndsBy T.Tester tester.old tester.new board.new) }
     ensures claims { OnOk result (board.new.core.farm.claims ≡ []) }
-    ensures len { OnOk result (length board.new.core.farm.table ≡ length board.old.core.farm.table) }
-    ensures alone { IfOk result (TestsOn board.old.events (T.answers tester.old) board.new.events (T.answers tester.new)) }
+    ensures len { OnOk result (IsSameLength board.old.core board.new.core) }
+    ensures alone { IfOk result (TestsOnBy T.Tester tester.old tester.new board.old board.new) }
 {
     loop {
         match take_turn(rt, board, names, tester)? {
@@ -160,15 +164,16 @@ pub(crate) fn finish<R: Host, T: Tester>(
     requires named { length names.now ≡ length board.core.farm.table }
     requires claims { board.core.farm.claims ≡ [] }
     requires sound { IsSound (T.told tester.old) names.now (T.answers tester.old) board }
-    ensures report { IfOk result (IsReport board.entry.core.setting board.entry.core.first names.now) }
+    ensures report { IfOk result (IsReportOver board.entry.core names.now) }
     ensures history { IfOk result (HasHistory board.entry.core.setting board.entry.first) }
-    ensures sound { IfOk result (IsSoundReport (T.told tester.old) names.now (T.answers tester.new)) }
-    ensures fault { IfOk result (HasFault (T.faults tester.old) (T.faults tester.new) (T.failed tester.new)) }
+    ensures sound { IfOk result (IsSoundBy T.Tester tester.old tester.new names.now) }
+    ensures fault { IfOk result (HasFaultBy T.Tester tester.old tester.new) }
     ensures later { T.faults tester.old ≤ T.faults tester.new }
-    ensures lacking { IfOk result (λ report. T.answers tester.new ≡ T.answers tester.old ++ lacking board.entry.core.farm.table report.used.items) }
+    ensures lacking { IfOk result
+        (GainsLacking T.Tester tester.old tester.new board.entry.core.farm.table) }
     ensures halving { IfOk result (Halves board.entry.core.setting) }
-    ensures alone { IfOk result (ReportsTests board.entry.events (T.answers tester.old) (T.answers tester.new)) }
-    ensures manner { manner_by T.told T.command T.is_lenient T.grounds T.recalled tester.new ≡ manner_by T.told T.command T.is_lenient T.grounds T.recalled tester.old }
+    ensures alone { IfOk result (ReportsTestsBy T.Tester tester.old tester.new board.entry) }
+    ensures manner { KeepsManner T.Tester tester.old tester.new }
     ensures is_split { T.is_split tester.new ≡ T.is_split tester.old }
 {
     let mut board = board;
@@ -194,15 +199,15 @@ pub fn run_alone<R: Host, T: Tester>(
     requires known { TableIn case.names.now (T.answers tester.old) case.table }
     requires plan { TableFollows (T.told tester.old) case.table }
     requires is_split { T.is_split tester.old ≡ false }
-    ensures report { IfOk result (IsReport (setting_at case.entry.reach.now case.entry.state case.entry.leg) case.entry.state case.entry.names.now) }
-    ensures history { IfOk result (HasHistory (setting_at case.entry.reach.now case.entry.state case.entry.leg) case.entry.table) }
-    ensures sound { IfOk result (IsSoundReport (T.told tester.old) case.entry.names.now (T.answers tester.new)) }
-    ensures fault { IfOk result (HasFault (T.faults tester.old) (T.faults tester.new) (T.failed tester.new)) }
+    ensures report { IfOk result (IsReportOn case.entry) }
+    ensures history { IfOk result (HasHistoryOn case.entry) }
+    ensures sound { IfOk result (IsSoundBy T.Tester tester.old tester.new case.entry.names.now) }
+    ensures fault { IfOk result (HasFaultBy T.Tester tester.old tester.new) }
     ensures later { T.faults tester.old ≤ T.faults tester.new }
-    ensures lacking { IfOk result (λ report. T.answers tester.new ≡ T.answers tester.old ++ lacking case.entry.table report.used.items) }
-    ensures halving { IfOk result (Halves (setting_at case.entry.reach.now case.entry.state case.entry.leg)) }
+    ensures lacking { IfOk result (GainsLacking T.Tester tester.old tester.new case.entry.table) }
+    ensures halving { IfOk result (Halves (setting_of case.entry)) }
     ensures alone { IfOk result (IsAlone case.entry.table) }
-    ensures manner { manner_by T.told T.command T.is_lenient T.grounds T.recalled tester.new ≡ manner_by T.told T.command T.is_lenient T.grounds T.recalled tester.old }
+    ensures manner { KeepsManner T.Tester tester.old tester.new }
     ensures is_split { T.is_split tester.new ≡ false }
 {
     let Case {

@@ -1,15 +1,14 @@
 //! What workers share behind a lock.
-ghost use Rattle.std.specs.Prelude.{◌≡◌, ◌<◌, ◌≤◌, ◌+◌, true, false, [], ◌∷◌, ◌++◌, length, Some, None, IfOk, OnOk, OnErr, IfSome, IfNone, vec_len, vec_capacity};
+ghost use Rattle.std.specs.Prelude.{◌≡◌, ◌<◌, ◌≤◌, ◌+◌, true, false, [], ◌∷◌, ◌++◌, length, IfOk, OnOk, OnErr, IfSome, IfNone, vec_len, vec_capacity};
 ghost use Rattle.bf_guesses.specs.Ends.{HasEnds};
 ghost use Rattle.bf_search.specs.Farm.{stands, has_claim};
-ghost use Rattle.bf_search.specs.declared.farm.Event.TheVariants as event;
-ghost use Rattle.std.specs.List.Sorted.{IsStrictlyIncreasing};
 ghost use Rattle.bf_core.specs.Machine.{IsOverGraph};
-ghost use Rattle.bf_farm.specs.Cores.{AreWithdrawn, run_of};
-ghost use Rattle.bf_state.specs.Session.{with_search};
-ghost use Rattle.bf_spec.specs.Walks.{Tells};
-ghost use Rattle.bf_farm.specs.Boards.{LeadsTo, unclaimed, BoardView, IsSameBoard, Does, DoesIf, PicksFor, PicksNew, claimed_by};
+ghost use Rattle.bf_farm.specs.Boards.{unclaimed, StartsFrom, IsLed, IsStanding, IsSameBoard, DoesIf, PicksAsClaimed, PicksNew};
+ghost use Rattle.bf_farm.specs.Boards.{claimed_by, is_claimed, PostsIfClaimed, GivesIfClaimed};
+ghost use Rattle.bf_farm.specs.Cores.{run_of, state_of};
+ghost use Rattle.bf_farm.specs.Cores.{AreWithdrawn, IsAscending, WithdrawsNone};
 ghost use Rattle.bf_farm.specs.Sound.{GivesBack};
+ghost use Rattle.bf_spec.specs.Walks.{Tells};
 
 use bf_core::{ApplyFault, Core, CoreParts, Pick, Withdrawn};
 use bf_reach::Reach;
@@ -34,15 +33,20 @@ pub struct Board<'r> {
 
 impl<'r> Model for Board<'r> {
     ghost use Rattle.std.specs.Prelude.{◌≤◌, ◌+◌, ◌-◌, length, vec_len, vec_capacity};
-    ghost use Rattle.bf_core.specs.Machine.{setting_of, farm_of};
-    ghost use Rattle.bf_farm.specs.Boards.{BoardView, LeadsTo};
+    ghost use Rattle.bf_farm.specs.Boards.{BoardView, LeadsToCore};
     ghost use Rattle.bf_farm.specs.Cores.{view_of};
 
     ghost Value = { BoardView };
 
-    ghost view = { λ b. record { core = view_of b.core; first = b.first; events = b.events.items; spare = vec_capacity b.events - vec_len b.events } };
+    ghost view = { λ b. record {
+      core = view_of b.core;
+      first = b.first;
+      events = b.events.items;
+      spare = vec_capacity b.events - vec_len b.events;
+    } };
 
-    ghost invariant = { λ b. LeadsTo (setting_of b.core) b.first b.events.items (farm_of b.core) × (vec_len b.events + length b.core.claims ≤ vec_capacity b.events) };
+    ghost invariant = { λ b. LeadsToCore b.first b.events.items b.core
+        × (vec_len b.events + length b.core.claims ≤ vec_capacity b.events) };
 }
 
 impl<'r> Board<'r> {
@@ -58,7 +62,7 @@ impl<'r> Board<'r> {
         requires reach { length reach.now ≡ state.len }
         requires table { length table ≡ state.len }
         requires ends { HasEnds state.search }
-        ensures setting { IfOk result (λ board. board.core.setting ≡ record { graph = reach.entry.now; start = state.search; leg = leg }) }
+        ensures setting { IfOk result (StartsFrom reach.entry.now state leg) }
         ensures state { IfOk result (λ board. board.core.first ≡ state) }
         ensures farm { IfOk result (λ board. board.core.farm ≡ unclaimed table) }
         ensures first { IfOk result (λ board. board.first ≡ table) }
@@ -78,7 +82,7 @@ impl<'r> Board<'r> {
     /// where there is one. After want of memory nothing but the room has changed.
     #[tactic(auto, using(crate::proofs::History::no_claim))]
     pub fn pick(&mut self, worker: u32) -> Result<Pick, AllocError>
-        ensures pick { IfOk result (PicksFor (claimed_by self.old.core.farm.claims worker) self.old self.new worker) }
+        ensures pick { IfOk result (PicksAsClaimed self.old self.new worker) }
         ensures err { OnErr result (IsSameBoard self.old self.new) }
     {
         match claim_of(self.core.claims(), worker) {
@@ -136,7 +140,7 @@ impl<'r> Board<'r> {
     /// The oldest claim that stands.
     pub(crate) fn first_claim(&self) -> Option<Claim>
         ensures within { IfSome result (λ claim. claim.place < length self.now.core.farm.table) }
-        ensures some { IfSome result (λ claim. stands self.now.core.farm.claims claim.worker claim.place ≡ true) }
+        ensures some { IfSome result (IsStanding self.now) }
         ensures none { IfNone result (self.now.core.farm.claims ≡ []) }
     {
         self.core.claims().first().copied()
@@ -145,12 +149,12 @@ impl<'r> Board<'r> {
     /// The parts of the core, and the events.
     pub(crate) fn into_parts(self) -> (CoreParts, Vec<Event>)
         ensures entries { result.0.entries.items ≡ (run_of self.entry.core).entries }
-        ensures state { result.0.state ≡ with_search self.entry.core.first (run_of self.entry.core).search }
+        ensures state { result.0.state ≡ state_of self.entry.core }
         ensures ending { Tells result.0.ending (run_of self.entry.core).end }
         ensures table { result.0.table ≡ self.entry.core.farm.table }
         ensures over { IsOverGraph self.entry.core.setting }
         ensures events { result.1.items ≡ self.entry.events }
-        ensures history { LeadsTo self.entry.core.setting self.entry.first self.entry.events self.entry.core.farm }
+        ensures history { IsLed self.entry }
     {
         (self.core.into_parts(), self.events)
     }
@@ -171,10 +175,11 @@ impl<'r> Board<'r> {
         place: u32,
         outcome: Outcome,
     ) -> Result<Withdrawn, AllocError>
-        ensures done { OnOk result (DoesIf (stands self.old.core.farm.claims worker place) self.old self.new (event.Post worker place outcome)) }
-        ensures withdrawn { stands self.old.core.farm.claims worker place ≡ true → IfOk result (λ withdrawn. AreWithdrawn self.new.core withdrawn.workers.items) }
-        ensures ascending { IfOk result (λ withdrawn. IsStrictlyIncreasing withdrawn.workers.items) }
-        ensures none { stands self.old.core.farm.claims worker place ≡ false → IfOk result (λ withdrawn. withdrawn.workers.items ≡ []) }
+        ensures done { OnOk result (PostsIfClaimed self.old self.new worker place outcome) }
+        ensures withdrawn { is_claimed self.old worker place ≡ true →
+            IfOk result (λ withdrawn. AreWithdrawn self.new.core withdrawn.workers.items) }
+        ensures ascending { IfOk result IsAscending }
+        ensures none { is_claimed self.old worker place ≡ false → IfOk result WithdrawsNone }
         ensures err { OnErr result (IsSameBoard self.old self.new) }
     {
         if !stands(self.core.claims(), worker, place) {
@@ -197,7 +202,7 @@ impl<'r> Board<'r> {
     /// Gives a claimed place back untested. Where the claim does not stand nothing changes. It takes no
     /// memory.
     pub fn give(&mut self, worker: u32, place: u32)
-        ensures { DoesIf (stands self.old.core.farm.claims worker place) self.old self.new (event.Give worker place) }
+        ensures { GivesIfClaimed self.old self.new worker place }
     {
         if stands(self.core.claims(), worker, place) {
             self.core.give(worker, place);

@@ -1,11 +1,10 @@
 //! Testing several commits at once.
-ghost use Rattle.std.specs.Prelude.{◌≡◌, false, ◌≤◌, [], length, List, Option, All, IfOk};
-ghost use Rattle.bf_farm.specs.Answering.{IsReport, IsSoundReport, HasHistory, HasFault, setting_at};
-ghost use Rattle.bf_farm.specs.Reports.{manner_by, IsPart, TableIn, TableFollows};
-ghost use Rattle.bf_farm.specs.Sound.{IsSound, ArePartOf};
+ghost use Rattle.std.specs.Prelude.{◌≡◌, false, ◌≤◌, [], length, IfOk};
+ghost use Rattle.bf_farm.specs.Cases.{setting_of, IsReportOn, HasHistoryOn, IsSoundAgain};
+ghost use Rattle.bf_farm.specs.Reports.{TableIn, TableFollows};
+ghost use Rattle.bf_farm.specs.Testers.{KeepsManner, IsSoundBy, HasFaultBy};
+ghost use Rattle.bf_farm.specs.Workers.{ArePartsOf};
 ghost use Rattle.bf_guesses.specs.Ends.{HasEnds};
-ghost use Rattle.bf_search.specs.declared.outcomes.Outcome.{Outcome};
-ghost use Rattle.bf_tester.specs.declared.answer.Answer.{Answer};
 
 use crate::absorb::absorb_all;
 use crate::alone::finish;
@@ -31,7 +30,7 @@ fn board_of<'r>(alloc: Global, case: &Case<'r>) -> Result<Board<'r>, AllocError>
     requires len { length case.now.reach.now ≡ case.now.state.len }
     requires table { length case.now.table ≡ case.now.state.len }
     requires ends { HasEnds case.now.state.search }
-    ensures setting { IfOk result (λ board. board.core.setting ≡ setting_at case.entry.now.reach.now case.entry.now.state case.entry.now.leg) }
+    ensures setting { IfOk result (λ board. board.core.setting ≡ setting_of case.entry.now) }
     ensures first { IfOk result (λ board. board.first ≡ case.entry.now.table) }
 {
     let state = case.state.try_clone()?;
@@ -51,7 +50,7 @@ fn work_apart<R: Host, T: Tester>(
     requires len { length case.now.reach.now ≡ case.now.state.len }
     requires table { length case.now.table ≡ case.now.state.len }
     requires ends { HasEnds case.now.state.search }
-    ensures { IfOk result (λ team. All (λ w. IsPart T.told T.command T.is_lenient T.grounds T.recalled T.answers tester.now w.tester) team.workers.items) }
+    ensures { IfOk result (λ team. ArePartsOf T.Tester tester.now team.workers.items) }
 {
     let board = board_of(alloc, case)?;
     let flags = lowered(alloc, count)?;
@@ -83,12 +82,12 @@ fn board_again<'r, T: Tester>(
     requires len { length case.reach.now ≡ case.state.len }
     requires table { length case.table ≡ case.state.len }
     requires ends { HasEnds case.state.search }
-    ensures setting { IfOk result (λ board. board.core.setting ≡ setting_at case.entry.reach.now case.entry.state case.entry.leg) }
+    ensures setting { IfOk result (λ board. board.core.setting ≡ setting_of case.entry) }
     ensures state { IfOk result (λ board. board.core.first ≡ case.entry.state) }
     ensures first { IfOk result (λ board. board.first ≡ case.entry.table) }
     ensures claims { IfOk result (λ board. board.core.farm.claims ≡ []) }
     ensures len { IfOk result (λ board. length board.core.farm.table ≡ length case.entry.table) }
-    ensures sound { IfOk result (λ board. (told : Option (List Outcome)) (answers : List Answer) → All (λ w. ArePartOf told answers (T.answers w.tester)) team.now.workers.items → TableIn case.entry.names.now answers case.entry.table → TableFollows told case.entry.table → IsSound told case.entry.names.now answers board) }
+    ensures sound { IfOk result (IsSoundAgain T.Tester team.now.workers.items case.entry) }
 {
     let Case {
         reach,
@@ -131,12 +130,12 @@ pub fn run_farm<R: Host, T: Tester>(
     requires is_split { T.is_split tester.old ≡ false }
     requires some { 1 ≤ workers }
     requires most { workers ≤ 64 }
-    ensures report { IfOk result (IsReport (setting_at case.entry.reach.now case.entry.state case.entry.leg) case.entry.state case.entry.names.now) }
-    ensures history { IfOk result (HasHistory (setting_at case.entry.reach.now case.entry.state case.entry.leg) case.entry.table) }
-    ensures sound { IfOk result (IsSoundReport (T.told tester.old) case.entry.names.now (T.answers tester.new)) }
-    ensures fault { IfOk result (HasFault (T.faults tester.old) (T.faults tester.new) (T.failed tester.new)) }
+    ensures report { IfOk result (IsReportOn case.entry) }
+    ensures history { IfOk result (HasHistoryOn case.entry) }
+    ensures sound { IfOk result (IsSoundBy T.Tester tester.old tester.new case.entry.names.now) }
+    ensures fault { IfOk result (HasFaultBy T.Tester tester.old tester.new) }
     ensures later { T.faults tester.old ≤ T.faults tester.new }
-    ensures manner { manner_by T.told T.command T.is_lenient T.grounds T.recalled tester.new ≡ manner_by T.told T.command T.is_lenient T.grounds T.recalled tester.old }
+    ensures manner { KeepsManner T.Tester tester.old tester.new }
     ensures is_split { T.is_split tester.new ≡ false }
 {
     let names = case.names;

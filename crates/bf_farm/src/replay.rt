@@ -1,10 +1,8 @@
 //! The replay of what the workers did, on a board of one's own.
-ghost use Rattle.std.specs.Prelude.{◌≡◌, true, List, Option, All, OnOk, length};
-ghost use Rattle.bf_farm.specs.Cores.{IsSameStart};
-ghost use Rattle.bf_search.specs.declared.outcomes.Outcome.{Outcome};
-ghost use Rattle.bf_tester.specs.declared.answer.Answer.{Answer};
+ghost use Rattle.std.specs.Prelude.{◌≡◌, true, OnOk};
+ghost use Rattle.bf_farm.specs.Cores.{IsSameStart, IsSameLength};
 ghost use Rattle.bf_farm.specs.Reports.{IsAnswered};
-ghost use Rattle.bf_farm.specs.Sound.{IsSound, IsSoundPost, IsSoundEvent, ArePartOf};
+ghost use Rattle.bf_farm.specs.Workers.{IsPostBy, IsEventBy, KeepsSoundBy};
 
 use crate::board::Board;
 use crate::worker::Worker;
@@ -42,7 +40,7 @@ fn is_answered<T: Tester>(
     worker: u32,
     answer: (u32, Outcome),
 ) -> bool
-    ensures { result ≡ true → (told : Option (List Outcome)) (answers : List Answer) → All (λ w. ArePartOf told answers (T.answers w.tester)) workers.now → IsSoundPost told names.now answers answer.0 answer.1 }
+    ensures { result ≡ true → IsPostBy T.Tester workers.now names.now answer }
 {
     let index = (worker as usize).saturating_sub(1);
     let (Some(worker), Some(count)) = (workers.get(index), seen.get_mut(index)) else {
@@ -61,7 +59,7 @@ fn checked<T: Tester>(
     names: &[Oid],
     event: Event,
 ) -> Event
-    ensures { (told : Option (List Outcome)) (answers : List Answer) → All (λ w. ArePartOf told answers (T.answers w.tester)) workers.now → IsSoundEvent told names.now answers result }
+    ensures { IsEventBy T.Tester workers.now names.now result }
 {
     match event {
         Event::Post {
@@ -90,8 +88,8 @@ pub(crate) fn replay<T: Tester>(
 ) -> Result<(), AllocError>
     ensures start { OnOk result (IsSameStart board.old.core board.new.core) }
     ensures first { OnOk result (board.new.first ≡ board.old.first) }
-    ensures len { OnOk result (length board.new.core.farm.table ≡ length board.old.core.farm.table) }
-    ensures sound { OnOk result ((told : Option (List Outcome)) (answers : List Answer) → All (λ w. ArePartOf told answers (T.answers w.tester)) workers.now → IsSound told names.now answers board.old → IsSound told names.now answers board.new) }
+    ensures len { OnOk result (IsSameLength board.old.core board.new.core) }
+    ensures sound { OnOk result (KeepsSoundBy T.Tester workers.now names.now board.old board.new) }
 {
     for event in events {
         let event = checked(workers, seen, names, *event);

@@ -1,15 +1,16 @@
 //! What a run of tests reports.
-ghost use Rattle.std.specs.Prelude.{◌≡◌, ◌||◌, ◌++◌, ◌∷◌, [], ℕ, List, true, length, All, Some, IfOk, OnOk};
+ghost use Rattle.std.specs.Prelude.{◌≡◌, ◌||◌, ◌∷◌, [], true, length, IfOk, OnOk};
 ghost use Rattle.std.specs.Option.{is_some, option_copied};
 ghost use Rattle.bf_search.specs.Farm.{end_of};
 ghost use Rattle.bf_search.specs.Outcomes.{outcomes_of_table};
 ghost use Rattle.bf_search.specs.Run.{End};
 ghost use Rattle.bf_spec.specs.Walks.{Tells};
 ghost use Rattle.bf_core.specs.Machine.{IsOverGraph};
-ghost use Rattle.bf_farm.specs.Answering.{IsReport, HasHistory};
+ghost use Rattle.bf_farm.specs.Answering.{IsReportOver, UsesItsTable, HasHistory};
 ghost use Rattle.bf_farm.specs.Cores.{run_of};
 ghost use Rattle.bf_farm.specs.Ends.{StopsAt};
-ghost use Rattle.bf_farm.specs.Used.{marked_places, ending_place, IsAnswerAt, AreAnswersAt};
+ghost use Rattle.bf_farm.specs.Used.{AreKnown, marked_places, ending_place, told_places};
+ghost use Rattle.bf_farm.specs.Used.{IsAnswerAt, AreAnswersAt, AreMarkedAnswers, AddsMarked};
 
 use crate::board::Board;
 use bf_core::CoreParts;
@@ -61,8 +62,8 @@ fn marked_of(
     names: &[Oid],
 ) -> Result<Vec<Answer>, AllocError>
     requires names { length names.now ≡ length table.now }
-    requires known { All (λ p. is_some (outcomes_of_table table.now p) ≡ true) (marked_places entries.now) }
-    ensures { IfOk result (λ used. AreAnswersAt names.now table.now (marked_places entries.now) used.items) }
+    requires known { AreKnown table.now (marked_places entries.now) }
+    ensures { IfOk result (λ used. AreMarkedAnswers names.now table.now entries.now used.items) }
 {
     let mut used = Vec::new(alloc);
     for entry in entries {
@@ -79,8 +80,8 @@ fn note_marked(
     entry: &Entry,
 ) -> Result<(), AllocError>
     requires names { length names.now ≡ length table.now }
-    requires known { All (λ p. is_some (outcomes_of_table table.now p) ≡ true) (marked_places (entry.now ∷ [])) }
-    ensures { OnOk result ((ps : List ℕ) → AreAnswersAt names.now table.now ps used.old.items → AreAnswersAt names.now table.now (ps ++ marked_places (entry.now ∷ [])) used.new.items) }
+    requires known { AreKnown table.now (marked_places (entry.now ∷ [])) }
+    ensures { OnOk result (AddsMarked names.now table.now entry.now used.old.items used.new.items) }
 {
     if let Entry::Marked { place, .. } = entry {
         used.push(answer_at(table, names, *place))?;
@@ -97,9 +98,10 @@ fn used_of(
     names: &[Oid],
 ) -> Result<Vec<Answer>, AllocError>
     requires names { length names.now ≡ length table.now }
-    requires marked { All (λ p. is_some (outcomes_of_table table.now p) ≡ true) (marked_places entries.now) }
-    requires aborting { All (λ p. is_some (outcomes_of_table table.now p) ≡ true) (ending_place (option_copied ending)) }
-    ensures { IfOk result (λ used. AreAnswersAt names.now table.now (marked_places entries.now ++ ending_place (option_copied ending.entry)) used.items) }
+    requires marked { AreKnown table.now (marked_places entries.now) }
+    requires aborting { AreKnown table.now (ending_place (option_copied ending)) }
+    ensures { IfOk result (λ used.
+        AreAnswersAt names.now table.now (told_places entries.now ending.entry) used.items) }
 {
     let mut used = marked_of(alloc, table, entries, names)?;
     if let Some(Ending::Aborted { place, .. }) = ending {
@@ -130,12 +132,12 @@ pub(crate) fn report_of(
     requires names { length names.now ≡ length board.core.farm.table }
     requires claims { board.core.farm.claims ≡ [] }
     requires stops { StopsAt (run_of board.core).end failed }
-    ensures report { IfOk result (IsReport board.entry.core.setting board.entry.core.first names.now) }
+    ensures report { IfOk result (IsReportOver board.entry.core names.now) }
     ensures over { OnOk result (IsOverGraph board.entry.core.setting) }
     ensures history { IfOk result (HasHistory board.entry.core.setting board.entry.first) }
     ensures table { IfOk result (λ report. report.table ≡ board.entry.core.farm.table) }
     ensures events { IfOk result (λ report. report.events.items ≡ board.entry.events) }
-    ensures used { IfOk result (λ report. All (λ a. outcomes_of_table report.table a.place ≡ Some a.outcome) report.used.items) }
+    ensures used { IfOk result UsesItsTable }
 {
     let (parts, events) = board.into_parts();
     let CoreParts {

@@ -1,7 +1,8 @@
 //! The threads of a run.
-ghost use Rattle.std.specs.Prelude.{◌≡◌, ℕ, ◌<◌, [], length, All, IfOk};
-ghost use Rattle.std.specs.List.{slice_index_or};
-ghost use Rattle.bf_farm.specs.Reports.{AnswersFollow, manner_by, IsPart};
+ghost use Rattle.std.specs.Prelude.{◌≡◌, [], All, IfOk};
+ghost use Rattle.bf_farm.specs.Reports.{AnswersFollow};
+ghost use Rattle.bf_farm.specs.Testers.{IsPart};
+ghost use Rattle.bf_farm.specs.Workers.{AreOfManner, TestedMore};
 
 use crate::board::Board;
 use crate::worker::{Shared, Worker, work};
@@ -19,7 +20,7 @@ pub(crate) fn split_all<T: Tester>(
     tester: &T,
     count: u32,
 ) -> Result<Vec<Worker<T>>, AllocError>
-    ensures manner { IfOk result (λ workers. All (λ w. manner_by T.told T.command T.is_lenient T.grounds T.recalled w.tester ≡ manner_by T.told T.command T.is_lenient T.grounds T.recalled tester.now) workers.items) }
+    ensures manner { IfOk result (λ workers. AreOfManner T.Tester tester.now workers.items) }
     ensures answers { IfOk result (λ workers. All (λ w. T.answers w.tester ≡ []) workers.items) }
 {
     let mut workers = Vec::new(alloc);
@@ -45,11 +46,11 @@ pub(crate) fn lowered(alloc: Global, count: u32) -> Result<Vec<AtomicBool>, Allo
 /// Runs each worker in a thread.
 fn share_out<R: Host, T: Tester>(rt: &R, shared: Shared<'_, '_>, workers: &mut [Worker<T>])
     requires { All (λ w. AnswersFollow (T.told w.tester) (T.answers w.tester)) workers.old }
-    ensures { (k : ℕ) (d : _) → k < length workers.old → IsPart T.told T.command T.is_lenient T.grounds T.recalled T.answers (slice_index_or workers.old k d).tester (slice_index_or workers.new k d).tester }
+    ensures { TestedMore T.Tester workers.old workers.new }
 {
     let part = |_: usize, worker: &mut Worker<T>|
         requires { AnswersFollow (T.told worker.now.tester) (T.answers worker.now.tester) }
-        ensures { IsPart T.told T.command T.is_lenient T.grounds T.recalled T.answers worker.entry.now.tester worker.exit.now.tester }
+        ensures { IsPart T.Tester worker.entry.now.tester worker.exit.now.tester }
     { work(rt, shared, worker) };
     let threads = workers.len().max(1);
     thread::for_each_mut(rt, workers, threads, &part);
@@ -64,7 +65,7 @@ pub(crate) fn run_workers<R: Host, T: Tester>(
     workers: &mut [Worker<T>],
 ) -> Vec<Event>
     requires { All (λ w. AnswersFollow (T.told w.tester) (T.answers w.tester)) workers.old }
-    ensures { (k : ℕ) (d : _) → k < length workers.old → IsPart T.told T.command T.is_lenient T.grounds T.recalled T.answers (slice_index_or workers.old k d).tester (slice_index_or workers.new k d).tester }
+    ensures { TestedMore T.Tester workers.old workers.new }
 {
     let board = Mutex::new(board);
     let changed = Condvar::new();

@@ -1,6 +1,7 @@
 //! A worker: it picks places, tests them, and posts the outcomes.
 ghost use Rattle.std.specs.Prelude.{◌≡◌};
-ghost use Rattle.bf_farm.specs.Reports.{AnswersFollow, IsPart};
+ghost use Rattle.bf_farm.specs.Reports.{AnswersFollow};
+ghost use Rattle.bf_farm.specs.Testers.{IsPart};
 
 use crate::board::Board;
 use bf_core::Pick;
@@ -100,7 +101,7 @@ fn test_claimed<R: Host, T: Tester>(
     place: u32,
 ) -> bool
     requires { AnswersFollow (T.told worker.old.tester) (T.answers worker.old.tester) }
-    ensures { IsPart T.told T.command T.is_lenient T.grounds T.recalled T.answers worker.old.tester worker.new.tester }
+    ensures { IsPart T.Tester worker.old.tester worker.new.tester }
 {
     let (Some(name), Some(flag)) = (
         shared.names.get(place as usize),
@@ -124,7 +125,7 @@ fn test_claimed<R: Host, T: Tester>(
 /// The work of one worker, until the run has ended, a test fails or memory runs out.
 pub(crate) fn work<R: Host, T: Tester>(rt: &R, shared: Shared<'_, '_>, worker: &mut Worker<T>)
     requires { AnswersFollow (T.told worker.old.tester) (T.answers worker.old.tester) }
-    ensures { IsPart T.told T.command T.is_lenient T.grounds T.recalled T.answers worker.old.tester worker.new.tester }
+    ensures { IsPart T.Tester worker.old.tester worker.new.tester }
 {
     for _ in rt.forever() {
         let Ok(Pick::Work(place)) = next_pick(rt, shared, worker.number) else {

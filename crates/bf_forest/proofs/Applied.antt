@@ -1,5 +1,6 @@
 -- What an edit makes of the files of a directory is what a change of one entry makes of them.
-use Rattle.std.proofs.Common.{◌≡◌, ℕ, Bool, true, false, not, ◌==◌, ◌&&◌, ◌||◌, List, [], ◌∷◌, ◌++◌, length, Some, refl, sym, ap, ◌∙◌, ◌⊎◌, inl, inr, subst, arith}
+use Rattle.std.proofs.Common.{◌≡◌, ℕ, Bool, true, false, not, ◌==◌, ◌&&◌, ◌||◌, List, [], ◌∷◌, ◌++◌, length, Some, refl, sym, ap, ◌∙◌, ◌⊎◌, inl, inr, subst}
+use Rattle.std.proofs.Common.{arith}
 use Rattle.std.specs.Ordering.{nat_cmp, is_lt, ordering_reverse}
 use Rattle.std.specs.declared.cmp.Ordering.{Ordering}
 use Rattle.std.specs.declared.cmp.Ordering.TheVariants.{Less, Equal, Greater}
@@ -9,8 +10,8 @@ use Rattle.std.proofs.lemmas.Bool.{false≢true, and_parts, and_from, and_right,
 use Rattle.std.proofs.lemmas.List.{take_all}
 use Rattle.std.proofs.lemmas.List.Folds.{list_any-append, list_all-append}
 use Rattle.std.proofs.lemmas.Map.Lookups.{exact_bytes}
-use Rattle.bf_grammar.specs.declared.object.Mode.{Mode}
-use Rattle.bf_grammar.specs.declared.object.Oid.{Oid}
+use Rattle.bf_oid.specs.declared.object.Mode.{Mode}
+use Rattle.bf_oid.specs.declared.object.Oid.{Oid}
 use Rattle.bf_paths.specs.Components.{is_component, is_path, path_text, path_of}
 use Rattle.bf_paths.proofs.Splitting.{path_of-path_text}
 use Rattle.bf_forest.specs.declared.entries.FileEntry.{FileEntry}
@@ -37,7 +38,8 @@ pub same_beneath : (n : List ℕ) (p : List (List ℕ)) (m : Mode) (o : Oid) (fi
 same_beneath n p m o file =
     ap (λ b. ((b && pointwise is_same p file.path) && is_same (mode_text m) (mode_text file.mode)) && is_same o.0 file.oid.0) (is_same-refl n)
 
-pub has-beneath : (n : List ℕ) (p : List (List ℕ)) (m : Mode) (o : Oid) (files : Files) → has (file_of (n ∷ p) m o) (beneath n files) ≡ has (file_of p m o) files
+pub has-beneath : (n : List ℕ) (p : List (List ℕ)) (m : Mode) (o : Oid) (files : Files)
+    → has (file_of (n ∷ p) m o) (beneath n files) ≡ has (file_of p m o) files
 has-beneath n p m o [] = refl
 has-beneath n p m o (file ∷ files) =
     ap (λ b. b || has (file_of (n ∷ p) m o) (beneath n files)) (same_beneath n p m o file)
@@ -47,7 +49,8 @@ before_beneath : (n : List ℕ) (x y : FileEntry) → is_path x.path ≡ true �
     → comes_before (record x { path = n ∷ x.path }) (record y { path = n ∷ y.path }) ≡ true
 before_beneath n x y p q h = go x.path y.path p q h
   where
-    go : (a b : List (List ℕ)) → is_path a ≡ true → is_path b ≡ true → (is_before a b && are_apart a b) ≡ true → (is_before (n ∷ a) (n ∷ b) && are_apart (n ∷ a) (n ∷ b)) ≡ true
+    go : (a b : List (List ℕ)) → is_path a ≡ true → is_path b ≡ true → (is_before a b && are_apart a b) ≡ true
+        → (is_before (n ∷ a) (n ∷ b) && are_apart (n ∷ a) (n ∷ b)) ≡ true
     go [] b p q h = absurd (false≢true p)
     go (a ∷ ar) [] p q h = absurd (false≢true q)
     go (a ∷ ar) (b ∷ br) p q h =
@@ -65,12 +68,14 @@ pub is_tree-beneath : (n : List ℕ) (files : Files) → are_paths files ≡ tru
 unfolding is_tree
 is_tree-beneath n [] p h = refl
 is_tree-beneath n (file ∷ files) p h =
-    and_from _ _ (all_beneath n file files (and_parts _ _ p).0 (and_parts _ _ p).1 (and_parts _ _ h).0) (is_tree-beneath n files (and_parts _ _ p).1 (and_parts _ _ h).1)
+    and_from _ _ (all_beneath n file files (and_parts _ _ p).0 (and_parts _ _ p).1 (and_parts _ _ h).0)
+    (is_tree-beneath n files (and_parts _ _ p).1 (and_parts _ _ h).1)
 
 pub path_cons : (a : List ℕ) (ar : List (List ℕ)) → is_component a ≡ true → list_all is_component ar ≡ true → is_path (a ∷ ar) ≡ true
 path_cons a ar h k = and_from _ _ (lt-ltb 0 (length (a ∷ ar)) (omega arith)) (and_from (is_component a) (list_all is_component ar) h k)
 
-path_beneath : (n : List ℕ) (p : List (List ℕ)) → is_component n ≡ true → is_path p ≡ true → (is_same (key_for (n ∷ p)) (directory_key n) && is_path (n ∷ p)) ≡ true
+path_beneath : (n : List ℕ) (p : List (List ℕ)) → is_component n ≡ true → is_path p ≡ true
+    → (is_same (key_for (n ∷ p)) (directory_key n) && is_path (n ∷ p)) ≡ true
 path_beneath n [] c h = absurd (false≢true h)
 path_beneath n (a ∷ ar) c h =
     and_from _ _ (is_same-refl (directory_key n)) (path_cons n (a ∷ ar) c (and_parts _ (is_component a && list_all is_component ar) h).1)
@@ -80,7 +85,8 @@ keys_beneath : (n : List ℕ) (files : Files) → is_component n ≡ true → ar
 keys_beneath n [] c h = refl
 keys_beneath n (file ∷ files) c h = and_from _ _ (path_beneath n file.path c (and_parts _ _ h).0) (keys_beneath n files c (and_parts _ _ h).1)
 
-pub entry-beneath : (n : List ℕ) (files : Files) → is_component n ≡ true → are_paths files ≡ true → is_tree files ≡ true → is_entry (directory_key n) (beneath n files) ≡ true
+pub entry-beneath : (n : List ℕ) (files : Files) → is_component n ≡ true → are_paths files ≡ true → is_tree files ≡ true
+    → is_entry (directory_key n) (beneath n files) ≡ true
 entry-beneath n files c p h =
     and_from _ _ (ap is_component (name_in-slash n) ∙ c) (and_from _ _ (keys_beneath n files c p) (is_tree-beneath n files p h))
 
@@ -129,7 +135,8 @@ has-set path m o files x hp hx =
     ∙ ap (λ v. (has x files && before x) || (same || v)) (has-filter x behind files)
     ∙ set_bits (has x files) (are_apart x.path path) (is_before x.path path) (is_before path x.path) same (text_apart x.path path hx hp)
 
-pub are_paths-set : (path : List (List ℕ)) (m : Mode) (o : Oid) (files : Files) → is_path path ≡ true → are_paths files ≡ true → are_paths (set_file path m o files) ≡ true
+pub are_paths-set : (path : List (List ℕ)) (m : Mode) (o : Oid) (files : Files) → is_path path ≡ true → are_paths files ≡ true
+    → are_paths (set_file path m o files) ≡ true
 are_paths-set path m o files hp h =
     let valid : FileEntry → Bool = λ file. is_path file.path in
     list_all-append valid (filter (is_in_part Before path) files) (file_of path m o ∷ filter (is_in_part Behind path) files)
@@ -150,7 +157,8 @@ two_keys n c q h =
 pub key_not : (a n q : List ℕ) (ar : List (List ℕ)) → is_component a ≡ true → is_same a n ≡ false → name_in q ≡ n → is_same (key_for (a ∷ ar)) q ≡ false
 key_not a n q ar c other h =
     elim (cases_Bool (is_same (key_for (a ∷ ar)) q)) [
-      | inl same ↦ absurd (false≢true (sym other ∙ ap (λ v. is_same v n) (sym (name_in-key a ar c) ∙ ap name_in (same_name (key_for (a ∷ ar)) q same) ∙ h) ∙ is_same-refl n))
+      | inl same ↦ absurd (false≢true (sym other ∙ ap (λ v. is_same v n) (sym (name_in-key a ar c) ∙ ap name_in (same_name (key_for (a ∷ ar)) q same) ∙ h) ∙
+          is_same-refl n))
       | inr not_there ↦ not_there
     ]
 
@@ -164,7 +172,8 @@ keys_differ n c = longer n
 -- ---- files by what they have at each name
 
 pub shown_as : (es : Listing) (files : Files) (n : List ℕ) → is_listing es ≡ true → is_tree files ≡ true → are_paths files ≡ true
-    → ((a : List ℕ) (ar : List (List ℕ)) (m : Mode) (o : Oid) → is_path (a ∷ ar) ≡ true → is_same a n ≡ false → has (file_of (a ∷ ar) m o) files ≡ has (file_of (a ∷ ar) m o) (at_key (key_for (a ∷ ar)) es))
+    → ((a : List ℕ) (ar : List (List ℕ)) (m : Mode) (o : Oid) → is_path (a ∷ ar) ≡ true → is_same a n ≡ false
+    → has (file_of (a ∷ ar) m o) files ≡ has (file_of (a ∷ ar) m o) (at_key (key_for (a ∷ ar)) es))
     → ((m : Mode) (o : Oid) → has (file_of (n ∷ []) m o) files ≡ has (file_of (n ∷ []) m o) (at_key n es))
     → ((next : List ℕ) (rest : List (List ℕ)) (m : Mode) (o : Oid) → is_path (n ∷ next ∷ rest) ≡ true
     → has (file_of (n ∷ next ∷ rest) m o) files ≡ has (file_of (n ∷ next ∷ rest) m o) (at_key (directory_key n) es))
@@ -173,7 +182,8 @@ shown_as es files n h t p other here inside =
     same_files_by (shown es) files (is_tree-shown es h) t (are_paths-shown es h) p
     (λ x v. has-shown es x h ∙ sym (go x.path x.mode x.oid v))
   where
-    named : (ar : List (List ℕ)) (m : Mode) (o : Oid) → is_path (n ∷ ar) ≡ true → has (file_of (n ∷ ar) m o) files ≡ has (file_of (n ∷ ar) m o) (at_key (key_for (n ∷ ar)) es)
+    named : (ar : List (List ℕ)) (m : Mode) (o : Oid) → is_path (n ∷ ar) ≡ true
+        → has (file_of (n ∷ ar) m o) files ≡ has (file_of (n ∷ ar) m o) (at_key (key_for (n ∷ ar)) es)
     named [] m o v = here m o
     named (next ∷ rest) m o v = inside next rest m o v
 
@@ -183,6 +193,7 @@ shown_as es files n h t p other here inside =
         elim (cases_Bool (is_same a n)) [
           | inl same ↦
               let at : n ≡ a = sym (same_name a n same) in
-              subst (λ q. has (file_of (q ∷ ar) m o) files ≡ has (file_of (q ∷ ar) m o) (at_key (key_for (q ∷ ar)) es)) at (named ar m o (ap (λ q. is_path (q ∷ ar)) at ∙ v))
+              subst (λ q. has (file_of (q ∷ ar) m o) files ≡ has (file_of (q ∷ ar) m o) (at_key (key_for (q ∷ ar)) es))
+              at (named ar m o (ap (λ q. is_path (q ∷ ar)) at ∙ v))
           | inr differs ↦ other a ar m o v differs
         ]

@@ -3,14 +3,15 @@ use Rattle.std.proofs.Common.{◌≡◌, ℕ, Bool, true, false, not, ◌&&◌, 
 use Rattle.std.specs.Cmp.Lexicographic.{pointwise}
 use Rattle.std.specs.List.{list_all, list_any}
 use Rattle.std.proofs.lemmas.Bool.{and_left, and_right, cond-true, cond-false, and_parts, and_from, or_cases, not_from_false, false≢true}
-use Rattle.bf_grammar.specs.declared.object.Mode.{Mode}
-use Rattle.bf_grammar.specs.declared.object.Oid.{Oid}
+use Rattle.bf_oid.specs.declared.object.Mode.{Mode}
+use Rattle.bf_oid.specs.declared.object.Oid.{Oid}
 use Rattle.bf_paths.specs.Components.{is_component, is_path}
 use Rattle.bf_forest.specs.declared.edits.Part.TheVariants.{Outside}
 use Rattle.bf_forest.specs.Files.{Files, is_same, leads_to, are_apart, is_in_part, set_file, remove_file, is_tree}
 use Rattle.bf_forest.specs.Trees.{mode_text, is_same_file}
 use Rattle.bf_forest.specs.Listing.{key_for, name_in, Listing, is_listing, stands_before, shown, beneath}
-use Rattle.bf_forest.proofs.Applied.{file_of, same_beneath, has-beneath, entry-beneath, entry-file, leads-refl, has-set, are_paths-set, are_paths-remove, path_cons, two_keys, key_not, keys_differ, shown_as}
+use Rattle.bf_forest.proofs.Applied.{file_of, same_beneath, has-beneath, entry-beneath, entry-file, leads-refl, has-set, are_paths-set, are_paths-remove}
+use Rattle.bf_forest.proofs.Applied.{path_cons, two_keys, key_not, keys_differ, shown_as}
 use Rattle.bf_forest.specs.Slots.{put, without, directory_key}
 use Rattle.bf_forest.proofs.Entered.{at-put, at-without, all-without, may_stand_by, listing-put, listing-without, cleared, others_named}
 use Rattle.bf_forest.proofs.Keys.{name_bytes, first_component, name_in-plain, name_in-slash, apart_by_first, not_same}
@@ -44,11 +45,13 @@ swap (inl a) = inr a
 swap (inr b) = inl b
 
 -- the key of the file may stand by all, where that of the directory is gone, and the other way round
-file_cleared : (n : List ℕ) (es : Listing) → is_component n ≡ true → is_listing es ≡ true → list_all (λ o. may_stand_by n o.0) (without (directory_key n) es) ≡ true
+file_cleared : (n : List ℕ) (es : Listing) → is_component n ≡ true → is_listing es ≡ true
+    → list_all (λ o. may_stand_by n o.0) (without (directory_key n) es) ≡ true
 file_cleared n es c h =
     cleared n (directory_key n) es (both_names n c) (λ q e. two_keys n c q (e ∙ name_in-plain n (name_bytes n c))) h
 
-directory_cleared : (n : List ℕ) (es : Listing) → is_component n ≡ true → is_listing es ≡ true → list_all (λ o. may_stand_by (directory_key n) o.0) (without n es) ≡ true
+directory_cleared : (n : List ℕ) (es : Listing) → is_component n ≡ true → is_listing es ≡ true
+    → list_all (λ o. may_stand_by (directory_key n) o.0) (without n es) ≡ true
 directory_cleared n es c h =
     cleared (directory_key n) n es (sym (both_names n c)) (λ q e. swap (two_keys n c q (e ∙ name_in-slash n))) h
 
@@ -107,7 +110,8 @@ with_file n m o es = put (without (directory_key n) es) n (file_of (n ∷ []) m 
 
 pub listing-file : (n : List ℕ) (m : Mode) (o : Oid) (es : Listing) → is_component n ≡ true → is_listing es ≡ true → is_listing (with_file n m o es) ≡ true
 listing-file n m o es c h =
-    listing-put n (file_of (n ∷ []) m o ∷ []) (without (directory_key n) es) (listing-without (directory_key n) es h) (entry-file n m o c) (file_cleared n es c h)
+    listing-put n (file_of (n ∷ []) m o ∷ []) (without (directory_key n) es) (listing-without (directory_key n) es h) (entry-file n m o c)
+    (file_cleared n es c h)
 
 pub shown-file : (n : List ℕ) (m : Mode) (o : Oid) (es : Listing) → is_path (n ∷ []) ≡ true → is_listing es ≡ true
     → shown (with_file n m o es) ≡ set_file (n ∷ []) m o (shown es)
@@ -148,7 +152,8 @@ with_inside n files es = put (without (directory_key n) (without n es)) (directo
 pub listing-inside : (n : List ℕ) (files : Files) (es : Listing) → is_component n ≡ true → is_listing es ≡ true → are_paths files ≡ true → is_tree files ≡ true
     → is_listing (with_inside n files es) ≡ true
 listing-inside n files es c h p t =
-    listing-put (directory_key n) (beneath n files) (without (directory_key n) (without n es)) (listing-without (directory_key n) (without n es) (listing-without n es h))
+    listing-put (directory_key n) (beneath n files) (without (directory_key n) (without n es))
+    (listing-without (directory_key n) (without n es) (listing-without n es h))
     (entry-beneath n files c p t) (all-without (λ o. may_stand_by (directory_key n) o.0) (directory_key n) (without n es) (directory_cleared n es c h))
 
 pub path_rest : (n p : List ℕ) (r : List (List ℕ)) → is_path (n ∷ p ∷ r) ≡ true → is_path (p ∷ r) ≡ true
@@ -183,7 +188,8 @@ shown-inside n p r m o es inside hp h paths tree is =
     ∙ drop_bits (has x (shown es)) (are_apart (n ∷ []) path) (is_same_file x new)
     (ap (λ v. not v && not (leads_to path (n ∷ []))) (leads-behind n [] (p ∷ r)))
     (and_left _ (is_same l.0 o.0) (and_left _ (is_same (mode_text k) (mode_text m)) (and_right (is_same n n) false refl)))
-    ∙ sym (ap (has x) (at_put_other n (directory_key n) (beneath n made) less (keys_differ n c) ∙ at_left n (directory_key n) (without n es) fewer (keys_differ n c) ∙ at_gone n es h)))
+    ∙ sym (ap (has x) (at_put_other n (directory_key n) (beneath n made) less (keys_differ n c) ∙ at_left n (directory_key n) (without n es) fewer
+    (keys_differ n c) ∙ at_gone n es h)))
     (λ next rest k l v.
     let x = file_of (n ∷ next ∷ rest) k l in
     let y = file_of (next ∷ rest) k l in
@@ -305,7 +311,8 @@ shown-less n p r es inside hp h paths tree is there =
     ∙ at_left (key_for (a ∷ ar)) (directory_key n) es h (key_not a n (directory_key n) ar (first_component a ar v) other (name_in-slash n)))))
     (λ k l.
     remove_here n p r es k l h
-    ∙ sym (ap (has (file_of (n ∷ []) k l)) (at_put_other n (directory_key n) (beneath n made) less (keys_differ n c) ∙ at_left n (directory_key n) es h (keys_differ n c))))
+    ∙ sym (ap (has (file_of (n ∷ []) k l)) (at_put_other n (directory_key n) (beneath n made) less (keys_differ n c) ∙ at_left n (directory_key n) es h
+    (keys_differ n c))))
     (λ next rest k l v.
     let x = file_of (n ∷ next ∷ rest) k l in
     let y = file_of (next ∷ rest) k l in

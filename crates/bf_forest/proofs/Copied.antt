@@ -1,5 +1,5 @@
 -- Loops over entries.
-use Rattle.std.proofs.Common.{◌≡◌, ℕ, zero, suc, ◌<◌, Bool, true, List, [], ◌∷◌, length, get_or, refl, ap, ◌∙◌, arith}
+use Rattle.std.proofs.Common.{◌≡◌, ℕ, true, List, [], ◌∷◌, refl, ap, ◌∙◌, arith}
 use Rattle.std.specs.Ordering.{nat_cmp, is_lt, ordering_reverse}
 use Rattle.std.specs.declared.cmp.Ordering.TheVariants.{Greater}
 use Rattle.std.specs.Cmp.Lexicographic.{slice_cmp, nat_list_cmp_total}
@@ -33,7 +33,8 @@ pub in_order : (trees : List Files) (entries : List Entry) → is_listing (liste
 in_order trees [] h = refl
 in_order trees (entry ∷ entries) h =
     let first : List ℕ × Files = (entry.key, kind_files trees entry.key entry.kind) in
-    and_from _ _ (keys_ascend trees entry.key entries (listing-first first (listed trees entries) h)) (in_order trees entries (listing-rest first (listed trees entries) h))
+    and_from _ _ (keys_ascend trees entry.key entries (listing-first first (listed trees entries) h))
+    (in_order trees entries (listing-rest first (listed trees entries) h))
 
 slot_kind : (trees : List Files) (key : List ℕ) (kind : EntryKind) → slot_files trees key (slot_of kind) ≡ kind_files trees key kind
 unfolding edited
@@ -46,11 +47,14 @@ contents-of trees (entry ∷ entries) =
     ap {A = Files} {B = Listing} (λ v. (entry.key, v) ∷ contents trees (slots_of entries)) (slot_kind trees entry.key entry.kind)
     ∙ ap (λ v. (entry.key, kind_files trees entry.key entry.kind) ∷ v) (contents-of trees entries)
 
-slot_earlier : (count : ℕ) (key : List ℕ) (kind : EntryKind) → is_earlier count (record { key = key; kind = kind }) ≡ true → is_slot count 1 (slot_of kind) ≡ true
+slot_earlier : (count : ℕ) (key : List ℕ) (kind : EntryKind) → is_earlier count (record { key = key; kind = kind }) ≡ true
+    → is_slot count 1 (slot_of kind) ≡ true
 slot_earlier count key (kind.File mode oid) h = refl
 slot_earlier count key (kind.Directory number) h = and_from _ _ h (lt-ltb 0 1 (omega arith))
 
-pub slots_earlier : (count : ℕ) (entries : List Entry) → list_all (is_good count) entries ≡ true → list_all (λ slot. is_slot count 1 slot.1) (slots_of entries) ≡ true
+pub slots_earlier : (count : ℕ) (entries : List Entry) → list_all (is_good count) entries ≡ true
+    → list_all (λ slot. is_slot count 1 slot.1) (slots_of entries) ≡ true
 slots_earlier count [] h = refl
 slots_earlier count (entry ∷ entries) h =
-    and_from _ _ (slot_earlier count entry.key entry.kind (and_parts (is_component (name_in entry.key)) _ (and_parts _ _ h).0).1) (slots_earlier count entries (and_parts (is_good count entry) _ h).1)
+    and_from _ _ (slot_earlier count entry.key entry.kind (and_parts (is_component (name_in entry.key)) _ (and_parts _ _ h).0).1)
+    (slots_earlier count entries (and_parts (is_good count entry) _ h).1)

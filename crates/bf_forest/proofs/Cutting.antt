@@ -23,7 +23,8 @@ inside_at (Set old mode oid) path h e l = (rest_path path h l, refl, refl)
 inside_at (Remove old) path h e l = (rest_path path h l, refl, refl)
 inside_at Clear path h e l = absurd (let size = ap length e in omega (arith, size, l))
 
-pub cut_inside : (edit : Edit) (path : List (List ℕ)) (cut : Edit) → with_path edit path ≡ cut → has_path (with_path edit path) ≡ true → path_in (with_path edit path) ≡ path
+pub cut_inside : (edit : Edit) (path : List (List ℕ)) (cut : Edit) → with_path edit path ≡ cut → has_path (with_path edit path) ≡ true
+    → path_in (with_path edit path) ≡ path
     → 1 < length (path_in cut) → IsInside edit (take (length path - 1) (drop 1 path)) cut
 cut_inside edit path cut view h e l =
     let same : take (length path - 1) (drop 1 path) ≡ drop 1 path = take_all (length path - 1) (drop 1 path) (omega (arith, length-drop 1 path)) in

@@ -144,15 +144,18 @@ greater_before key q h k =
     and_from _ _ (ap is_lt back)
     (not_from_false _ (not_same (name_in key) (name_in q) (not-true _ (other_name key q k (differ key q Greater h (λ l. cc))))))
 
-pub listing-put : (key : List ℕ) (files : Files) (es : Listing) → is_listing es ≡ true → is_entry key files ≡ true → list_all (λ o. may_stand_by key o.0) es ≡ true
+pub listing-put : (key : List ℕ) (files : Files) (es : Listing) → is_listing es ≡ true → is_entry key files ≡ true
+    → list_all (λ o. may_stand_by key o.0) es ≡ true
     → is_listing (put es key files) ≡ true
 listing-put key files [] h new l = listing-cons (key, files) [] new refl h
 listing-put key files (e ∷ es) h new l =
     let entry = listing-entry e es h in
     let first = listing-first e es h in
     let rest = listing-rest e es h in
-    let by : (o : Ordering) → slice_cmp nat_cmp key e.0 ≡ o → is_listing (match_ordering o ((key, files) ∷ e ∷ es) ((e.0, files) ∷ es) (e ∷ put es key files)) ≡ true =
-    λ o. elim o as (λ v. slice_cmp nat_cmp key e.0 ≡ v → is_listing (match_ordering v ((key, files) ∷ e ∷ es) ((e.0, files) ∷ es) (e ∷ put es key files)) ≡ true) [
+    let by : (o : Ordering) → slice_cmp nat_cmp key e.0 ≡ o
+    → is_listing (match_ordering o ((key, files) ∷ e ∷ es) ((e.0, files) ∷ es) (e ∷ put es key files)) ≡ true =
+    λ o. elim o as (λ v. slice_cmp nat_cmp key e.0 ≡ v
+    → is_listing (match_ordering v ((key, files) ∷ e ∷ es) ((e.0, files) ∷ es) (e ∷ put es key files)) ≡ true) [
       | Less ↦ λ k. listing-cons (key, files) (e ∷ es) new
           (and_from _ _ (less_before key e.0 k (and_parts _ _ l).0) (all_behind key e es k first (and_parts _ _ l).1)) h
       | Equal ↦ λ k. listing-cons (e.0, files) es (ap (λ q. is_entry q files) (sym (exact_bytes key e.0 k)) ∙ new) first rest

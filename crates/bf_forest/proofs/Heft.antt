@@ -12,7 +12,8 @@ use Rattle.bf_forest.specs.declared.nodes.EntryKind.TheVariants as kind
 use Rattle.bf_forest.specs.declared.slots.Slot.{Slot}
 use Rattle.bf_forest.specs.declared.slots.Slot.TheVariants.{File, Directory}
 use Rattle.bf_forest.specs.Opened.{weight, slot_heft, heft}
-use Rattle.bf_forest.specs.Slots.{directory_key, put, without, found, directory_of, directory_at, with_edit, less_inside, slots_after, slot_of, slots_of, edit_length}
+use Rattle.bf_forest.specs.Slots.{directory_key, put, without, found, directory_of, directory_at, with_edit, less_inside, slots_after, slot_of, slots_of}
+use Rattle.bf_forest.specs.Slots.{edit_length}
 
 heft_put : (slots : List (List ℕ × Slot)) (key : List ℕ) (slot : Slot) → heft (put slots key slot) ≤ heft slots + slot_heft slot
 heft_put [] key slot = omega arith
@@ -50,7 +51,8 @@ heft_found key [] = omega arith
 heft_found key (e ∷ es) =
     let more = heft_found key es in
     let here = waiting_slot e.1 in
-    elim (is_eq (slice_cmp nat_cmp key e.0)) as (λ b. waiting (directory_of (cond b (Some e.1) (found key es))) + heft (cond b es (e ∷ without key es)) ≤ heft (e ∷ es)) [
+    elim (is_eq (slice_cmp nat_cmp key e.0)) as (λ b. waiting (directory_of (cond b (Some e.1) (found key es))) + heft (cond b es (e ∷ without key es)) ≤ heft
+    (e ∷ es)) [
       | true ↦ omega (arith, here)
       | false ↦ omega (arith, more)
     ]
@@ -88,7 +90,8 @@ heft_after (Remove (name ∷ next ∷ rest)) slots =
     omega (arith, heft_less (directory_at key slots) key (Remove (next ∷ rest)) (without key slots), heft_found key slots)
 heft_after Clear slots = omega arith
 
-pub heft_edited : (edits : List Edit) (slots : List (List ℕ × Slot)) → heft (fold (λ slots edit. slots_after edit slots) slots edits) + 2 * length edits ≤ heft slots + weight edits
+pub heft_edited : (edits : List Edit) (slots : List (List ℕ × Slot))
+    → heft (fold (λ slots edit. slots_after edit slots) slots edits) + 2 * length edits ≤ heft slots + weight edits
 heft_edited [] slots = omega arith
 heft_edited (edit ∷ edits) slots =
     let more = heft_edited edits (slots_after edit slots) in

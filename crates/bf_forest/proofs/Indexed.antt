@@ -1,5 +1,6 @@
 -- An index that has something for each tree, and what it says of a tree that it has nothing for.
-use Rattle.std.proofs.Common.{◌≡◌, ℕ, zero, suc, ◌+◌, ◌<◌, Bool, true, false, cond, List, [], ◌∷◌, ◌++◌, length, take, Option, Some, None, IsSome, refl, sym, ap, ◌∙◌, subst, inl, inr, length-append, arith}
+use Rattle.std.proofs.Common.{◌≡◌, ℕ, zero, suc, ◌+◌, ◌<◌, Bool, true, false, cond, List, [], ◌∷◌, ◌++◌, length, take, Option, Some, None, IsSome, refl, sym}
+use Rattle.std.proofs.Common.{ap, ◌∙◌, subst, inl, inr, length-append, arith}
 use Rattle.std.specs.List.{list_any}
 use Rattle.std.specs.Ordering.{nat_cmp}
 use Rattle.std.specs.Cmp.Lexicographic.{slice_cmp}
@@ -37,7 +38,8 @@ some_or : (b : Bool) (value : ℕ) (o : Option ℕ) → IsSome o → IsSome (con
 some_or true value o h = refl
 some_or false value o h = h
 
-pub IsIndexed-insert : (index next : BTreeMap (List ℕ) ℕ) (trees : List Files) (key : List ℕ) (value : ℕ) → Updates (slice_cmp nat_cmp) index next key (Some value)
+pub IsIndexed-insert : (index next : BTreeMap (List ℕ) ℕ) (trees : List Files) (key : List ℕ) (value : ℕ)
+    → Updates (slice_cmp nat_cmp) index next key (Some value)
     → IsIndexed index trees → IsIndexed next trees
 IsIndexed-insert index next trees key value u h =
     λ number l. let q = tree_name (files_at trees number) in

@@ -26,7 +26,8 @@ text_order [] [] u v h k = absurd (let e : Equal ≡ Less = h in cc)
 text_order [] (y ∷ ys) u v h k = k (y ∷ ys) refl
 text_order (x ∷ xs) [] u v h k = absurd (let e : Greater ≡ Less = h in cc)
 text_order (x ∷ xs) (y ∷ ys) u v h k =
-    let by : (o : Ordering) → nat_cmp x y ≡ o → ordering_then o (slice_cmp nat_cmp xs ys) ≡ Less → ordering_then o (slice_cmp nat_cmp (xs ++ u) (ys ++ v)) ≡ Less =
+    let by : (o : Ordering) → nat_cmp x y ≡ o → ordering_then o (slice_cmp nat_cmp xs ys) ≡ Less
+    → ordering_then o (slice_cmp nat_cmp (xs ++ u) (ys ++ v)) ≡ Less =
     λ o. elim o as (λ p. nat_cmp x y ≡ p → ordering_then p (slice_cmp nat_cmp xs ys) ≡ Less → ordering_then p (slice_cmp nat_cmp (xs ++ u) (ys ++ v)) ≡ Less) [
       | Less ↦ λ e l. refl
       | Equal ↦ λ e l. text_order xs ys u v l (λ w p. k w (ap (λ n. n ∷ ys) (sym (exact_unsigned x y e)) ∙ ap (λ n. x ∷ n) p))
@@ -105,14 +106,16 @@ rest_order : (p : List (List ℕ)) (a b : List ℕ) (ar br : List (List ℕ)) �
     → key_for (b ∷ br) ≡ key_for (a ∷ ar) ++ w → slice_cmp nat_cmp (behind_key (a ∷ ar)) (w ++ behind_key (b ∷ br)) ≡ Less
 unfolding behind_key
 rest_order p a b [] br ca cb h [] e =
-    absurd (false≢true (sym h ∙ ap (λ n. is_same n b) (sym (name_in-plain a (name_bytes a ca)) ∙ ap name_in (sym (e ∙ append-nil a)) ∙ name_in-key b br cb) ∙ is_same-refl b))
+    absurd (false≢true (sym h ∙ ap (λ n. is_same n b) (sym (name_in-plain a (name_bytes a ca)) ∙ ap name_in (sym (e ∙ append-nil a)) ∙ name_in-key b br cb) ∙
+    is_same-refl b))
 rest_order p a b [] br ca cb h (c ∷ cs) e = refl
 rest_order p a b (m ∷ r) [] ca cb h w e =
     absurd (no_slash a w (ap (list_all is_name_byte) (sym (append_assoc a (47 ∷ []) w) ∙ sym e) ∙ name_bytes b cb))
 rest_order p a b (m ∷ r) (n ∷ s) ca cb h w e =
     absurd (false≢true (sym h ∙ ap (λ v. is_same v b) (same_front a b w (name_bytes a ca) (name_bytes b cb) (e ∙ append_assoc a (47 ∷ []) w)) ∙ is_same-refl b))
 
-pub in_order : (p q : List (List ℕ)) → is_path p ≡ true → is_path q ≡ true → stands_before (key_for p) (key_for q) ≡ true → (is_before p q && are_apart p q) ≡ true
+pub in_order : (p q : List (List ℕ)) → is_path p ≡ true → is_path q ≡ true → stands_before (key_for p) (key_for q) ≡ true
+    → (is_before p q && are_apart p q) ≡ true
 in_order [] q hp hq h = absurd (false≢true hp)
 in_order (a ∷ ar) [] hp hq h = absurd (false≢true hq)
 in_order (a ∷ ar) (b ∷ br) hp hq h =
@@ -124,6 +127,7 @@ in_order (a ∷ ar) (b ∷ br) hp hq h =
     let texts : slice_cmp nat_cmp (key_for (a ∷ ar) ++ behind_key (a ∷ ar)) (key_for (b ∷ br) ++ behind_key (b ∷ br)) ≡ Less =
     text_order (key_for (a ∷ ar)) (key_for (b ∷ br)) (behind_key (a ∷ ar)) (behind_key (b ∷ br)) (less _ order.0) (rest_order [] a b ar br ca cb names) in
     and_from _ _
-    (ap (λ t. is_lt (slice_cmp nat_cmp t (path_text (b ∷ br)))) (text_by_key (a ∷ ar)) ∙ ap (λ t. is_lt (slice_cmp nat_cmp (key_for (a ∷ ar) ++ behind_key (a ∷ ar)) t)) (text_by_key (b ∷ br))
+    (ap (λ t. is_lt (slice_cmp nat_cmp t (path_text (b ∷ br)))) (text_by_key (a ∷ ar)) ∙ ap
+    (λ t. is_lt (slice_cmp nat_cmp (key_for (a ∷ ar) ++ behind_key (a ∷ ar)) t)) (text_by_key (b ∷ br))
     ∙ ap is_lt texts)
     (apart_by_first a b ar br names)

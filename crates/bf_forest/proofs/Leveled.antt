@@ -4,8 +4,8 @@ use Rattle.std.specs.List.{list_all}
 use Rattle.std.proofs.lemmas.Bool.{false≢true, and_parts, ltb-true}
 use Rattle.std.proofs.lemmas.List.{append_assoc}
 use Rattle.std.proofs.lemmas.List.Folds.{list_all-append}
-use Rattle.bf_grammar.specs.declared.object.Mode.{Mode}
-use Rattle.bf_grammar.specs.declared.object.Oid.{Oid}
+use Rattle.bf_oid.specs.declared.object.Mode.{Mode}
+use Rattle.bf_oid.specs.declared.object.Oid.{Oid}
 use Rattle.bf_paths.specs.Components.{is_component}
 use Rattle.bf_forest.specs.declared.nodes.Entry.{Entry}
 use Rattle.bf_forest.specs.declared.nodes.EntryKind.{EntryKind}
@@ -37,17 +37,20 @@ pub level_rest : (trees : List Files) (entry : Entry) (entries : List Entry) →
 level_rest trees entry entries h =
     ((and_parts (is_good (length trees) entry) _ h.0).1, (and_parts (is_filled (entry.key, kind_files trees entry.key entry.kind)) _ h.1).1)
 
-pub levels_more : (trees : List Files) (levels : List (List Entry)) (level : List Entry) → AreLevels trees levels → IsLevel trees level → AreLevels trees (levels ++ level ∷ [])
+pub levels_more : (trees : List Files) (levels : List (List Entry)) (level : List Entry) → AreLevels trees levels → IsLevel trees level
+    → AreLevels trees (levels ++ level ∷ [])
 levels_more trees [] level h k = (k, tt)
 levels_more trees (first ∷ levels) level h k = (h.0, levels_more trees levels level h.1 k)
 
-pub levels_less : (trees : List Files) (levels : List (List Entry)) (level : List Entry) → AreLevels trees (levels ++ level ∷ []) → AreLevels trees levels × IsLevel trees level
+pub levels_less : (trees : List Files) (levels : List (List Entry)) (level : List Entry) → AreLevels trees (levels ++ level ∷ [])
+    → AreLevels trees levels × IsLevel trees level
 levels_less trees [] level h = (tt, h.0)
 levels_less trees (first ∷ levels) level h = let less = levels_less trees levels level h.1 in ((h.0, less.0), less.1)
 
 -- ---- a file is walked
 
-pub lefts_file : (trees : List Files) (below : List (List Entry)) (names : List (List ℕ)) (key : List ℕ) (mode : Mode) (oid : Oid) (rest : List Entry) → length below ≡ length names
+pub lefts_file : (trees : List Files) (below : List (List Entry)) (names : List (List ℕ)) (key : List ℕ) (mode : Mode) (oid : Oid) (rest : List Entry)
+    → length below ≡ length names
     → lefts trees below names (record { key = key; kind = File mode oid } ∷ rest)
     ≡ record { path = names ++ name_in key ∷ []; mode = mode; oid = oid } ∷ lefts trees below names rest
 lefts_file trees [] [] key mode oid rest e = refl
@@ -58,7 +61,8 @@ lefts_file trees (level ∷ below) (name ∷ names) key mode oid rest e =
 
 -- ---- a directory is entered, and left
 
-pub lefts_push : (trees : List Files) (below : List (List Entry)) (names : List (List ℕ)) (key : List ℕ) (number : ℕ) (rest inner : List Entry) → length below ≡ length names
+pub lefts_push : (trees : List Files) (below : List (List Entry)) (names : List (List ℕ)) (key : List ℕ) (number : ℕ) (rest inner : List Entry)
+    → length below ≡ length names
     → files_in trees inner ≡ files_at trees number
     → lefts trees below names (record { key = key; kind = Directory number } ∷ rest) ≡ lefts trees (below ++ rest ∷ []) (names ++ name_in key ∷ []) inner
 lefts_push trees [] [] key number rest inner e h = ap (λ v. beneath (name_in key) v ++ files_in trees rest) (sym h)
@@ -94,7 +98,8 @@ length_beneath : (name : List ℕ) (files : Files) → length_of (beneath name f
 length_beneath name [] = omega arith
 length_beneath name (file ∷ files) = omega (arith, length_beneath name files)
 
-pub lengths_more : (trees : List Files) (levels : List (List Entry)) (level : List Entry) → lengths_of trees (levels ++ level ∷ []) ≡ lengths_of trees levels + suc (length_of (files_in trees level))
+pub lengths_more : (trees : List Files) (levels : List (List Entry)) (level : List Entry)
+    → lengths_of trees (levels ++ level ∷ []) ≡ lengths_of trees levels + suc (length_of (files_in trees level))
 lengths_more trees [] level = omega arith
 lengths_more trees (first ∷ levels) level = omega (arith, lengths_more trees levels level)
 
@@ -110,7 +115,8 @@ pub some_beneath : (name : List ℕ) (files : Files) → has_some (beneath name 
 some_beneath name [] h = h
 some_beneath name (file ∷ files) h = refl
 
-pub length_push : (trees : List Files) (key : List ℕ) (number : ℕ) (rest inner : List Entry) → list_all is_filled (listed trees (record { key = key; kind = Directory number } ∷ rest)) ≡ true
+pub length_push : (trees : List Files) (key : List ℕ) (number : ℕ) (rest inner : List Entry)
+    → list_all is_filled (listed trees (record { key = key; kind = Directory number } ∷ rest)) ≡ true
     → files_in trees inner ≡ files_at trees number
     → length_of (files_in trees inner) + length_of (files_in trees rest) + 2 ≤ length_of (files_in trees (record { key = key; kind = Directory number } ∷ rest))
 length_push trees key number rest inner filled h =
@@ -133,9 +139,11 @@ split_last (name ∷ next ∷ names) h =
 -- what is known where the directories on top are left
 abbrev pub IsLeft : List Files → List (List Entry) → List (List ℕ) → List (List Entry) → List (List ℕ) → List Entry → Type 0
 IsLeft trees below names less fewer level =
-    (lefts trees below names [] ≡ lefts trees less fewer level) × (list_all is_component names ≡ true → list_all is_component fewer ≡ true) × (length less ≡ length fewer)
+    (lefts trees below names [] ≡ lefts trees less fewer level) × (list_all is_component names ≡ true → list_all is_component fewer ≡ true)
+    × (length less ≡ length fewer)
 
-pub is_left : (trees : List Files) (below less : List (List Entry)) (names fewer : List (List ℕ)) (level : List Entry) → below ≡ less ++ level ∷ [] → length below ≡ length names
+pub is_left : (trees : List Files) (below less : List (List Entry)) (names fewer : List (List ℕ)) (level : List Entry) → below ≡ less ++ level ∷ []
+    → length below ≡ length names
     → fewer ≡ take (length names - 1) names → IsLeft trees below names less fewer level
 is_left trees below less names fewer level e size f =
     let whole = ap length e ∙ length-append less (level ∷ []) in
@@ -151,9 +159,11 @@ is_left trees below less names fewer level e size f =
 entry_as : (entry : Entry) (kind : EntryKind) → entry.kind ≡ kind → entry ≡ record { key = entry.key; kind = kind }
 entry_as entry kind e = ap (λ (k : EntryKind). record entry { kind = k }) e
 
-pub walked_file : (trees : List Files) (below : List (List Entry)) (names : List (List ℕ)) (rest others : List Entry) (entry : Entry) (mode : Mode) (oid : Oid) (name : List ℕ) (files next all : Files)
+pub walked_file : (trees : List Files) (below : List (List Entry)) (names : List (List ℕ)) (rest others : List Entry) (entry : Entry) (mode : Mode) (oid : Oid)
+    (name : List ℕ) (files next all : Files)
     → rest ≡ entry ∷ others → entry.kind ≡ File mode oid → name ≡ name_in entry.key → length below ≡ length names
-    → next ≡ files ++ record { path = names ++ name ∷ []; mode = mode; oid = oid } ∷ [] → files ++ lefts trees below names rest ≡ all → next ++ lefts trees below names others ≡ all
+    → next ≡ files ++ record { path = names ++ name ∷ []; mode = mode; oid = oid } ∷ [] → files ++ lefts trees below names rest ≡ all
+    → next ++ lefts trees below names others ≡ all
 walked_file trees below names rest others entry mode oid name files next all first is named depth added walked =
     let more = lefts trees below names others in
     ap (λ v. v ++ more) (added ∙ ap (λ (n : List ℕ). files ++ record { path = names ++ n ∷ []; mode = mode; oid = oid } ∷ []) named)
@@ -161,15 +171,18 @@ walked_file trees below names rest others entry mode oid name files next all fir
     ∙ ap (λ v. files ++ v) (sym (lefts_file trees below names entry.key mode oid others depth))
     ∙ ap (λ v. files ++ lefts trees below names v) (sym (first ∙ ap (λ (v : Entry). v ∷ others) (entry_as entry (File mode oid) is))) ∙ walked
 
-pub walked_push : (trees : List Files) (below next : List (List Entry)) (names more : List (List ℕ)) (rest others inner : List Entry) (entry : Entry) (number : ℕ) (name : List ℕ)
-    → rest ≡ entry ∷ others → entry.kind ≡ Directory number → name ≡ name_in entry.key → length below ≡ length names → next ≡ below ++ others ∷ [] → more ≡ names ++ name ∷ []
+pub walked_push : (trees : List Files) (below next : List (List Entry)) (names more : List (List ℕ)) (rest others inner : List Entry) (entry : Entry)
+    (number : ℕ) (name : List ℕ)
+    → rest ≡ entry ∷ others → entry.kind ≡ Directory number → name ≡ name_in entry.key → length below ≡ length names → next ≡ below ++ others ∷ []
+    → more ≡ names ++ name ∷ []
     → files_in trees inner ≡ files_at trees number → lefts trees next more inner ≡ lefts trees below names rest
 walked_push trees below next names more rest others inner entry number name first is named depth deeper longer files =
     ap (λ v. lefts trees v more inner) deeper ∙ ap (λ v. lefts trees (below ++ others ∷ []) v inner) (longer ∙ ap (λ n. names ++ n ∷ []) named)
     ∙ sym (lefts_push trees below names entry.key number others inner depth files)
     ∙ ap (lefts trees below names) (sym (first ∙ ap (λ (v : Entry). v ∷ others) (entry_as entry (Directory number) is)))
 
-pub falls_push : (trees : List Files) (rest others inner : List Entry) (entry : Entry) (number : ℕ) → rest ≡ entry ∷ others → entry.kind ≡ Directory number → IsLevel trees rest
+pub falls_push : (trees : List Files) (rest others inner : List Entry) (entry : Entry) (number : ℕ) → rest ≡ entry ∷ others → entry.kind ≡ Directory number
+    → IsLevel trees rest
     → files_in trees inner ≡ files_at trees number
     → length_of (files_in trees inner) + length_of (files_in trees others) + 2 ≤ length_of (files_in trees rest)
 falls_push trees rest others inner entry number first is level files =

@@ -1,3 +1,5 @@
+pub mod Added
+pub mod Advanced
 pub mod Applied
 pub mod Changed
 pub mod Copied
@@ -21,6 +23,8 @@ pub mod Resting
 pub mod Sameness
 pub mod Settling
 pub mod Slotted
+pub mod Stepping
 pub mod Storing
 pub mod Tabled
+pub mod Turning
 pub mod Walking

@@ -25,7 +25,8 @@ at_key key (entry ∷ entries) = if is_same key entry.0 then entry.1 else at_key
 entry_paths : (files : Files) (key : List ℕ) → list_all (λ file. is_same (key_for file.path) key && is_path file.path) files ≡ true → are_paths files ≡ true
 entry_paths files key h =
     each_member (λ file. is_path file.path) files
-    (λ x k. (and_parts (is_same (key_for x.path) key) (is_path x.path) (of_member (λ file. is_same (key_for file.path) key && is_path file.path) files x h k)).1)
+    (λ x k. (and_parts (is_same (key_for x.path) key) (is_path x.path)
+    (of_member (λ file. is_same (key_for file.path) key && is_path file.path) files x h k)).1)
 
 pub entry-paths : (key : List ℕ) (files : Files) → is_entry key files ≡ true → are_paths files ≡ true
 entry-paths key files h = entry_paths files key (and_parts _ _ (and_parts _ _ h).1).0
@@ -53,7 +54,8 @@ pub listing-rest : (e : List ℕ × Files) (es : Listing) → is_listing (e ∷ 
 unfolding is_listing
 listing-rest e es h = (and_parts _ _ (and_parts _ _ h).1).1
 
-pub listing-cons : (e : List ℕ × Files) (es : Listing) → is_entry e.0 e.1 ≡ true → list_all (λ other. stands_before e.0 other.0) es ≡ true → is_listing es ≡ true → is_listing (e ∷ es) ≡ true
+pub listing-cons : (e : List ℕ × Files) (es : Listing) → is_entry e.0 e.1 ≡ true → list_all (λ other. stands_before e.0 other.0) es ≡ true
+    → is_listing es ≡ true → is_listing (e ∷ es) ≡ true
 unfolding is_listing
 listing-cons e es h k l = and_from _ _ h (and_from _ _ k l)
 
@@ -120,7 +122,8 @@ are_paths-shown (e ∷ es) h =
 
 -- ---- the order of all the files
 
-first_before : (e : List ℕ × Files) (es : Listing) (x y : FileEntry) → is_listing (e ∷ es) ≡ true → has x e.1 ≡ true → has y (shown es) ≡ true → comes_before x y ≡ true
+first_before : (e : List ℕ × Files) (es : Listing) (x y : FileEntry) → is_listing (e ∷ es) ≡ true → has x e.1 ≡ true → has y (shown es) ≡ true
+    → comes_before x y ≡ true
 first_before e es x y h k l =
     let rest = listing-rest e es h in
     let key = entry-key e.0 e.1 x (listing-entry e es h) k in

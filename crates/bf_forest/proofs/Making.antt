@@ -1,14 +1,16 @@
 -- What a rule makes of files is what it makes of them by what it makes of the directories in them.
-use Rattle.std.proofs.Common.{◌≡◌, ℕ, zero, suc, ◌≤◌, true, false, List, [], ◌∷◌, ◌++◌, length, Option, Some, None, if◌then◌else◌, refl, sym, ap, ◌∙◌, inl, inr, arith}
+use Rattle.std.proofs.Common.{◌≡◌, ℕ, zero, suc, ◌≤◌, true, false, List, [], ◌∷◌, ◌++◌, length, Option, Some, None, if◌then◌else◌, refl, sym, ap, ◌∙◌, inl, inr}
+use Rattle.std.proofs.Common.{arith}
 use Rattle.std.specs.List.{cons_option, flat_map}
 use Rattle.std.specs.Option.{option_map}
 use Rattle.std.proofs.lemmas.Bool.{cases_lt}
 use mathlib.Core.Path.{fun_ext}
-use Rattle.bf_grammar.specs.Object.{name_of}
-use Rattle.bf_grammar.specs.declared.object.Kind.TheVariants.{Tree}
+use Rattle.bf_oid.specs.Object.{name_of}
+use Rattle.bf_oid.specs.declared.object.Kind.TheVariants.{Tree}
 use Rattle.bf_forest.specs.declared.entries.FileEntry.{FileEntry}
 use Rattle.bf_forest.specs.Files.{Files, is_same}
-use Rattle.bf_forest.specs.Trees.{names, path_below, below, depth, where_some, made_within, made, entry_with, name_by, tree_name, or_none, directories_by, directories}
+use Rattle.bf_forest.specs.Trees.{names, path_below, below, depth, where_some, made_within, made, entry_with, name_by, tree_name, or_none, directories_by}
+use Rattle.bf_forest.specs.Trees.{directories}
 
 -- ---- a directory inside is less deep
 

@@ -49,7 +49,8 @@ are_away name files = list_all (λ file. not (begins name file.path)) files
 entry-away : (key name : List ℕ) (files : Files) → is_entry key files ≡ true → is_same (name_in key) name ≡ false → are_away name files ≡ true
 entry-away key name files h k =
     each_member (λ file. not (begins name file.path)) files
-    (λ x l. not_from_false _ (other_first (name_in key) name x.path (of_member (λ file. begins (name_in key) file.path) files x (entry-begins key files h) l) k))
+    (λ x l. not_from_false _ (other_first (name_in key) name x.path (of_member (λ file. begins (name_in key) file.path) files x (entry-begins key files h) l)
+    k))
 
 pub names_differ : (key other : List ℕ) → stands_before key other ≡ true → is_same (name_in key) (name_in other) ≡ false
 names_differ key other h = not-true _ (and_parts (is_lt (slice_cmp nat_cmp key other)) _ h).1
@@ -93,7 +94,8 @@ alone g add away (e ∷ es) h = (
 below_away : (name : List ℕ) (files : Files) → are_away name files ≡ true → below name files ≡ []
 unfolding below
 below_away name [] h = refl
-below_away name (file ∷ files) h = ap (λ o. cons_option o (filter_map (file_below name) files)) (go file.path (and_parts _ _ h).0) ∙ below_away name files (and_parts _ _ h).1
+below_away name (file ∷ files) h = ap (λ o. cons_option o (filter_map (file_below name) files)) (go file.path (and_parts _ _ h).0) ∙ below_away name files
+    (and_parts _ _ h).1
   where
     go : (path : List (List ℕ)) → not (begins name path) ≡ true → file_below name (record file { path = path }) ≡ None
     go [] k = refl
@@ -109,7 +111,8 @@ below_alone es h = alone below below_append below_away es h
 
 bytes_away : (name : List ℕ) (files : Files) → are_away name files ≡ true → flat_map (file_bytes name) files ≡ []
 bytes_away name [] h = refl
-bytes_away name (file ∷ files) h = ap (λ v. v ++ flat_map (file_bytes name) files) (go file.path (and_parts _ _ h).0) ∙ bytes_away name files (and_parts _ _ h).1
+bytes_away name (file ∷ files) h = ap (λ v. v ++ flat_map (file_bytes name) files) (go file.path (and_parts _ _ h).0) ∙ bytes_away name files
+    (and_parts _ _ h).1
   where
     go : (path : List (List ℕ)) → not (begins name path) ≡ true → file_bytes name (record file { path = path }) ≡ []
     go [] k = refl
@@ -119,7 +122,8 @@ pub bytes_alone : (es : Listing) → is_listing es ≡ true
     → AllByRecursion (λ (e : List ℕ × Files). flat_map (file_bytes (name_in e.0)) (shown es) ≡ flat_map (file_bytes (name_in e.0)) e.1) es
 bytes_alone es h = alone (λ name. flat_map (file_bytes name)) (λ name. flat_map-append (file_bytes name)) bytes_away es h
 
-pub flat_map-each : {Y : Type 0} (f g : List ℕ × Files → List Y) (es : Listing) → AllByRecursion (λ (e : List ℕ × Files). f e ≡ g e) es → flat_map f es ≡ flat_map g es
+pub flat_map-each : {Y : Type 0} (f g : List ℕ × Files → List Y) (es : Listing) → AllByRecursion (λ (e : List ℕ × Files). f e ≡ g e) es
+    → flat_map f es ≡ flat_map g es
 flat_map-each f g [] h = refl
 flat_map-each f g (e ∷ es) h = ap (λ v. v ++ flat_map f es) h.0 ∙ ap (λ v. g e ++ v) (flat_map-each f g es h.1)
 
@@ -139,14 +143,16 @@ stays name so_far (file ∷ files) h k =
     go [] l = refl
     go (a ∷ ar) l = cond-true _ _ _ (ap (λ v. among v so_far) (same_name a name l) ∙ h)
 
-joins : (name : List ℕ) (so_far : List (List ℕ)) (files : Files) → among name so_far ≡ false → has_some files ≡ true → list_all (λ file. begins name file.path) files ≡ true
+joins : (name : List ℕ) (so_far : List (List ℕ)) (files : Files) → among name so_far ≡ false → has_some files ≡ true
+    → list_all (λ file. begins name file.path) files ≡ true
     → fold add_name so_far files ≡ so_far ++ name ∷ []
 joins name so_far [] h filled k = absurd (false≢true filled)
 joins name so_far (file ∷ files) h filled k =
     ap (λ v. fold add_name v files) (go file.path (and_parts _ _ k).0) ∙ stays name (so_far ++ name ∷ []) files there (and_parts _ _ k).1
   where
     there : among name (so_far ++ name ∷ []) ≡ true
-    there = list_any-append (λ other. is_same other name) so_far (name ∷ []) ∙ ap (λ v. v || (is_same name name || false)) h ∙ ap (λ v. v || false) (is_same-refl name)
+    there = list_any-append (λ other. is_same other name) so_far (name ∷ []) ∙ ap (λ v. v || (is_same name name || false)) h ∙ ap (λ v. v || false)
+        (is_same-refl name)
 
     go : (path : List (List ℕ)) → begins name path ≡ true → add_first so_far path ≡ so_far ++ name ∷ []
     go [] l = absurd (false≢true l)
@@ -174,7 +180,8 @@ names_from so_far (e ∷ es) h filled fresh =
     fold-append add_name so_far e.1 (shown es)
     ∙ ap (λ v. fold add_name v (shown es))
     (joins (name_in e.0) so_far e.1 (not-true _ (and_parts _ _ fresh).0) (and_parts _ _ filled).0 (entry-begins e.0 e.1 (listing-entry e es h)))
-    ∙ names_from (so_far ++ name_in e.0 ∷ []) es (listing-rest e es h) (and_parts _ _ filled).1 (fresh_more e.0 so_far es (and_parts _ _ fresh).1 (listing-first e es h))
+    ∙ names_from (so_far ++ name_in e.0 ∷ []) es (listing-rest e es h) (and_parts _ _ filled).1
+    (fresh_more e.0 so_far es (and_parts _ _ fresh).1 (listing-first e es h))
     ∙ append_assoc so_far (name_in e.0 ∷ []) (map (λ e. name_in e.0) es)
 
 all_fresh : (es : Listing) → are_fresh [] es ≡ true

@@ -8,8 +8,8 @@ use Rattle.std.specs.Cmp.Lexicographic.{slice_cmp, nat_list_cmp_total}
 use Rattle.std.specs.List.{filter, list_all, fold}
 use Rattle.std.proofs.lemmas.Bool.{false≢true, and_parts, and_from, eq-eqb}
 use Rattle.bf_paths.specs.Components.{path_text}
-use Rattle.bf_grammar.specs.declared.object.Mode.{Mode}
-use Rattle.bf_grammar.specs.declared.object.Oid.{Oid}
+use Rattle.bf_oid.specs.declared.object.Mode.{Mode}
+use Rattle.bf_oid.specs.declared.object.Oid.{Oid}
 use Rattle.bf_forest.specs.declared.entries.FileEntry.{FileEntry}
 use Rattle.bf_forest.specs.declared.edits.Edit.{Edit}
 use Rattle.bf_forest.specs.declared.edits.Edit.TheVariants.{Set, Remove, Clear}
@@ -91,7 +91,8 @@ is_tree-append (x ∷ xs) ys h k b =
     and_from _ _ (list_all-append (comes_before x) xs ys (and_parts _ _ h).0 (and_parts _ _ b).0)
     (is_tree-append xs ys (and_parts _ _ h).1 k (and_parts _ _ b).1)
 
-all_before-cons : (xs : Files) (y : FileEntry) (ys : Files) → list_all (λ x. comes_before x y) xs ≡ true → all_before xs ys ≡ true → all_before xs (y ∷ ys) ≡ true
+all_before-cons : (xs : Files) (y : FileEntry) (ys : Files) → list_all (λ x. comes_before x y) xs ≡ true → all_before xs ys ≡ true
+    → all_before xs (y ∷ ys) ≡ true
 all_before-cons [] y ys h b = refl
 all_before-cons (x ∷ xs) y ys h b =
     let h_parts = and_parts (comes_before x y) (list_all (λ v. comes_before v y) xs) h in
@@ -108,7 +109,8 @@ behind_path : (path : List (List ℕ)) (file : FileEntry) → is_in_part Behind 
 behind_path path file h = (and_parts _ _ h).1
 
 -- of two files on either side of a path, of which one comes before the other
-across : (path : List (List ℕ)) (x y : FileEntry) → is_before x.path path ≡ true → is_before path y.path ≡ true → are_apart x.path y.path ≡ true → comes_before x y ≡ true
+across : (path : List (List ℕ)) (x y : FileEntry) → is_before x.path path ≡ true → is_before path y.path ≡ true → are_apart x.path y.path ≡ true
+    → comes_before x y ≡ true
 across path x y p q apart = and_from _ _ (is_before-trans x.path path y.path p q) apart
 
 -- what all the others come behind
@@ -117,30 +119,37 @@ others_first : (path : List (List ℕ)) (file : FileEntry) (files : Files) → i
 others_first path file [] p h = refl
 others_first path file (x ∷ files) p h =
     let more = others_first path file files p (and_parts _ _ h).1 in
-    let by : (b : Bool) → is_in_part Before path x ≡ b → list_all (λ v. comes_before v file) (cond b (x ∷ filter (is_in_part Before path) files) (filter (is_in_part Before path) files)) ≡ true =
-    λ b. elim b as (λ v. is_in_part Before path x ≡ v → list_all (λ v. comes_before v file) (cond v (x ∷ filter (is_in_part Before path) files) (filter (is_in_part Before path) files)) ≡ true) [
+    let by : (b : Bool) → is_in_part Before path x ≡ b
+    → list_all (λ v. comes_before v file) (cond b (x ∷ filter (is_in_part Before path) files) (filter (is_in_part Before path) files)) ≡ true =
+    λ b. elim b as (λ v. is_in_part Before path x ≡ v
+    → list_all (λ v. comes_before v file) (cond v (x ∷ filter (is_in_part Before path) files) (filter (is_in_part Before path) files)) ≡ true) [
       | true ↦ λ e. and_from _ _ (across path x file (before_path path x e) p (are_apart-swap file.path x.path (and_parts _ _ (and_parts _ _ h).0).1)) more
       | false ↦ λ e. more
     ] in
     by (is_in_part Before path x) refl
 
-sides : (path : List (List ℕ)) (files : Files) → is_tree files ≡ true → all_before (filter (is_in_part Before path) files) (filter (is_in_part Behind path) files) ≡ true
+sides : (path : List (List ℕ)) (files : Files) → is_tree files ≡ true
+    → all_before (filter (is_in_part Before path) files) (filter (is_in_part Behind path) files) ≡ true
 unfolding is_tree
 sides path [] h = refl
 sides path (file ∷ files) h =
     let before = filter (is_in_part Before path) files in
     let behind = filter (is_in_part Behind path) files in
     let more : all_before before behind ≡ true = sides path files (and_parts _ _ h).1 in
-    let by : (b d : Bool) → is_in_part Before path file ≡ b → is_in_part Behind path file ≡ d → all_before (cond b (file ∷ before) before) (cond d (file ∷ behind) behind) ≡ true =
-    λ b d. elim b as (λ v. is_in_part Before path file ≡ v → is_in_part Behind path file ≡ d → all_before (cond v (file ∷ before) before) (cond d (file ∷ behind) behind) ≡ true) [
-      | true ↦ elim d as (λ w. is_in_part Before path file ≡ true → is_in_part Behind path file ≡ w → all_before (file ∷ before) (cond w (file ∷ behind) behind) ≡ true) [
-        | true ↦ λ e f. absurd (not_before path (is_before-trans path file.path path (behind_path path file f) (before_path path file e)))
-        | false ↦ λ e f. and_from _ _ (list_all-filter (comes_before file) (is_in_part Behind path) files (and_parts _ _ h).0) more
-      ]
-      | false ↦ elim d as (λ w. is_in_part Before path file ≡ false → is_in_part Behind path file ≡ w → all_before before (cond w (file ∷ behind) behind) ≡ true) [
-        | true ↦ λ e f. all_before-cons before file behind (others_first path file files (behind_path path file f) (and_parts _ _ h).0) more
-        | false ↦ λ e f. more
-      ]
+    let by : (b d : Bool) → is_in_part Before path file ≡ b → is_in_part Behind path file ≡ d
+    → all_before (cond b (file ∷ before) before) (cond d (file ∷ behind) behind) ≡ true =
+    λ b d. elim b as (λ v. is_in_part Before path file ≡ v → is_in_part Behind path file ≡ d
+    → all_before (cond v (file ∷ before) before) (cond d (file ∷ behind) behind) ≡ true) [
+      | true ↦ elim d as (λ w. is_in_part Before path file ≡ true → is_in_part Behind path file ≡ w
+          → all_before (file ∷ before) (cond w (file ∷ behind) behind) ≡ true) [
+            | true ↦ λ e f. absurd (not_before path (is_before-trans path file.path path (behind_path path file f) (before_path path file e)))
+            | false ↦ λ e f. and_from _ _ (list_all-filter (comes_before file) (is_in_part Behind path) files (and_parts _ _ h).0) more
+          ]
+      | false ↦ elim d as (λ w. is_in_part Before path file ≡ false → is_in_part Behind path file ≡ w
+          → all_before before (cond w (file ∷ behind) behind) ≡ true) [
+            | true ↦ λ e f. all_before-cons before file behind (others_first path file files (behind_path path file f) (and_parts _ _ h).0) more
+            | false ↦ λ e f. more
+          ]
     ] in
     by (is_in_part Before path file) (is_in_part Behind path file) refl refl
 

@@ -62,7 +62,8 @@ module _ {X : Type 0} where
         | Less ↦ λ l. and_from (is_below key (e ∷ es)) _ (and_from (is_lt (slice_cmp nat_cmp key e.0)) _ (ap is_lt l) (below_more key e.0 es l first)) h
         | Equal ↦ λ l. h
         | Greater ↦ λ l.
-            and_from _ _ (all-put (λ o. is_lt (slice_cmp nat_cmp e.0 o.0)) key x es (λ q same. ap (λ v. is_lt (slice_cmp nat_cmp e.0 v)) same ∙ ap is_lt (lesser key e.0 l)) first)
+            and_from _ _ (all-put (λ o. is_lt (slice_cmp nat_cmp e.0 o.0)) key x es
+            (λ q same. ap (λ v. is_lt (slice_cmp nat_cmp e.0 v)) same ∙ ap is_lt (lesser key e.0 l)) first)
             (ascend_put es key x rest)
       ] in
       by (slice_cmp nat_cmp key e.0) refl
@@ -86,7 +87,8 @@ module _ {X : Type 0} where
   ascend_overlaid es (c ∷ changes) h = ascend_changed (overlaid es changes) c.0 c.1 (ascend_overlaid es changes h)
 
   -- what holds of the keys of entries and changes
-  pub all_overlaid : (p : List ℕ → Bool) (es : List (List ℕ × X)) (changes : List (List ℕ × Option X)) → list_all (λ e. p e.0) es ≡ true → list_all (λ c. p c.0) changes ≡ true
+  pub all_overlaid : (p : List ℕ → Bool) (es : List (List ℕ × X)) (changes : List (List ℕ × Option X)) → list_all (λ e. p e.0) es ≡ true
+      → list_all (λ c. p c.0) changes ≡ true
       → list_all (λ e. p e.0) (overlaid es changes) ≡ true
   all_overlaid p es [] h k = h
   all_overlaid p es (c ∷ changes) h k = go c.1 (all_overlaid p es changes h (and_parts (p c.0) _ k).1)
@@ -158,7 +160,8 @@ module _ {X : Type 0} where
       ] in
       by (is_eq (slice_cmp nat_cmp key e.0)) refl
 
-  found_changed : (q key : List ℕ) (change : Option X) (es : List (List ℕ × X)) → do_ascend es ≡ true → found q (changed_at es key change) ≡ cond (is_found q key) change (found q es)
+  found_changed : (q key : List ℕ) (change : Option X) (es : List (List ℕ × X)) → do_ascend es ≡ true
+      → found q (changed_at es key change) ≡ cond (is_found q key) change (found q es)
   found_changed q key None es h = found_without q key es h
   found_changed q key (Some x) es h = found_put q key x es
 
@@ -174,7 +177,8 @@ module _ {X : Type 0} where
   found_overlaid q es (c ∷ changes) h =
       let more = found_overlaid q es changes h in
       found_changed q c.0 c.1 (overlaid es changes) (ascend_overlaid es changes h)
-      ∙ (elim (is_eq (slice_cmp nat_cmp q c.0)) as (λ b. cond b c.1 (found q (overlaid es changes)) ≡ change_or (cond b (Some c.1) (found q changes)) (found q es)) [
+      ∙ (elim (is_eq (slice_cmp nat_cmp q c.0)) as (λ b. cond b c.1 (found q (overlaid es changes)) ≡ change_or (cond b (Some c.1) (found q changes))
+      (found q es)) [
         | true ↦ refl
         | false ↦ more
       ])
@@ -209,7 +213,8 @@ module _ {X : Type 0} where
                   let here : q ≡ x.0 = exact_bytes q x.0 (equal_is _ k) in
                   ap (λ n. found n a) here ∙ none_below x.0 a one.0 ∙ sym (ap (λ n. found n b) (here ∙ same) ∙ none_below y.0 b two.0)
               | false ↦ λ k.
-                  sym (ap (λ n. cond n (Some x.1) (found q a)) k) ∙ h q ∙ ap (λ n. cond n (Some y.1) (found q b)) (ap (λ n. is_eq (slice_cmp nat_cmp q n)) (sym same) ∙ k)
+                  sym (ap (λ n. cond n (Some x.1) (found q a)) k) ∙ h q ∙ ap (λ n. cond n (Some y.1) (found q b))
+                  (ap (λ n. is_eq (slice_cmp nat_cmp q n)) (sym same) ∙ k)
             ] in
             ap (λ v. v ∷ a) (pair_same x y same values) ∙ ap (λ v. y ∷ v) (same_found a b one.1 two.1 (λ q. rest q (is_eq (slice_cmp nat_cmp q x.0)) refl))
         | Greater ↦ λ l. absurd (
@@ -233,7 +238,8 @@ module _ {X : Type 0} where
   changed_swap es k l c d h differ =
       let one = ascend_changed es k c h in
       let two = ascend_changed es l d h in
-      same_found (changed_at (changed_at es k c) l d) (changed_at (changed_at es l d) k c) (ascend_changed (changed_at es k c) l d one) (ascend_changed (changed_at es l d) k c two)
+      same_found (changed_at (changed_at es k c) l d) (changed_at (changed_at es l d) k c) (ascend_changed (changed_at es k c) l d one)
+      (ascend_changed (changed_at es l d) k c two)
       (λ q. found_changed q l d (changed_at es k c) one ∙ ap (cond (is_found q l) d) (found_changed q k c es h)
       ∙ swap (is_found q l) (is_found q k) d c (found q es) (λ m n. not_both q k l differ n m)
       ∙ sym (found_changed q k c (changed_at es l d) two ∙ ap (cond (is_found q k) c) (found_changed q l d es h)))
@@ -246,8 +252,10 @@ module _ {X : Type 0} where
       let under = overlaid es changes in
       let ascends = ascend_overlaid es changes h in
       let all = changed_at (changed_at under c.0 c.1) key change in
-      let by : (o : Ordering) → slice_cmp nat_cmp key c.0 ≡ o → overlaid es (match_ordering o ((key, change) ∷ c ∷ changes) ((c.0, change) ∷ changes) (c ∷ put changes key change)) ≡ all =
-      λ o. elim o as (λ v. slice_cmp nat_cmp key c.0 ≡ v → overlaid es (match_ordering v ((key, change) ∷ c ∷ changes) ((c.0, change) ∷ changes) (c ∷ put changes key change)) ≡ all) [
+      let by : (o : Ordering) → slice_cmp nat_cmp key c.0 ≡ o
+      → overlaid es (match_ordering o ((key, change) ∷ c ∷ changes) ((c.0, change) ∷ changes) (c ∷ put changes key change)) ≡ all =
+      λ o. elim o as (λ v. slice_cmp nat_cmp key c.0 ≡ v
+      → overlaid es (match_ordering v ((key, change) ∷ c ∷ changes) ((c.0, change) ∷ changes) (c ∷ put changes key change)) ≡ all) [
         | Less ↦ λ l. refl
         | Equal ↦ λ l.
             let same : key ≡ c.0 = exact_bytes key c.0 l in
@@ -265,7 +273,8 @@ module _ {X : Type 0} where
   changed_before x es key None l = ap (λ o. cond (is_eq o) es (x ∷ without key es)) (greater x.0 key l)
   changed_before x es key (Some y) l = ap (λ o. match_ordering o ((key, y) ∷ x ∷ es) ((x.0, y) ∷ es) (x ∷ put es key y)) (greater x.0 key l)
 
-  overlaid_before : (x : List ℕ × X) (es : List (List ℕ × X)) (changes : List (List ℕ × Option X)) → is_below x.0 changes ≡ true → overlaid (x ∷ es) changes ≡ x ∷ overlaid es changes
+  overlaid_before : (x : List ℕ × X) (es : List (List ℕ × X)) (changes : List (List ℕ × Option X)) → is_below x.0 changes ≡ true
+      → overlaid (x ∷ es) changes ≡ x ∷ overlaid es changes
   overlaid_before x es [] h = refl
   overlaid_before x es (c ∷ changes) h =
       ap (λ v. changed_at v c.0 c.1) (overlaid_before x es changes (and_parts (is_lt (slice_cmp nat_cmp x.0 c.0)) (is_below x.0 changes) h).1)
@@ -285,23 +294,30 @@ module _ {X : Type 0} where
       ap (λ o. cond (is_eq o) es (e ∷ without key es)) (below_less key e es h)
       ∙ ap (λ v. e ∷ v) (without_below key es (below_rest key e es h))
 
-  changed_first : (es : List (List ℕ × X)) (key : List ℕ) (change : Option X) → is_below key es ≡ true → changed_at es key change ≡ change_entry key change ++ es
+  changed_first : (es : List (List ℕ × X)) (key : List ℕ) (change : Option X) → is_below key es ≡ true
+      → changed_at es key change ≡ change_entry key change ++ es
   changed_first es key None h = without_below key es h
   changed_first [] key (Some x) h = refl
   changed_first (e ∷ es) key (Some x) h = ap (λ o. match_ordering o ((key, x) ∷ e ∷ es) ((e.0, x) ∷ es) (e ∷ put es key x)) (below_less key e es h)
 
-  changed_here : (e : List ℕ × X) (es : List (List ℕ × X)) (key : List ℕ) (change : Option X) → slice_cmp nat_cmp key e.0 ≡ Equal → changed_at (e ∷ es) key change ≡ change_entry key change ++ es
+  changed_here : (e : List ℕ × X) (es : List (List ℕ × X)) (key : List ℕ) (change : Option X) → slice_cmp nat_cmp key e.0 ≡ Equal
+      → changed_at (e ∷ es) key change ≡ change_entry key change ++ es
   changed_here e es key None l = ap (λ o. cond (is_eq o) es (e ∷ without key es)) l
   changed_here e es key (Some x) l =
-      ap (λ o. match_ordering o ((key, x) ∷ e ∷ es) ((e.0, x) ∷ es) (e ∷ put es key x)) l ∙ ap {A = List ℕ} {B = List (List ℕ × X)} (λ k. (k, x) ∷ es) (sym (exact_bytes key e.0 l))
+      ap (λ o. match_ordering o ((key, x) ∷ e ∷ es) ((e.0, x) ∷ es) (e ∷ put es key x)) l ∙ ap {A = List ℕ} {B = List (List ℕ × X)} (λ k. (k, x) ∷ es)
+      (sym (exact_bytes key e.0 l))
 
-  pub overlaid_first : (es : List (List ℕ × X)) (key : List ℕ) (change : Option X) (changes : List (List ℕ × Option X)) → do_ascend es ≡ true → are_from key es ≡ true → is_below key changes ≡ true
+  pub overlaid_first : (es : List (List ℕ × X)) (key : List ℕ) (change : Option X) (changes : List (List ℕ × Option X)) → do_ascend es ≡ true
+      → are_from key es ≡ true → is_below key changes ≡ true
       → overlaid es ((key, change) ∷ changes) ≡ change_entry key change ++ overlaid (without key es) changes
-  overlaid_first [] key change changes h from below = changed_first (overlaid [] changes) key change (all_overlaid (λ k. is_lt (slice_cmp nat_cmp key k)) [] changes refl below)
+  overlaid_first [] key change changes h from below = changed_first (overlaid [] changes) key change
+      (all_overlaid (λ k. is_lt (slice_cmp nat_cmp key k)) [] changes refl below)
   overlaid_first (e ∷ es) key change changes h from below =
       let first = (and_parts (is_below e.0 es) (do_ascend es) h).0 in
-      let by : (o : Ordering) → slice_cmp nat_cmp key e.0 ≡ o → changed_at (overlaid (e ∷ es) changes) key change ≡ change_entry key change ++ overlaid (cond (is_eq o) es (e ∷ without key es)) changes =
-      λ o. elim o as (λ v. slice_cmp nat_cmp key e.0 ≡ v → changed_at (overlaid (e ∷ es) changes) key change ≡ change_entry key change ++ overlaid (cond (is_eq v) es (e ∷ without key es)) changes) [
+      let by : (o : Ordering) → slice_cmp nat_cmp key e.0 ≡ o
+      → changed_at (overlaid (e ∷ es) changes) key change ≡ change_entry key change ++ overlaid (cond (is_eq o) es (e ∷ without key es)) changes =
+      λ o. elim o as (λ v. slice_cmp nat_cmp key e.0 ≡ v
+      → changed_at (overlaid (e ∷ es) changes) key change ≡ change_entry key change ++ overlaid (cond (is_eq v) es (e ∷ without key es)) changes) [
         | Less ↦ λ l.
             let above : is_below key (e ∷ es) ≡ true = and_from (is_lt (slice_cmp nat_cmp key e.0)) _ (ap is_lt l) (below_more key e.0 es l first) in
             changed_first (overlaid (e ∷ es) changes) key change (all_overlaid (λ k. is_lt (slice_cmp nat_cmp key k)) (e ∷ es) changes above below)

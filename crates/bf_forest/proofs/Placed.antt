@@ -1,5 +1,6 @@
 -- Where a key stands among old entries.
-use Rattle.std.proofs.Common.{◌≡◌, ℕ, zero, suc, ◌+◌, ◌<◌, ◌≤◌, Bool, true, false, nat_lt, cond, if◌then◌else◌, List, [], ◌∷◌, ◌++◌, length, take, drop, get_or, Option, Some, None, refl, sym, ap, ◌∙◌, subst, inl, inr, arith}
+use Rattle.std.proofs.Common.{◌≡◌, ℕ, zero, suc, ◌+◌, ◌<◌, ◌≤◌, true, false, nat_lt, cond, if◌then◌else◌, List, [], ◌∷◌, ◌++◌, length, take, drop, get_or}
+use Rattle.std.proofs.Common.{Option, Some, None, refl, sym, ap, ◌∙◌, subst, inl, inr, arith}
 use Rattle.std.specs.Ordering.{nat_cmp, is_lt, is_eq}
 use Rattle.std.specs.declared.cmp.Ordering.{Ordering}
 use Rattle.std.specs.declared.cmp.Ordering.TheVariants.{Less, Equal, Greater}
@@ -13,7 +14,7 @@ use Rattle.bf_forest.specs.declared.nodes.Entry.{Entry}
 use Rattle.bf_forest.specs.declared.slots.Slot.{Slot}
 use Rattle.bf_forest.specs.Nodes.{entry_at, stood}
 use Rattle.bf_forest.specs.Overlays.{overlaid, change_entry, are_from, is_below, do_ascend}
-use Rattle.bf_forest.specs.Rests.{IsOld, IsShorter, IsPassed, key_at}
+use Rattle.bf_forest.specs.Rests.{IsOld, IsShorter, IsPassed, key_at, is_before_key}
 use Rattle.bf_forest.specs.Slots.{without, found, slot_of, slots_of, are_in_order}
 use Rattle.bf_forest.proofs.Keys.{cmp-same}
 use Rattle.bf_forest.proofs.Ordered.{less}
@@ -25,13 +26,11 @@ pub order_at : (table : List Entry) (numbers : List ℕ) (i j : ℕ) → are_in_
 order_at table [] i j h l k = absurd (omega arith)
 order_at table (first ∷ numbers) i zero h l k = absurd (omega arith)
 order_at table (first ∷ numbers) zero (suc j) h l k =
-    stood_get table (λ e. is_lt (slice_cmp nat_cmp (entry_at table first).key e.key)) numbers j (and_parts _ (are_in_order (stood table numbers)) h).0 (omega arith)
+    stood_get table (λ e. is_lt (slice_cmp nat_cmp (entry_at table first).key e.key)) numbers j (and_parts _ (are_in_order (stood table numbers)) h).0
+    (omega arith)
 order_at table (first ∷ numbers) (suc i) (suc j) h l k =
-    order_at table numbers i j (and_parts (list_all (λ other. is_lt (slice_cmp nat_cmp (entry_at table first).key other.key)) (stood table numbers)) _ h).1 (omega arith) (omega arith)
-
--- whether the entry at a place has a key below another one
-abbrev pub is_before_key : List Entry → List ℕ → List ℕ → ℕ → Bool
-is_before_key table numbers key place = is_lt (slice_cmp nat_cmp (key_at table numbers place) key)
+    order_at table numbers i j (and_parts (list_all (λ other. is_lt (slice_cmp nat_cmp (entry_at table first).key other.key)) (stood table numbers)) _ h).1
+    (omega arith) (omega arith)
 
 lt_trans : (a b c : List ℕ) → is_lt (slice_cmp nat_cmp a b) ≡ true → is_lt (slice_cmp nat_cmp b c) ≡ true → is_lt (slice_cmp nat_cmp a c) ≡ true
 lt_trans a b c h k = ap is_lt (nat_list_cmp_total.trans a b c (less _ h) (less _ k))
@@ -50,14 +49,16 @@ behind_more table numbers key middle k order here l within =
     elim (cases_Bool (is_before_key table numbers key k)) [
       | inr not_before ↦ not_before
       | inl before ↦ absurd (elim (cases_lt middle k) [
-        | inl front ↦ false≢true (sym here ∙ lt_trans (key_at table numbers middle) (key_at table numbers k) key (order_at table numbers middle k order front within) before)
+        | inl front ↦ false≢true (sym here ∙ lt_trans (key_at table numbers middle) (key_at table numbers k) key
+            (order_at table numbers middle k order front within) before)
         | inr same ↦ false≢true (sym here ∙ ap (is_before_key table numbers key) (let e : middle ≡ k = omega arith in e) ∙ before)
       ])
     ]
 
 -- ---- the entries in front of a place, and those from it on
 
-pub all_before : (table : List Entry) (numbers key : List ℕ) (place : ℕ) → place ≤ length numbers → ((k : ℕ) → k < place → is_before_key table numbers key k ≡ true)
+pub all_before : (table : List Entry) (numbers key : List ℕ) (place : ℕ) → place ≤ length numbers
+    → ((k : ℕ) → k < place → is_before_key table numbers key k ≡ true)
     → list_all (λ entry. is_lt (slice_cmp nat_cmp entry.key key)) (stood table (take place numbers)) ≡ true
 all_before table numbers key zero l h = none numbers
   where
@@ -68,7 +69,8 @@ all_before table [] key (suc place) l h = absurd (omega arith)
 all_before table (first ∷ numbers) key (suc place) l h =
     and_from _ _ (h 0 (omega arith)) (all_before table numbers key place (omega arith) (λ k m. h (suc k) (omega arith)))
 
-found_front : (table : List Entry) (front : List ℕ) (key : List ℕ) (back : List (List ℕ × Slot)) → list_all (λ entry. is_lt (slice_cmp nat_cmp entry.key key)) (stood table front) ≡ true
+found_front : (table : List Entry) (front : List ℕ) (key : List ℕ) (back : List (List ℕ × Slot))
+    → list_all (λ entry. is_lt (slice_cmp nat_cmp entry.key key)) (stood table front) ≡ true
     → found key (slots_of (stood table front) ++ back) ≡ found key back
 found_front table [] key back h = refl
 found_front table (first ∷ front) key back h =
@@ -87,22 +89,28 @@ both_parts [] (suc place) = refl
 both_parts (first ∷ numbers) zero = refl
 both_parts (first ∷ numbers) (suc place) = ap (λ v. first ∷ v) (both_parts numbers place)
 
-pub slots_parts : (table : List Entry) (numbers : List ℕ) (place : ℕ) → slots_of (stood table numbers) ≡ slots_of (stood table (take place numbers)) ++ slots_of (stood table (drop place numbers))
+pub slots_parts : (table : List Entry) (numbers : List ℕ) (place : ℕ)
+    → slots_of (stood table numbers) ≡ slots_of (stood table (take place numbers)) ++ slots_of (stood table (drop place numbers))
 slots_parts table numbers place =
     ap (λ v. slots_of (stood table v)) (both_parts numbers place)
-    ∙ ap slots_of (stood_append table (take place numbers) (drop place numbers)) ∙ slots_append (stood table (take place numbers)) (stood table (drop place numbers))
+    ∙ ap slots_of (stood_append table (take place numbers) (drop place numbers)) ∙ slots_append (stood table (take place numbers))
+    (stood table (drop place numbers))
 
-pub found_behind : (table : List Entry) (numbers key : List ℕ) (place : ℕ) → place ≤ length numbers → ((k : ℕ) → k < place → is_before_key table numbers key k ≡ true)
+pub found_behind : (table : List Entry) (numbers key : List ℕ) (place : ℕ) → place ≤ length numbers
+    → ((k : ℕ) → k < place → is_before_key table numbers key k ≡ true)
     → found key (slots_of (stood table numbers)) ≡ found key (slots_of (stood table (drop place numbers)))
 found_behind table numbers key place l h =
-    ap (found key) (slots_parts table numbers place) ∙ found_front table (take place numbers) key (slots_of (stood table (drop place numbers))) (all_before table numbers key place l h)
+    ap (found key) (slots_parts table numbers place) ∙ found_front table (take place numbers) key (slots_of (stood table (drop place numbers)))
+    (all_before table numbers key place l h)
 
 -- ---- keys ascend
 
-below_slots : (key : List ℕ) (entries : List Entry) → list_all (λ other. is_lt (slice_cmp nat_cmp key other.key)) entries ≡ true → is_below key (slots_of entries) ≡ true
+below_slots : (key : List ℕ) (entries : List Entry) → list_all (λ other. is_lt (slice_cmp nat_cmp key other.key)) entries ≡ true
+    → is_below key (slots_of entries) ≡ true
 below_slots key [] h = refl
 below_slots key (entry ∷ entries) h =
-    and_from _ _ (and_parts (is_lt (slice_cmp nat_cmp key entry.key)) _ h).0 (below_slots key entries (and_parts (is_lt (slice_cmp nat_cmp key entry.key)) _ h).1)
+    and_from _ _ (and_parts (is_lt (slice_cmp nat_cmp key entry.key)) _ h).0
+    (below_slots key entries (and_parts (is_lt (slice_cmp nat_cmp key entry.key)) _ h).1)
 
 pub ascend_slots : (entries : List Entry) → are_in_order entries ≡ true → do_ascend (slots_of entries) ≡ true
 ascend_slots [] h = refl
@@ -114,13 +122,15 @@ pub order_drop : (entries : List Entry) (n : ℕ) → are_in_order entries ≡ t
 order_drop [] zero h = h
 order_drop [] (suc n) h = h
 order_drop (entry ∷ entries) zero h = h
-order_drop (entry ∷ entries) (suc n) h = order_drop entries n (and_parts (list_all (λ other. is_lt (slice_cmp nat_cmp entry.key other.key)) entries) (are_in_order entries) h).1
+order_drop (entry ∷ entries) (suc n) h = order_drop entries n
+    (and_parts (list_all (λ other. is_lt (slice_cmp nat_cmp entry.key other.key)) entries) (are_in_order entries) h).1
 
 -- ---- the entry at the place
 
 -- the entries from a place on: none, or the one there and those behind it
 pub at_place : (table : List Entry) (numbers : List ℕ) (place : ℕ) → place < length numbers
-    → slots_of (stood table (drop place numbers)) ≡ ((key_at table numbers place, slot_of (entry_at table (get_or numbers place 0)).kind) ∷ slots_of (stood table (drop (suc place) numbers)))
+    → slots_of (stood table (drop place numbers)) ≡ ((key_at table numbers place, slot_of (entry_at table (get_or numbers place 0)).kind) ∷ slots_of
+    (stood table (drop (suc place) numbers)))
 at_place table numbers place l = ap (λ v. slots_of (stood table v)) (drop-cons numbers place 0 l)
 
 past_end : (numbers : List ℕ) (place : ℕ) → length numbers ≤ place → drop place numbers ≡ []
@@ -142,12 +152,14 @@ not_less a b h differ =
     ] in
     by (slice_cmp nat_cmp a b) refl
 
-below_there : (table : List Entry) (numbers key : List ℕ) (place : ℕ) → are_in_order (stood table numbers) ≡ true → place < length numbers → slice_cmp nat_cmp key (key_at table numbers place) ≡ Less
+below_there : (table : List Entry) (numbers key : List ℕ) (place : ℕ) → are_in_order (stood table numbers) ≡ true → place < length numbers
+    → slice_cmp nat_cmp key (key_at table numbers place) ≡ Less
     → is_below key (slots_of (stood table (drop place numbers))) ≡ true
 below_there table numbers key place order l h =
     let parts = do_ascend (slots_of (stood table (drop place numbers))) in
     let rest = slots_of (stood table (drop (suc place) numbers)) in
-    let ascends = ap do_ascend (sym (at_place table numbers place l)) ∙ ascend_slots (stood table (drop place numbers)) (ap are_in_order (stood_drop table numbers place) ∙ order_drop (stood table numbers) place order) in
+    let ascends = ap do_ascend (sym (at_place table numbers place l)) ∙ ascend_slots (stood table (drop place numbers))
+    (ap are_in_order (stood_drop table numbers place) ∙ order_drop (stood table numbers) place order) in
     ap (is_below key) (at_place table numbers place l)
     ∙ and_from (is_lt (slice_cmp nat_cmp key (key_at table numbers place))) _ (ap is_lt h)
     (below_more key (key_at table numbers place) rest h (and_parts (is_below (key_at table numbers place) rest) _ ascends).0)
@@ -163,7 +175,8 @@ found_none table numbers key place order l before behind differ =
       | inr past ↦ ap (λ v. found key (slots_of (stood table v))) (past_end numbers place past)
     ])
 
-pub found_there : (table : List Entry) (numbers key : List ℕ) (place : ℕ) → place < length numbers → ((k : ℕ) → k < place → is_before_key table numbers key k ≡ true)
+pub found_there : (table : List Entry) (numbers key : List ℕ) (place : ℕ) → place < length numbers
+    → ((k : ℕ) → k < place → is_before_key table numbers key k ≡ true)
     → key_at table numbers place ≡ key → found key (slots_of (stood table numbers)) ≡ Some (slot_of (entry_at table (get_or numbers place 0)).kind)
 found_there table numbers key place l before same =
     found_behind table numbers key place (omega arith) before ∙ ap (found key) (at_place table numbers place l)
@@ -177,7 +190,8 @@ pub left_there : (table : List Entry) (base key : List ℕ) (place : ℕ) → pl
 left_there table base key place l same =
     let rest = slots_of (stood table (drop (suc place) base)) in
     sym (ap (without key) (at_place table base place l)
-    ∙ ap (λ o. cond (is_eq o) rest ((key_at table base place, slot_of (entry_at table (get_or base place 0)).kind) ∷ without key rest)) (ap (slice_cmp nat_cmp key) same ∙ cmp-same key))
+    ∙ ap (λ o. cond (is_eq o) rest ((key_at table base place, slot_of (entry_at table (get_or base place 0)).kind) ∷ without key rest))
+    (ap (slice_cmp nat_cmp key) same ∙ cmp-same key))
 
 pub left_none : (table : List Entry) (base key : List ℕ) (place : ℕ) → are_in_order (stood table base) ≡ true
     → ((k : ℕ) → place ≤ k → k < length base → is_before_key table base key k ≡ false) → (place < length base → key_at table base place ≡ key → ⊥)
@@ -210,27 +224,44 @@ passed table old new base rest key place count order l before behind there missi
     elim (cases_lt place count) [
       | inl more ↦
           let at = there more in
-          let same : rest ≡ drop (suc place) base = left ∙ ap (λ n. drop n base) (let e : count ≡ suc place = omega (arith, at.0) in e) in
-          (place, taken, all_before table base key place l before, from, ap (λ v. slots_of (stood table v)) same ∙ left_there table base key place at.1 at.2, (suc place, same))
+          let same : rest ≡ drop (suc place) base = left ∙ ap (λ n. drop n base) (let e : count ≡ suc place = omega (arith, at.0) in e) in (
+            place,
+            taken,
+            all_before table base key place l before,
+            from,
+            ap (λ v. slots_of (stood table v)) same ∙ left_there table base key place at.1 at.2,
+            (suc place, same),
+          )
       | inr none ↦
           let at = missing none in
-          let same : rest ≡ drop place base = left ∙ ap (λ n. drop n base) at.0 in
-          (place, taken, all_before table base key place l before, from, ap (λ v. slots_of (stood table v)) same ∙ left_none table base key place order.1 behind at.1, (place, same))
+          let same : rest ≡ drop place base = left ∙ ap (λ n. drop n base) at.0 in (
+            place,
+            taken,
+            all_before table base key place l before,
+            from,
+            ap (λ v. slots_of (stood table v)) same ∙ left_none table base key place order.1 behind
+                at.1,
+            (place, same),
+          )
     ]
 
 -- the entries below a key, then what stands at the key, then the others
-below_front : (table : List Entry) (front : List ℕ) (key : List ℕ) {X : Type 0} (changes : List (List ℕ × X)) → list_all (λ entry. is_lt (slice_cmp nat_cmp entry.key key)) (stood table front) ≡ true
+below_front : (table : List Entry) (front : List ℕ) (key : List ℕ) {X : Type 0} (changes : List (List ℕ × X))
+    → list_all (λ entry. is_lt (slice_cmp nat_cmp entry.key key)) (stood table front) ≡ true
     → is_below key changes ≡ true → (x : X) → list_all (λ slot. is_below slot.0 ((key, x) ∷ changes)) (slots_of (stood table front)) ≡ true
 below_front table [] key changes h k x = refl
 below_front table (first ∷ front) key changes h k x =
     let entry = entry_at table first in
     let parts = and_parts (is_lt (slice_cmp nat_cmp entry.key key)) (list_all (λ entry. is_lt (slice_cmp nat_cmp entry.key key)) (stood table front)) h in
-    and_from (is_below entry.key ((key, x) ∷ changes)) _ (and_from (is_lt (slice_cmp nat_cmp entry.key key)) _ parts.0 (below_more entry.key key changes (less _ parts.0) k))
+    and_from (is_below entry.key ((key, x) ∷ changes)) _
+    (and_from (is_lt (slice_cmp nat_cmp entry.key key)) _ parts.0 (below_more entry.key key changes (less _ parts.0) k))
     (below_front table front key changes parts.1 k x)
 
-pub taken_slots : (table : List Entry) (old new base rest key : List ℕ) (changes : List (List ℕ × Option Slot)) (change : Option Slot) → IsOld table base → is_below key changes ≡ true
+pub taken_slots : (table : List Entry) (old new base rest key : List ℕ) (changes : List (List ℕ × Option Slot)) (change : Option Slot) → IsOld table base
+    → is_below key changes ≡ true
     → (p : IsPassed table old new base rest key)
-    → overlaid (slots_of (stood table base)) ((key, change) ∷ changes) ≡ slots_of (stood table (take p.0 base)) ++ (change_entry key change ++ overlaid (slots_of (stood table rest)) changes)
+    → overlaid (slots_of (stood table base)) ((key, change) ∷ changes) ≡ slots_of (stood table (take p.0 base))
+    ++ (change_entry key change ++ overlaid (slots_of (stood table rest)) changes)
 taken_slots table old new base rest key changes change order below p =
     let front = slots_of (stood table (take p.0 base)) in
     let back = slots_of (stood table (drop p.0 base)) in
@@ -244,7 +275,11 @@ taken_slots table old new base rest key changes change order below p =
 pub old_shorter : (table : List Entry) (base rest : List ℕ) → IsOld table base → IsShorter rest base → IsOld table rest
 old_shorter table base rest h s =
     let P : List ℕ → Type 0 = IsOld table in
-    subst P (sym s.1) (all_drop (λ number. nat_lt number (length table)) base s.0 h.0, ap are_in_order (stood_drop table base s.0) ∙ order_drop (stood table base) s.0 h.1)
+    subst P (sym s.1) (
+      all_drop (λ number. nat_lt number (length table)) base s.0 h.0,
+      ap are_in_order (stood_drop table base s.0) ∙ order_drop
+          (stood table base) s.0 h.1,
+    )
 
 drop_more : (numbers : List ℕ) (m n : ℕ) → drop n (drop m numbers) ≡ drop (m + n) numbers
 drop_more numbers m n = drop-drop n m numbers

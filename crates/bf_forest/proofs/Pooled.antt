@@ -1,20 +1,22 @@
 -- Trees as entries that name other trees by their numbers.
-use Rattle.std.proofs.Common.{◌≡◌, ℕ, zero, suc, ◌+◌, ◌<◌, true, ◌&&◌, cond, List, [], ◌∷◌, ◌++◌, length, take, get_or, Option, Some, None, refl, sym, ap, ◌∙◌, inl, inr, subst, length-append, arith}
+use Rattle.std.proofs.Common.{◌≡◌, ℕ, zero, suc, ◌+◌, ◌<◌, true, ◌&&◌, cond, List, [], ◌∷◌, ◌++◌, length, take, get_or, Option, Some, None, refl, sym, ap, ◌∙◌}
+use Rattle.std.proofs.Common.{inl, inr, subst, length-append, arith}
 use Rattle.std.specs.List.{list_all, list_any, flat_map, filter_map, cons_option, fold, AllByRecursion}
 use Rattle.std.specs.Option.{option_map}
 use Rattle.std.proofs.lemmas.Bool.{false≢true, and_parts, and_from, cases_lt, lt-ltb, ltb-true}
 use Rattle.std.proofs.lemmas.List.{take_all, get_or-take, get_or_past, append-nil, length-take-le}
 use Rattle.std.proofs.lemmas.List.Folds.{flat_map-map, list_any-append, list_all-append, list_any_at}
 use Rattle.std.proofs.Math.ListN.{length-map}
-use Rattle.bf_grammar.specs.Object.{name_of}
-use Rattle.bf_grammar.specs.declared.object.Kind.TheVariants.{Tree}
+use Rattle.bf_oid.specs.Object.{name_of}
+use Rattle.bf_oid.specs.declared.object.Kind.TheVariants.{Tree}
 use Rattle.bf_paths.specs.Components.{is_component, is_path}
 use Rattle.bf_forest.specs.declared.nodes.Entry.{Entry}
 use Rattle.bf_forest.specs.declared.nodes.EntryKind.{EntryKind}
 use Rattle.bf_forest.specs.declared.nodes.EntryKind.TheVariants.{File, Directory}
 use Rattle.bf_forest.specs.Files.{Files, is_tree}
 use Rattle.bf_forest.specs.Listing.{name_in, Listing, is_listing, shown, beneath}
-use Rattle.bf_forest.specs.Nodes.{Node, kind_files, listed, files_in, has_some, is_filled, is_node, is_earlier, is_good, kind_bytes, body_of, trees_from, AreNodes, IsSound, IsPosition}
+use Rattle.bf_forest.specs.Nodes.{Node, kind_files, listed, files_in, has_some, is_filled, is_node, is_earlier, is_good, kind_bytes, body_of, trees_from}
+use Rattle.bf_forest.specs.Nodes.{AreNodes, IsSound, IsPosition}
 use Rattle.bf_forest.specs.Trees.{names, below, file_below, file_bytes, entry_with, where_some, or_none, tree_name, directories, are_same, with_tree, files_at}
 use Rattle.bf_forest.proofs.Indexed.{files_at-front}
 use Rattle.bf_forest.proofs.Joining.{at_push, kept_refl, kept_trans, take_front, with_tree-there}
@@ -99,7 +101,8 @@ at_node trees (node ∷ nodes) (suc i) d h l =
 
 -- ---- entries of a node
 
-earlier_kind : (trees : List Files) (entry : Entry) → is_filled (entry.key, kind_files trees entry.key entry.kind) ≡ true → is_earlier (length trees) entry ≡ true
+earlier_kind : (trees : List Files) (entry : Entry) → is_filled (entry.key, kind_files trees entry.key entry.kind) ≡ true
+    → is_earlier (length trees) entry ≡ true
 earlier_kind trees entry h = go entry.kind h
   where
     go : (kind : EntryKind) → has_some (kind_files trees entry.key kind) ≡ true → is_earlier (length trees) (record entry { kind = kind }) ≡ true
@@ -110,17 +113,20 @@ earlier_kind trees entry h = go entry.kind h
           | inr past ↦ absurd (false≢true (sym (ap (λ v. has_some (beneath (name_in entry.key) v)) (get_or_past trees number [] past)) ∙ k))
         ]
 
-pub all_earlier : (trees : List Files) (entries : List Entry) → list_all is_filled (listed trees entries) ≡ true → list_all (is_earlier (length trees)) entries ≡ true
+pub all_earlier : (trees : List Files) (entries : List Entry) → list_all is_filled (listed trees entries) ≡ true
+    → list_all (is_earlier (length trees)) entries ≡ true
 all_earlier trees [] h = refl
 all_earlier trees (entry ∷ entries) h =
-    and_from _ _ (earlier_kind trees entry (and_parts _ _ h).0) (all_earlier trees entries (and_parts (is_filled (entry.key, kind_files trees entry.key entry.kind)) _ h).1)
+    and_from _ _ (earlier_kind trees entry (and_parts _ _ h).0)
+    (all_earlier trees entries (and_parts (is_filled (entry.key, kind_files trees entry.key entry.kind)) _ h).1)
 
 kind_kept : (a b : List Files) (key : List ℕ) (kind : EntryKind) → take (length a) b ≡ a → is_earlier (length a) (record { key = key; kind = kind }) ≡ true
     → kind_files b key kind ≡ kind_files a key kind
 kind_kept a b key (File mode oid) e h = refl
 kind_kept a b key (Directory number) e h = ap (beneath (name_in key)) (files_at_kept a b number e (ltb-true number (length a) h))
 
-pub listed_kept : (a b : List Files) (entries : List Entry) → take (length a) b ≡ a → list_all (is_earlier (length a)) entries ≡ true → listed b entries ≡ listed a entries
+pub listed_kept : (a b : List Files) (entries : List Entry) → take (length a) b ≡ a → list_all (is_earlier (length a)) entries ≡ true
+    → listed b entries ≡ listed a entries
 listed_kept a b [] e h = refl
 listed_kept a b (entry ∷ entries) e h =
     ap {A = Files} {B = Listing} (λ v. (entry.key, v) ∷ listed b entries) (kind_kept a b entry.key entry.kind e (and_parts _ _ h).0)
@@ -134,11 +140,13 @@ pub node-filled : (trees : List Files) (entries : List Entry) → is_node trees 
 unfolding is_node
 node-filled trees entries h = (and_parts (is_listing (listed trees entries)) _ h).1
 
-pub node-from : (trees : List Files) (entries : List Entry) → is_listing (listed trees entries) ≡ true → list_all is_filled (listed trees entries) ≡ true → is_node trees entries ≡ true
+pub node-from : (trees : List Files) (entries : List Entry) → is_listing (listed trees entries) ≡ true → list_all is_filled (listed trees entries) ≡ true
+    → is_node trees entries ≡ true
 unfolding is_node
 node-from trees entries h k = and_from _ _ h k
 
-good_entries : (trees : List Files) (count : ℕ) (entries : List Entry) → is_listing (listed trees entries) ≡ true → list_all (is_earlier count) entries ≡ true → list_all (is_good count) entries ≡ true
+good_entries : (trees : List Files) (count : ℕ) (entries : List Entry) → is_listing (listed trees entries) ≡ true → list_all (is_earlier count) entries ≡ true
+    → list_all (is_good count) entries ≡ true
 good_entries trees count [] h k = refl
 good_entries trees count (entry ∷ entries) h k =
     let e : List ℕ × Files = (entry.key, kind_files trees entry.key entry.kind) in
@@ -158,7 +166,8 @@ node-kept a b entries e h =
 -- what is known of the node with a number
 abbrev pub IsNumbered : List Files → Node → ℕ → Type 0
 IsNumbered trees node number =
-    (files_in trees node.entries ≡ files_at trees number) × (is_node trees node.entries ≡ true) × (list_all (is_good number) node.entries ≡ true) × (node.name.0 ≡ tree_name (files_at trees number))
+    (files_in trees node.entries ≡ files_at trees number) × (is_node trees node.entries ≡ true) × (list_all (is_good number) node.entries ≡ true)
+    × (node.name.0 ≡ tree_name (files_at trees number))
 
 pub numbered : (nodes : List Node) (i : ℕ) (d : Node) → AreNodes [] nodes → i < length nodes → IsNumbered (trees_from [] nodes) (get_or nodes i d) i
 numbered nodes i d h l =
@@ -213,14 +222,16 @@ AllIn trees list = list_all (λ files. list_any (λ tree. are_same tree files) t
 fold_all_in : (trees list : List Files) → AllIn trees list → fold with_tree trees list ≡ trees
 fold_all_in trees [] h = refl
 fold_all_in trees (files ∷ list) h =
-    ap (λ v. fold with_tree v list) (with_tree-there trees files (and_parts _ _ h).0) ∙ fold_all_in trees list (and_parts (list_any (λ tree. are_same tree files) trees) _ h).1
+    ap (λ v. fold with_tree v list) (with_tree-there trees files (and_parts _ _ h).0) ∙ fold_all_in trees list
+    (and_parts (list_any (λ tree. are_same tree files) trees) _ h).1
 
 all_in_more : (trees more list : List Files) → AllIn trees list → AllIn (trees ++ more) list
 all_in_more trees more [] h = refl
 all_in_more trees more (files ∷ list) h =
     let parts = and_parts (list_any (λ tree. are_same tree files) trees) (list_all (λ f. list_any (λ tree. are_same tree f) trees) list) h in
     and_from (list_any (λ tree. are_same tree files) (trees ++ more)) (list_all (λ f. list_any (λ tree. are_same tree f) (trees ++ more)) list)
-    (list_any-append (λ tree. are_same tree files) trees more ∙ or_first (list_any (λ tree. are_same tree files) trees) (list_any (λ tree. are_same tree files) more) parts.0)
+    (list_any-append (λ tree. are_same tree files) trees more ∙ or_first (list_any (λ tree. are_same tree files) trees)
+    (list_any (λ tree. are_same tree files) more) parts.0)
     (all_in_more trees more list parts.1)
 
 all_in_append : (trees a b : List Files) → AllIn trees a → AllIn trees b → AllIn trees (a ++ b)
@@ -253,7 +264,8 @@ entries_in : (trees : List Files) (entries : List Entry) → IsClosed trees → 
     → AllIn trees (flat_map (λ e. inside_of e.1 (name_in e.0)) (listed trees entries))
 entries_in trees [] closed h = refl
 entries_in trees (entry ∷ entries) closed h =
-    all_in_append trees (inside_of (kind_files trees entry.key entry.kind) (name_in entry.key)) (flat_map (λ e. inside_of e.1 (name_in e.0)) (listed trees entries))
+    all_in_append trees (inside_of (kind_files trees entry.key entry.kind) (name_in entry.key))
+    (flat_map (λ e. inside_of e.1 (name_in e.0)) (listed trees entries))
     (kind_in trees entry.key entry.kind closed (and_parts _ _ h).0)
     (entries_in trees entries closed (and_parts (is_filled (entry.key, kind_files trees entry.key entry.kind)) _ h).1)
 
@@ -269,14 +281,19 @@ closed_push trees entries closed h =
     ap (λ v. list_all (λ f. list_any (λ tree. are_same tree f) next) v) (directories_inside list listing filled)
     ∙ all_in_more trees (files ∷ []) (flat_map (λ e. inside_of e.1 (name_in e.0)) list) (entries_in trees entries closed filled) in
     let itself : AllIn next (files ∷ []) =
-    and_from _ _ (list_any-append (λ tree. are_same tree files) trees (files ∷ []) ∙ or_second (list_any (λ tree. are_same tree files) trees) _ (or_first _ _ (same-refl files))) refl in
+    and_from _ _ (list_any-append (λ tree. are_same tree files) trees (files ∷ []) ∙ or_second (list_any (λ tree. are_same tree files) trees) _
+    (or_first _ _ (same-refl files))) refl in
     let whole : AllIn next (directories files) =
-    ap (λ v. list_all (λ f. list_any (λ tree. are_same tree f) next) v) (directories-is files) ∙ all_in_append next (flat_map (inside_of files) (names files)) (files ∷ []) inside itself in
+    ap (λ v. list_all (λ f. list_any (λ tree. are_same tree f) next) v) (directories-is files) ∙ all_in_append next (flat_map (inside_of files) (names files))
+    (files ∷ []) inside itself in
     λ number l. elim (cases_lt number (length trees)) [
       | inl before ↦
           let at = closed number before in
-          let same : files_at next number ≡ files_at trees number = files_at-front trees (files ∷ []) number before in
-          (ap are_paths same ∙ at.0, ap (λ v. list_all (λ f. list_any (λ tree. are_same tree f) next) (directories v)) same ∙ all_in_more trees (files ∷ []) (directories (files_at trees number)) at.1)
+          let same : files_at next number ≡ files_at trees number = files_at-front trees (files ∷ []) number before in (
+            ap are_paths same ∙ at.0,
+            ap (λ v. list_all (λ f. list_any (λ tree. are_same tree f) next) (directories v)) same ∙ all_in_more trees (files ∷ [])
+                (directories (files_at trees number)) at.1,
+          )
       | inr last ↦
           let place : number ≡ length trees = omega (arith, size) in
           let same : files_at next number ≡ files = ap (files_at next) place ∙ at_push trees files in
@@ -291,16 +308,19 @@ closed_from trees (node ∷ nodes) closed h =
 pub closed_pool : (nodes : List Node) → AreNodes [] nodes → IsClosed (trees_from [] nodes)
 closed_pool nodes h = closed_from [] nodes (λ number l. absurd (omega arith)) h
 
-pub directories_there : (trees : List Files) (number : ℕ) → IsClosed trees → number < length trees → fold with_tree trees (directories (files_at trees number)) ≡ trees
+pub directories_there : (trees : List Files) (number : ℕ) → IsClosed trees → number < length trees
+    → fold with_tree trees (directories (files_at trees number)) ≡ trees
 directories_there trees number closed h = fold_all_in trees (directories (files_at trees number)) (closed number h).1
 
 -- ---- the name of a tree by its entries
 
-by_bytes : (a b : Files) (name : List ℕ) (tree : Option (List ℕ)) → flat_map (file_bytes name) a ≡ flat_map (file_bytes name) b → entry_with a name tree ≡ entry_with b name tree
+by_bytes : (a b : Files) (name : List ℕ) (tree : Option (List ℕ)) → flat_map (file_bytes name) a ≡ flat_map (file_bytes name) b
+    → entry_with a name tree ≡ entry_with b name tree
 by_bytes a b name None h = h
 by_bytes a b name (Some tree) h = refl
 
-entry_alone : (all : Files) (e : List ℕ × Files) → below (name_in e.0) all ≡ below (name_in e.0) e.1 → flat_map (file_bytes (name_in e.0)) all ≡ flat_map (file_bytes (name_in e.0)) e.1
+entry_alone : (all : Files) (e : List ℕ × Files) → below (name_in e.0) all ≡ below (name_in e.0) e.1
+    → flat_map (file_bytes (name_in e.0)) all ≡ flat_map (file_bytes (name_in e.0)) e.1
     → entry_of all (name_in e.0) ≡ entry_of e.1 (name_in e.0)
 entry_alone all e h k =
     ap (λ v. entry_with all (name_in e.0) (where_some tree_name v)) h ∙ by_bytes all e.1 (name_in e.0) (where_some tree_name (below (name_in e.0) e.1)) k
@@ -319,8 +339,10 @@ kind_entry trees key (File mode oid) closed h =
 kind_entry trees key (Directory number) closed h =
     let less : number < length trees = ltb-true number (length trees) (earlier_kind trees (record { key = key; kind = Directory number }) h) in
     let files = files_at trees number in
-    let by : (v : Files) → v ≡ files → has_some (beneath (name_in key) files) ≡ true → entry_with (beneath (name_in key) files) (name_in key) (where_some tree_name v) ≡ kind_bytes trees key (Directory number) =
-    λ v. elim v as (λ w. w ≡ files → has_some (beneath (name_in key) files) ≡ true → entry_with (beneath (name_in key) files) (name_in key) (where_some tree_name w) ≡ kind_bytes trees key (Directory number)) [
+    let by : (v : Files) → v ≡ files → has_some (beneath (name_in key) files) ≡ true
+    → entry_with (beneath (name_in key) files) (name_in key) (where_some tree_name v) ≡ kind_bytes trees key (Directory number) =
+    λ v. elim v as (λ w. w ≡ files → has_some (beneath (name_in key) files) ≡ true
+    → entry_with (beneath (name_in key) files) (name_in key) (where_some tree_name w) ≡ kind_bytes trees key (Directory number)) [
       | [] ↦ λ e k. absurd (false≢true (ap (λ w. has_some (beneath (name_in key) w)) e ∙ k))
       | file ∷ rest ↦ λ e k. ap (λ w. entry_with (beneath (name_in key) files) (name_in key) (Some (tree_name w))) e
     ] in
@@ -331,7 +353,8 @@ kinds_body : (trees : List Files) (entries : List Entry) → IsClosed trees → 
 kinds_body trees [] closed h = refl
 kinds_body trees (entry ∷ entries) closed h =
     ap (λ v. v ++ flat_map (λ e. entry_of e.1 (name_in e.0)) (listed trees entries)) (kind_entry trees entry.key entry.kind closed (and_parts _ _ h).0)
-    ∙ ap (λ v. kind_bytes trees entry.key entry.kind ++ v) (kinds_body trees entries closed (and_parts (is_filled (entry.key, kind_files trees entry.key entry.kind)) _ h).1)
+    ∙ ap (λ v. kind_bytes trees entry.key entry.kind ++ v)
+    (kinds_body trees entries closed (and_parts (is_filled (entry.key, kind_files trees entry.key entry.kind)) _ h).1)
 
 pub name_by_entries : (trees : List Files) (entries : List Entry) → IsClosed trees → is_node trees entries ≡ true
     → name_of Tree (body_of trees entries) ≡ tree_name (files_in trees entries)
@@ -342,7 +365,8 @@ name_by_entries trees entries closed h =
     let body : flat_map (entry_of (shown es)) (names (shown es)) ≡ body_of trees entries =
     ap (flat_map (entry_of (shown es))) (names-shown es listing filled)
     ∙ flat_map-map (entry_of (shown es)) (λ (e : List ℕ × Files). name_in e.0) es
-    ∙ flat_map-each (λ e. entry_of (shown es) (name_in e.0)) (λ e. entry_of e.1 (name_in e.0)) es (entries_alone (shown es) es (below_alone es listing) (bytes_alone es listing))
+    ∙ flat_map-each (λ e. entry_of (shown es) (name_in e.0)) (λ e. entry_of e.1 (name_in e.0)) es
+    (entries_alone (shown es) es (below_alone es listing) (bytes_alone es listing))
     ∙ kinds_body trees entries closed filled in
     ap (name_of Tree) (sym body) ∙ sym (tree_name-is (shown es))
 
@@ -354,13 +378,15 @@ count_names trees entries h =
 
 -- ---- the nodes that a pool is kept in
 
-pub node_within : (nodes : List Node) (trees : List Files) (number count : ℕ) → trees_from [] nodes ≡ trees → count ≡ length nodes → number < length trees → number < count
+pub node_within : (nodes : List Node) (trees : List Files) (number count : ℕ) → trees_from [] nodes ≡ trees → count ≡ length nodes → number < length trees
+    → number < count
 node_within nodes trees number count view size h = omega (arith, ap length view, length-trees [] nodes, size, h)
 
 pub numbered_in : (nodes : List Node) (trees : List Files) (number : ℕ) (node : Node) → AreNodes [] nodes → trees_from [] nodes ≡ trees → number < length trees
     → node ≡ get_or nodes number node → IsNumbered trees node number
 numbered_in nodes trees number node h view less at =
-    let known : IsNumbered (trees_from [] nodes) (get_or nodes number node) number = numbered nodes number node h (node_within nodes trees number (length nodes) view refl less) in
+    let known : IsNumbered (trees_from [] nodes) (get_or nodes number node) number = numbered nodes number node h
+    (node_within nodes trees number (length nodes) view refl less) in
     let P : Node → Type 0 = λ v. IsNumbered trees v number in
     let Q : List Files → Type 0 = λ v. IsNumbered v (get_or nodes number node) number in
     subst P (sym at) (subst Q view known)
@@ -407,7 +433,8 @@ joined_base trees (file ∷ files) number closed l e = ap (λ v. fold with_tree 
 
 -- ---- where a tree stands
 
-pub position_there : (trees : List Files) (files : Files) (o : Option ℕ) (number : ℕ) → o ≡ Some number → IsPosition trees files o → trees ≡ with_tree trees files
+pub position_there : (trees : List Files) (files : Files) (o : Option ℕ) (number : ℕ) → o ≡ Some number → IsPosition trees files o
+    → trees ≡ with_tree trees files
 position_there trees files o number e h =
     let P : Option ℕ → Type 0 = λ v. IsPosition trees files v in
     let at : IsPosition trees files (Some number) = subst P e h in
@@ -415,7 +442,8 @@ position_there trees files o number e h =
 
 -- ---- a node more
 
-pub trees_pushed : (nodes next : List Node) (trees : List Files) (node : Node) → next ≡ nodes ++ node ∷ [] → trees_from [] nodes ≡ trees → trees_from [] next ≡ trees ++ files_in trees node.entries ∷ []
+pub trees_pushed : (nodes next : List Node) (trees : List Files) (node : Node) → next ≡ nodes ++ node ∷ [] → trees_from [] nodes ≡ trees
+    → trees_from [] next ≡ trees ++ files_in trees node.entries ∷ []
 trees_pushed nodes next trees node e view =
     ap (trees_from []) e ∙ trees-append [] nodes (node ∷ []) ∙ ap (λ v. v ++ files_in v node.entries ∷ []) view
 

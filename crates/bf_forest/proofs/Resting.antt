@@ -1,7 +1,7 @@
 -- What an edit makes of the changes is what it makes of the entries.
 use Rattle.std.proofs.Common.{◌≡◌, ℕ, true, List, [], ◌∷◌, ◌++◌, Option, Some, None, refl, sym, ap, ◌∙◌}
-use Rattle.bf_grammar.specs.declared.object.Mode.{Mode}
-use Rattle.bf_grammar.specs.declared.object.Oid.{Oid}
+use Rattle.bf_oid.specs.declared.object.Mode.{Mode}
+use Rattle.bf_oid.specs.declared.object.Oid.{Oid}
 use Rattle.bf_forest.specs.declared.edits.Edit.{Edit}
 use Rattle.bf_forest.specs.declared.edits.Edit.TheVariants.{Set, Remove}
 use Rattle.bf_forest.specs.declared.nodes.EntryKind.{EntryKind}

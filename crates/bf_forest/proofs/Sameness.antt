@@ -3,8 +3,8 @@ use Rattle.std.proofs.Common.{◌≡◌, ℕ, true, List, [], ◌∷◌, refl, a
 use Rattle.std.specs.Cmp.Lexicographic.{pointwise}
 use Rattle.std.proofs.lemmas.Bool.{false≢true, and_parts}
 use Rattle.std.proofs.lemmas.Slice.Eq.{bytes_eq-Decides}
-use Rattle.bf_grammar.specs.declared.object.Mode.{Mode}
-use Rattle.bf_grammar.specs.declared.object.Mode.TheVariants.{Plain, Exec, Link, Module}
+use Rattle.bf_oid.specs.declared.object.Mode.{Mode}
+use Rattle.bf_oid.specs.declared.object.Mode.TheVariants.{Plain, Exec, Link, Module}
 use Rattle.bf_forest.specs.declared.entries.FileEntry.{FileEntry}
 use Rattle.bf_forest.specs.Files.{Files, is_same}
 use Rattle.bf_forest.specs.Trees.{mode_text, is_same_file, are_same}

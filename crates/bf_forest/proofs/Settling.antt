@@ -55,12 +55,14 @@ listing-filter q (e ∷ es) h =
     ]
 
 -- what gives nothing of no files gives the same without the entries that have none
-filled_map : {Y : Type 0} (g : List ℕ → Files → List Y) → ((key : List ℕ) → g key [] ≡ []) → (es : Listing) → flat_map (λ e. g e.0 e.1) (filter is_filled es) ≡ flat_map (λ e. g e.0 e.1) es
+filled_map : {Y : Type 0} (g : List ℕ → Files → List Y) → ((key : List ℕ) → g key [] ≡ []) → (es : Listing)
+    → flat_map (λ e. g e.0 e.1) (filter is_filled es) ≡ flat_map (λ e. g e.0 e.1) es
 filled_map g none [] = refl
 filled_map g none (e ∷ es) = go e.1 (filled_map g none es)
   where
     go : (files : Files) → flat_map (λ e. g e.0 e.1) (filter is_filled es) ≡ flat_map (λ e. g e.0 e.1) es
-        → flat_map (λ e. g e.0 e.1) (cond (has_some files) ((e.0, files) ∷ filter is_filled es) (filter is_filled es)) ≡ g e.0 files ++ flat_map (λ e. g e.0 e.1) es
+        → flat_map (λ e. g e.0 e.1) (cond (has_some files) ((e.0, files) ∷ filter is_filled es) (filter is_filled es)) ≡ g e.0 files ++ flat_map
+        (λ e. g e.0 e.1) es
     go [] more = more ∙ sym (ap (λ v. v ++ flat_map (λ e. g e.0 e.1) es) (none e.0))
     go (file ∷ files) more = ap (λ v. g e.0 (file ∷ files) ++ v) more
 
@@ -82,14 +84,16 @@ slot_inside trees key (Directory base pending) bound sound h =
     let paths = are_paths-edited pending (base_files trees base) (and_parts (list_all has_path pending) _ parts.1).0 (base-sound trees base sound parts.0).0 in
     ap (λ v. or_none (where_some directories v)) (below_beneath (name_in key) (edited (base_files trees base) pending) paths)
 
-slots_inside : (trees : List Files) (slots : List (List ℕ × Slot)) (bound : ℕ) → IsSound trees → list_all (λ slot. is_slot (length trees) bound slot.1) slots ≡ true
+slots_inside : (trees : List Files) (slots : List (List ℕ × Slot)) (bound : ℕ) → IsSound trees
+    → list_all (λ slot. is_slot (length trees) bound slot.1) slots ≡ true
     → flat_map (λ e. inside_of e.1 (name_in e.0)) (contents trees slots) ≡ flat_map (λ slot. slot_directories trees slot.1) slots
 slots_inside trees [] bound sound h = refl
 slots_inside trees (slot ∷ slots) bound sound h =
     ap (λ v. v ++ flat_map (λ e. inside_of e.1 (name_in e.0)) (contents trees slots)) (slot_inside trees slot.0 slot.1 bound sound (and_parts _ _ h).0)
     ∙ ap (λ v. slot_directories trees slot.1 ++ v) (slots_inside trees slots bound sound (and_parts (is_slot (length trees) bound slot.1) _ h).1)
 
-all_inside : (trees : List Files) (slots : List (List ℕ × Slot)) (bound : ℕ) → IsSound trees → is_listing (contents trees slots) ≡ true → list_all (λ slot. is_slot (length trees) bound slot.1) slots ≡ true
+all_inside : (trees : List Files) (slots : List (List ℕ × Slot)) (bound : ℕ) → IsSound trees → is_listing (contents trees slots) ≡ true
+    → list_all (λ slot. is_slot (length trees) bound slot.1) slots ≡ true
     → flat_map (λ slot. slot_directories trees slot.1) slots ≡ flat_map (inside_of (shown (contents trees slots))) (names (shown (contents trees slots)))
 all_inside trees slots bound sound listing h =
     let es = contents trees slots in
@@ -100,7 +104,8 @@ all_inside trees slots bound sound listing h =
 
 -- ---- the entries that are made
 
-pub made : (trees next : List Files) (slots : List (List ℕ × Slot)) (bound : ℕ) (files : Files) (entries : List Entry) → IsSound trees → is_listing (contents trees slots) ≡ true
+pub made : (trees next : List Files) (slots : List (List ℕ × Slot)) (bound : ℕ) (files : Files) (entries : List Entry) → IsSound trees
+    → is_listing (contents trees slots) ≡ true
     → list_all (λ slot. is_slot (length trees) bound slot.1) slots ≡ true → shown (contents trees slots) ≡ files
     → next ≡ fold with_tree trees (flat_map (λ slot. slot_directories trees slot.1) slots) → listed next entries ≡ filter is_filled (contents trees slots)
     → IsMade trees next files entries
@@ -124,7 +129,8 @@ made_none trees next slots bound files sound listing h e joined empty =
     joined ∙ ap (fold with_tree trees) (all_inside trees slots bound sound listing h ∙ ap (λ v. flat_map (inside_of v) (names v)) (e ∙ empty))
     ∙ sym (ap (λ v. fold with_tree trees (or_none (where_some directories v))) empty)
 
-pub joined_some : (trees : List Files) (files : Files) → has_some files ≡ true → with_directories trees files ≡ fold with_tree trees (or_none (where_some directories files))
+pub joined_some : (trees : List Files) (files : Files) → has_some files ≡ true
+    → with_directories trees files ≡ fold with_tree trees (or_none (where_some directories files))
 unfolding with_directories
 joined_some trees [] h = absurd (false≢true h)
 joined_some trees (file ∷ files) h = refl
@@ -139,7 +145,8 @@ slot_based : (count bound : ℕ) (slot : Slot) → is_slot count bound slot ≡ 
 slot_based count bound (File mode oid) h = refl
 slot_based count bound (Directory base pending) h = (and_parts (is_base count base) _ h).0
 
-pub slots_based : (count bound : ℕ) (slots : List (List ℕ × Slot)) → list_all (λ slot. is_slot count bound slot.1) slots ≡ true → list_all (λ slot. is_based count slot.1) slots ≡ true
+pub slots_based : (count bound : ℕ) (slots : List (List ℕ × Slot)) → list_all (λ slot. is_slot count bound slot.1) slots ≡ true
+    → list_all (λ slot. is_based count slot.1) slots ≡ true
 slots_based count bound [] h = refl
 slots_based count bound (slot ∷ slots) h =
     and_from _ _ (slot_based count bound slot.1 (and_parts _ _ h).0) (slots_based count bound slots (and_parts (is_slot count bound slot.1) _ h).1)
@@ -165,17 +172,20 @@ base_kept : (a b : List Files) (base : Option ℕ) → take (length a) b ≡ a �
 base_kept a b None e h = refl
 base_kept a b (Some number) e h = files_at_kept a b number e (ltb-true number (length a) h)
 
-pub slot_files_kept : (a b : List Files) (key : List ℕ) (slot : Slot) → take (length a) b ≡ a → is_based (length a) slot ≡ true → slot_files b key slot ≡ slot_files a key slot
+pub slot_files_kept : (a b : List Files) (key : List ℕ) (slot : Slot) → take (length a) b ≡ a → is_based (length a) slot ≡ true
+    → slot_files b key slot ≡ slot_files a key slot
 slot_files_kept a b key (File mode oid) e h = refl
 slot_files_kept a b key (Directory base pending) e h = ap (λ v. beneath (name_in key) (edited v pending)) (base_kept a b base e h)
 
-pub slot_directories_kept : (a b : List Files) (slot : Slot) → take (length a) b ≡ a → is_based (length a) slot ≡ true → slot_directories b slot ≡ slot_directories a slot
+pub slot_directories_kept : (a b : List Files) (slot : Slot) → take (length a) b ≡ a → is_based (length a) slot ≡ true
+    → slot_directories b slot ≡ slot_directories a slot
 slot_directories_kept a b (File mode oid) e h = refl
 slot_directories_kept a b (Directory base pending) e h = ap (λ v. or_none (where_some directories (edited v pending))) (base_kept a b base e h)
 
 -- ---- one slot
 
-pub listed_more : (trees : List Files) (entries : List Entry) (entry : Entry) → listed trees (entries ++ entry ∷ []) ≡ listed trees entries ++ (entry.key, kind_files trees entry.key entry.kind) ∷ []
+pub listed_more : (trees : List Files) (entries : List Entry) (entry : Entry)
+    → listed trees (entries ++ entry ∷ []) ≡ listed trees entries ++ (entry.key, kind_files trees entry.key entry.kind) ∷ []
 listed_more trees entries entry = map-append {A = Entry} {B = List ℕ × Files} (λ entry. (entry.key, kind_files trees entry.key entry.kind)) entries (entry ∷ [])
 
 -- what a slot adds to the entries
@@ -183,7 +193,8 @@ abbrev pub IsAdded : List Files → List Files → List Entry → List ℕ → S
 IsAdded trees next old key slot entries =
     (listed next entries ≡ listed trees old ++ filter is_filled ((key, slot_files trees key slot) ∷ [])) × (list_all (is_earlier (length next)) entries ≡ true)
 
-pub directory_added : (trees next : List Files) (old entries : List Entry) (key : List ℕ) (base : Option ℕ) (pending : List Edit) (number : ℕ) → list_all (is_earlier (length trees)) old ≡ true
+pub directory_added : (trees next : List Files) (old entries : List Entry) (key : List ℕ) (base : Option ℕ) (pending : List Edit) (number : ℕ)
+    → list_all (is_earlier (length trees)) old ≡ true
     → take (length trees) next ≡ trees → IsSettled next (edited (base_files trees base) pending) (Some number)
     → entries ≡ old ++ record { key = key; kind = kind.Directory number } ∷ [] → IsAdded trees next old key (Directory base pending) entries
 directory_added trees next old entries key base pending number h kept settled e =
@@ -194,10 +205,12 @@ directory_added trees next old entries key base pending number h kept settled e 
           ∙ ap {A = Files} {B = Listing} (λ v. listed trees old ++ (key, beneath (name_in key) v) ∷ []) settled.1
           ∙ some_kept (listed trees old) key files settled.2,
       ap (list_all (is_earlier (length next))) e ∙ list_all-append (is_earlier (length next)) old (entry ∷ [])
-          ∙ and_from _ _ (earlier_more (length trees) (length next) old (kept_length trees next kept) h) (and_from _ _ (lt-ltb number (length next) settled.0) refl),
+          ∙ and_from _ _ (earlier_more (length trees) (length next) old (kept_length trees next kept) h)
+          (and_from _ _ (lt-ltb number (length next) settled.0) refl),
     )
   where
-    some_kept : (list : Listing) (k : List ℕ) (files : Files) → has_some files ≡ true → list ++ (k, beneath (name_in k) files) ∷ [] ≡ list ++ filter is_filled ((k, beneath (name_in k) files) ∷ [])
+    some_kept : (list : Listing) (k : List ℕ) (files : Files) → has_some files ≡ true
+        → list ++ (k, beneath (name_in k) files) ∷ [] ≡ list ++ filter is_filled ((k, beneath (name_in k) files) ∷ [])
     some_kept list k [] s = absurd (false≢true s)
     some_kept list k (file ∷ files) s = refl
 
@@ -213,19 +226,23 @@ filter_cons e es =
       | false ↦ refl
     ]
 
-pub settling_next : (trees : List Files) (slots : List (List ℕ × Slot)) (now next : List Files) (old entries : List Entry) (key : List ℕ) (slot : Slot) (rest : List (List ℕ × Slot))
+pub settling_next : (trees : List Files) (slots : List (List ℕ × Slot)) (now next : List Files) (old entries : List Entry) (key : List ℕ) (slot : Slot)
+    (rest : List (List ℕ × Slot))
     → IsSettling trees slots now old ((key, slot) ∷ rest) → take (length trees) next ≡ trees
-    → next ≡ fold with_tree now (slot_directories now slot) → listed next entries ≡ listed now old ++ filter is_filled ((key, slot_files now key slot) ∷ []) → list_all (is_earlier (length next)) entries ≡ true
+    → next ≡ fold with_tree now (slot_directories now slot) → listed next entries ≡ listed now old ++ filter is_filled ((key, slot_files now key slot) ∷ [])
+    → list_all (is_earlier (length next)) entries ≡ true
     → IsSettling trees slots next entries rest
 settling_next trees slots now next old entries key slot rest (kept, pool, list, earlier, bases) still joined added last =
     let parts = and_parts (is_based (length trees) slot) (list_all (λ slot. is_based (length trees) slot.1) rest) bases in
     let es = contents trees rest in
     let first : List ℕ × Files = (key, slot_files trees key slot) in (
       still,
-      ap (λ v. fold with_tree v (flat_map (λ slot. slot_directories trees slot.1) rest)) (joined ∙ ap (fold with_tree now) (slot_directories_kept trees now slot kept parts.0))
+      ap (λ v. fold with_tree v (flat_map (λ slot. slot_directories trees slot.1) rest))
+          (joined ∙ ap (fold with_tree now) (slot_directories_kept trees now slot kept parts.0))
           ∙ sym (fold-append with_tree now (slot_directories trees slot) (flat_map (λ slot. slot_directories trees slot.1) rest)) ∙ pool,
       ap (λ v. v ++ filter is_filled es) added
-          ∙ ap {A = Files} {B = Listing} (λ v. (listed now old ++ filter is_filled ((key, v) ∷ [])) ++ filter is_filled es) (slot_files_kept trees now key slot kept parts.0)
+          ∙ ap {A = Files} {B = Listing} (λ v. (listed now old ++ filter is_filled ((key, v) ∷ [])) ++ filter is_filled es)
+          (slot_files_kept trees now key slot kept parts.0)
           ∙ append_assoc (listed now old) (filter is_filled (first ∷ [])) (filter is_filled es)
           ∙ ap (λ v. listed now old ++ v) (sym (filter_cons first es)) ∙ list,
       last,

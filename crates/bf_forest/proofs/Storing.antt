@@ -1,5 +1,6 @@
 -- Entries that are kept with the numbers of their keys: what is there stays, where keys and entries join.
-use Rattle.std.proofs.Common.{◌≡◌, ◌⊎◌, ℕ, zero, suc, ◌<◌, ◌≤◌, Bool, true, nat_lt, List, [], ◌∷◌, ◌++◌, length, map, take, slice_get, get_or, Some, refl, sym, ap, ◌∙◌, subst, inl, inr, arith}
+use Rattle.std.proofs.Common.{◌≡◌, ℕ, zero, suc, ◌<◌, ◌≤◌, true, nat_lt, List, [], ◌∷◌, ◌++◌, length, take, slice_get, get_or, Some, refl, sym}
+use Rattle.std.proofs.Common.{ap, ◌∙◌, subst, inl, inr, arith}
 use Rattle.std.proofs.lemmas.Bool.{and_parts, and_from, ltb-true, lt-ltb}
 use Rattle.std.proofs.lemmas.List.{take-map, get_or-take}
 use Rattle.std.proofs.lemmas.Option.{get_or_from_slice_get}
@@ -8,7 +9,7 @@ use Rattle.std.proofs.Math.Seq.{take-length, take-append_seam}
 use Rattle.bf_forest.specs.declared.nodes.Entry.{Entry}
 use Rattle.bf_forest.specs.declared.nodes.EntryKind.{EntryKind}
 use Rattle.bf_forest.specs.declared.table.Stored.{Stored}
-use Rattle.bf_forest.specs.Nodes.{no_entry, entry_at}
+use Rattle.bf_forest.specs.Nodes.{entry_at}
 use Rattle.bf_forest.specs.Stored.{kind_of, entry_of, entries_in, have_keys, IsJoined}
 use Rattle.bf_forest.proofs.Settling.{kept_length}
 
@@ -21,11 +22,13 @@ entry_stays : (old new : List (List ℕ)) (s : Stored) → take (length old) new
 entry_stays old new s e l =
     ap (λ (v : List ℕ). record { key = v; kind = kind_of s.content }) (sym (get_or-take (length old) new s.key [] l) ∙ ap (λ v. get_or v s.key []) e)
 
-pub entries_stay : (old new : List (List ℕ)) (stored : List Stored) → take (length old) new ≡ old → have_keys (length old) stored ≡ true → entries_in new stored ≡ entries_in old stored
+pub entries_stay : (old new : List (List ℕ)) (stored : List Stored) → take (length old) new ≡ old → have_keys (length old) stored ≡ true
+    → entries_in new stored ≡ entries_in old stored
 entries_stay old new [] e h = refl
 entries_stay old new (s ∷ stored) e h =
     let parts = and_parts (nat_lt s.key (length old)) (have_keys (length old) stored) h in
-    ap (λ (v : Entry). v ∷ entries_in new stored) (entry_stays old new s e (ltb-true s.key (length old) parts.0)) ∙ ap (λ v. entry_of old s ∷ v) (entries_stay old new stored e parts.1)
+    ap (λ (v : Entry). v ∷ entries_in new stored) (entry_stays old new s e (ltb-true s.key (length old) parts.0)) ∙ ap (λ v. entry_of old s ∷ v)
+    (entries_stay old new stored e parts.1)
 
 keys_more : (a b : ℕ) (stored : List Stored) → a ≤ b → have_keys a stored ≡ true → have_keys b stored ≡ true
 keys_more a b [] l h = refl
@@ -41,10 +44,12 @@ keys_push count (first ∷ stored) s h l =
     and_from _ _ parts.0 (keys_push count stored s parts.1 l)
 
 -- each entry has a key after more keys, and after one more entry whose key is there
-pub keys_stay : (old new : List (List ℕ)) (stored : List Stored) → take (length old) new ≡ old → have_keys (length old) stored ≡ true → have_keys (length new) stored ≡ true
+pub keys_stay : (old new : List (List ℕ)) (stored : List Stored) → take (length old) new ≡ old → have_keys (length old) stored ≡ true
+    → have_keys (length new) stored ≡ true
 keys_stay old new stored e h = keys_more (length old) (length new) stored (kept_length old new e) h
 
-pub keys_joined : (old new : List (List ℕ)) (before after : List Stored) (s : Stored) (key : List ℕ) → take (length old) new ≡ old → have_keys (length old) before ≡ true
+pub keys_joined : (old new : List (List ℕ)) (before after : List Stored) (s : Stored) (key : List ℕ) → take (length old) new ≡ old
+    → have_keys (length old) before ≡ true
     → IsJoined before after s → slice_get new s.key ≡ Some key → have_keys (length new) after ≡ true
 keys_joined old new before after s key e h (inl same) at = ap (have_keys (length new)) same ∙ keys_stay old new before e h
 keys_joined old new before after s key e h (inr more) at =
@@ -54,7 +59,8 @@ joined_front : (before after : List Stored) (s : Stored) → IsJoined before aft
 joined_front before after s (inl same) = ap (take (length before)) same ∙ take-length before
 joined_front before after s (inr more) = ap (take (length before)) more ∙ take-append_seam before (s ∷ [])
 
-front_stays : (old new : List (List ℕ)) (before after : List Stored) → take (length old) new ≡ old → have_keys (length old) before ≡ true → take (length before) after ≡ before
+front_stays : (old new : List (List ℕ)) (before after : List Stored) → take (length old) new ≡ old → have_keys (length old) before ≡ true
+    → take (length before) after ≡ before
     → take (length (entries_in old before)) (entries_in new after) ≡ entries_in old before
 front_stays old new before after e h front =
     ap (λ n. take n (entries_in new after)) (length-map {A = Stored} {B = Entry} before (entry_of old))
@@ -68,14 +74,16 @@ table_stays old new stored view e h is =
     let P : List Entry → Type 0 = λ v. take (length v) (entries_in new stored) ≡ v in
     subst P is (front_stays old new stored stored e h (take-length stored))
 
-pub table_joined : (old new : List (List ℕ)) (before after : List Stored) (s : Stored) (view : List Entry) → take (length old) new ≡ old → have_keys (length old) before ≡ true
+pub table_joined : (old new : List (List ℕ)) (before after : List Stored) (s : Stored) (view : List Entry) → take (length old) new ≡ old
+    → have_keys (length old) before ≡ true
     → IsJoined before after s → entries_in old before ≡ view → take (length view) (entries_in new after) ≡ view
 table_joined old new before after s view e h joined is =
     let P : List Entry → Type 0 = λ v. take (length v) (entries_in new after) ≡ v in
     subst P is (front_stays old new before after e h (joined_front before after s joined))
 
 -- an entry that is there has its number
-pub stored_within : (keys : List (List ℕ)) (stored : List Stored) (number : ℕ) (s : Stored) → slice_get stored number ≡ Some s → number < length (entries_in keys stored)
+pub stored_within : (keys : List (List ℕ)) (stored : List Stored) (number : ℕ) (s : Stored) → slice_get stored number ≡ Some s
+    → number < length (entries_in keys stored)
 stored_within keys stored number s at =
     let l = within_list stored number s at in
     omega (arith, l, length-map {A = Stored} {B = Entry} stored (entry_of keys))
@@ -86,5 +94,6 @@ stored_at keys [] number s entry at key kind = cc
 stored_at keys (first ∷ stored) zero s entry at key kind =
     let same : first ≡ s = cc in
     let name = get_or_from_slice_get keys s.key entry.key [] key in
-    ap (entry_of keys) same ∙ ap (λ (v : List ℕ). record { key = v; kind = kind_of s.content }) name ∙ ap (λ (v : EntryKind). record { key = entry.key; kind = v }) kind
+    ap (entry_of keys) same ∙ ap (λ (v : List ℕ). record { key = v; kind = kind_of s.content }) name ∙ ap
+    (λ (v : EntryKind). record { key = entry.key; kind = v }) kind
 stored_at keys (first ∷ stored) (suc number) s entry at key kind = stored_at keys stored number s entry at key kind

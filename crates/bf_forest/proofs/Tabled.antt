@@ -16,7 +16,8 @@ pub stood_kept : (a b : List Entry) (numbers : List ℕ) → take (length a) b �
 stood_kept a b [] e h = refl
 stood_kept a b (number ∷ numbers) e h =
     let parts = and_parts _ (are_within (length a) numbers) h in
-    ap (λ (v : Entry). v ∷ stood b numbers) (entry_kept a b number e (ltb-true number (length a) parts.0)) ∙ ap (λ v. entry_at a number ∷ v) (stood_kept a b numbers e parts.1)
+    ap (λ (v : Entry). v ∷ stood b numbers) (entry_kept a b number e (ltb-true number (length a) parts.0)) ∙ ap (λ v. entry_at a number ∷ v)
+    (stood_kept a b numbers e parts.1)
 
 pub within_more : (a b : ℕ) (numbers : List ℕ) → a ≤ b → are_within a numbers ≡ true → are_within b numbers ≡ true
 within_more a b [] l h = refl
@@ -32,7 +33,8 @@ pub nodes_kept : (a b : List Entry) (kept : List Kept) → take (length a) b ≡
 nodes_kept a b [] e h = refl
 nodes_kept a b (tree ∷ kept) e h =
     let parts = and_parts (are_within (length a) tree.numbers) (are_kept_within (length a) kept) h in
-    ap (λ (v : List Entry). record { entries = v; name = tree.name } ∷ nodes_of b kept) (stood_kept a b tree.numbers e parts.0) ∙ ap (λ v. node_of a tree ∷ v) (nodes_kept a b kept e parts.1)
+    ap (λ (v : List Entry). record { entries = v; name = tree.name } ∷ nodes_of b kept) (stood_kept a b tree.numbers e parts.0) ∙ ap (λ v. node_of a tree ∷ v)
+    (nodes_kept a b kept e parts.1)
 
 pub kept_within_more : (a b : ℕ) (kept : List Kept) → a ≤ b → are_kept_within a kept ≡ true → are_kept_within b kept ≡ true
 kept_within_more a b [] l h = refl
@@ -40,7 +42,8 @@ kept_within_more a b (tree ∷ kept) l h =
     let parts = and_parts (are_within a tree.numbers) (are_kept_within a kept) h in
     and_from _ _ (within_more a b tree.numbers l parts.0) (kept_within_more a b kept l parts.1)
 
-pub kept_within_push : (count : ℕ) (kept : List Kept) (tree : Kept) → are_kept_within count kept ≡ true → are_within count tree.numbers ≡ true → are_kept_within count (kept ++ tree ∷ []) ≡ true
+pub kept_within_push : (count : ℕ) (kept : List Kept) (tree : Kept) → are_kept_within count kept ≡ true → are_within count tree.numbers ≡ true
+    → are_kept_within count (kept ++ tree ∷ []) ≡ true
 kept_within_push count [] tree h k = and_from _ _ k refl
 kept_within_push count (first ∷ kept) tree h k =
     let parts = and_parts (are_within count first.numbers) (are_kept_within count kept) h in
@@ -54,11 +57,13 @@ kept_within_take count (suc n) (tree ∷ kept) h =
     let parts = and_parts (are_within count tree.numbers) (are_kept_within count kept) h in
     and_from _ _ parts.0 (kept_within_take count n kept parts.1)
 
-pub kept_within_at : (count : ℕ) (kept : List Kept) (i : ℕ) (tree : Kept) → are_kept_within count kept ≡ true → i < length kept → tree ≡ get_or kept i tree → are_within count tree.numbers ≡ true
+pub kept_within_at : (count : ℕ) (kept : List Kept) (i : ℕ) (tree : Kept) → are_kept_within count kept ≡ true → i < length kept → tree ≡ get_or kept i tree
+    → are_within count tree.numbers ≡ true
 kept_within_at count [] i tree h l e = absurd (omega arith)
 kept_within_at count (first ∷ kept) zero tree h l e =
     ap (λ (v : Kept). are_within count v.numbers) e ∙ (and_parts (are_within count first.numbers) (are_kept_within count kept) h).0
-kept_within_at count (first ∷ kept) (suc i) tree h l e = kept_within_at count kept i tree (and_parts (are_within count first.numbers) (are_kept_within count kept) h).1 (omega arith) e
+kept_within_at count (first ∷ kept) (suc i) tree h l e = kept_within_at count kept i tree
+    (and_parts (are_within count first.numbers) (are_kept_within count kept) h).1 (omega arith) e
 
 pub length-nodes : (table : List Entry) (kept : List Kept) → length (nodes_of table kept) ≡ length kept
 length-nodes table kept = length-map {A = Kept} {B = Node} kept (node_of table)
@@ -66,7 +71,8 @@ length-nodes table kept = length-map {A = Kept} {B = Node} kept (node_of table)
 pub length-stood : (table : List Entry) (numbers : List ℕ) → length (stood table numbers) ≡ length numbers
 length-stood table numbers = length-map {A = ℕ} {B = Entry} numbers (entry_at table)
 
-pub node-at : (table : List Entry) (kept : List Kept) (i : ℕ) (tree : Kept) → tree ≡ get_or kept i tree → node_of table tree ≡ get_or (nodes_of table kept) i (node_of table tree)
+pub node-at : (table : List Entry) (kept : List Kept) (i : ℕ) (tree : Kept) → tree ≡ get_or kept i tree
+    → node_of table tree ≡ get_or (nodes_of table kept) i (node_of table tree)
 node-at table [] i tree e = refl
 node-at table (first ∷ kept) zero tree e = ap (node_of table) e
 node-at table (first ∷ kept) (suc i) tree e = node-at table kept i tree e
@@ -114,7 +120,8 @@ within_get count [] i h l = absurd (omega arith)
 within_get count (first ∷ numbers) zero h l = ltb-true first count (and_parts _ (are_within count numbers) h).0
 within_get count (first ∷ numbers) (suc i) h l = within_get count numbers i (and_parts _ (are_within count numbers) h).1 (omega arith)
 
-pub stood_get : (table : List Entry) (p : Entry → Bool) (numbers : List ℕ) (i : ℕ) → list_all p (stood table numbers) ≡ true → i < length numbers → p (entry_at table (get_or numbers i 0)) ≡ true
+pub stood_get : (table : List Entry) (p : Entry → Bool) (numbers : List ℕ) (i : ℕ) → list_all p (stood table numbers) ≡ true → i < length numbers
+    → p (entry_at table (get_or numbers i 0)) ≡ true
 stood_get table p [] i h l = absurd (omega arith)
 stood_get table p (first ∷ numbers) zero h l = (and_parts (p (entry_at table first)) _ h).0
 stood_get table p (first ∷ numbers) (suc i) h l = stood_get table p numbers i (and_parts (p (entry_at table first)) _ h).1 (omega arith)
@@ -124,7 +131,8 @@ abbrev pub levels_of : List Entry → List (List ℕ) → List (List Entry)
 levels_of table [] = []
 levels_of table (level ∷ levels) = stood table level ∷ levels_of table levels
 
-pub levels-push : (table : List Entry) (levels : List (List ℕ)) (level : List ℕ) → levels_of table (levels ++ level ∷ []) ≡ levels_of table levels ++ stood table level ∷ []
+pub levels-push : (table : List Entry) (levels : List (List ℕ)) (level : List ℕ)
+    → levels_of table (levels ++ level ∷ []) ≡ levels_of table levels ++ stood table level ∷ []
 levels-push table [] level = refl
 levels-push table (first ∷ levels) level = ap (λ v. stood table first ∷ v) (levels-push table levels level)
 
@@ -136,12 +144,14 @@ pub stood_none : (table : List Entry) (numbers : List ℕ) → stood table numbe
 stood_none table [] e = refl
 stood_none table (number ∷ numbers) e = absurd (let h : entry_at table number ∷ stood table numbers ≡ [] = e in cc)
 
-pub stood_more : (a b : List Entry) (numbers : List ℕ) (number : ℕ) (entry : Entry) → take (length a) b ≡ a → are_within (length a) numbers ≡ true → entry_at b number ≡ entry
+pub stood_more : (a b : List Entry) (numbers : List ℕ) (number : ℕ) (entry : Entry) → take (length a) b ≡ a → are_within (length a) numbers ≡ true
+    → entry_at b number ≡ entry
     → stood b (numbers ++ number ∷ []) ≡ stood a numbers ++ entry ∷ []
 stood_more a b numbers number entry e h at =
     stood_append b numbers (number ∷ []) ∙ ap (λ v. v ++ entry_at b number ∷ []) (stood_kept a b numbers e h) ∙ ap (λ (v : Entry). stood a numbers ++ v ∷ []) at
 
-pub within_push : (count : ℕ) (numbers : List ℕ) (number : ℕ) → are_within count numbers ≡ true → number < count → are_within count (numbers ++ number ∷ []) ≡ true
+pub within_push : (count : ℕ) (numbers : List ℕ) (number : ℕ) → are_within count numbers ≡ true → number < count
+    → are_within count (numbers ++ number ∷ []) ≡ true
 within_push count [] number h l = and_from _ _ (lt-ltb number count l) refl
 within_push count (first ∷ numbers) number h l =
     let parts = and_parts (nat_lt first count) (are_within count numbers) h in

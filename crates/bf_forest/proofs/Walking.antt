@@ -1,5 +1,6 @@
 -- Directories that are being made, one in another.
-use Rattle.std.proofs.Common.{◌≡◌, ℕ, zero, suc, ◌+◌, ◌<◌, ◌≤◌, nat_lt, true, List, [], ◌∷◌, ◌++◌, length, take, drop, Option, Some, None, refl, sym, ap, ◌∙◌, subst, arith}
+use Rattle.std.proofs.Common.{◌≡◌, ℕ, zero, suc, ◌+◌, ◌<◌, ◌≤◌, nat_lt, true, List, [], ◌∷◌, ◌++◌, length, take, drop, Option, Some, None, refl, sym, ap, ◌∙◌}
+use Rattle.std.proofs.Common.{subst, arith}
 use Rattle.std.specs.Ordering.{nat_cmp, is_lt}
 use Rattle.std.specs.declared.cmp.Ordering.TheVariants.{Less}
 use Rattle.std.specs.Cmp.Lexicographic.{slice_cmp}
@@ -8,8 +9,8 @@ use Rattle.std.specs.Map.{keys_of}
 use Rattle.std.proofs.lemmas.Bool.{and_parts, and_from, ltb-true, lt-ltb}
 use Rattle.std.proofs.lemmas.List.{append-nil, append_assoc}
 use Rattle.std.proofs.lemmas.List.Folds.{list_all-append}
-use Rattle.bf_grammar.specs.declared.object.Mode.{Mode}
-use Rattle.bf_grammar.specs.declared.object.Oid.{Oid}
+use Rattle.bf_oid.specs.declared.object.Mode.{Mode}
+use Rattle.bf_oid.specs.declared.object.Oid.{Oid}
 use Rattle.bf_forest.specs.declared.edits.Edit.{Edit}
 use Rattle.bf_forest.specs.declared.nodes.Entry.{Entry}
 use Rattle.bf_forest.specs.declared.nodes.EntryKind.{EntryKind}
@@ -31,7 +32,8 @@ use Rattle.bf_forest.proofs.Leveled.{some_beneath}
 use Rattle.bf_forest.proofs.Pooled.{IsClosed as IsClosedPool, all_earlier, listed_kept, some_files, joined_base}
 use Rattle.bf_forest.proofs.Placed.{old_shorter, taken_slots}
 use Rattle.bf_forest.proofs.Tabled.{all_take, stood_kept, stood_append, stood_drop, stood_take, within_kept}
-use Rattle.bf_forest.proofs.Settling.{made, made_none, joined_some, edited-nil, slots_based, kept_length, earlier_more, listed_more, directory_added, settling_next}
+use Rattle.bf_forest.proofs.Settling.{made, made_none, joined_some, edited-nil, slots_based, kept_length, earlier_more, listed_more, directory_added}
+use Rattle.bf_forest.proofs.Settling.{settling_next}
 
 abbrev pub Slots : Type 0
 Slots = List (List ℕ × Slot)
@@ -49,7 +51,8 @@ settling_file trees slots now old key mode oid rest h =
     settling_next trees slots now now old (old ++ entry ∷ []) key (File mode oid) rest h h.0 refl (listed_more now old entry)
     (list_all-append (is_earlier (length now)) old (entry ∷ []) ∙ and_from _ _ h.3 refl)
 
-pub settling_directory : (trees : List Files) (slots : Slots) (now next : List Files) (old : List Entry) (key : List ℕ) (base : Option ℕ) (pending : List Edit) (rest : Slots) (number : Option ℕ)
+pub settling_directory : (trees : List Files) (slots : Slots) (now next : List Files) (old : List Entry) (key : List ℕ) (base : Option ℕ) (pending : List Edit)
+    (rest : Slots) (number : Option ℕ)
     → IsSettling trees slots now old ((key, Directory base pending) ∷ rest) → take (length now) next ≡ now
     → next ≡ fold with_tree now (or_none (where_some directories (edited (base_files now base) pending)))
     → IsSettled next (edited (base_files now base) pending) number
@@ -67,7 +70,8 @@ settling_directory trees slots now next old key base pending rest (Some number) 
     settling_next trees slots now next old (old ++ entry ∷ []) key (Directory base pending) rest h (kept_trans trees now next h.0 kept) joined added.0 added.1
 
 -- a directory with no edits is the one that is there
-pub settling_there : (trees : List Files) (slots : Slots) (now : List Files) (old : List Entry) (key : List ℕ) (base : Option ℕ) (pending : List Edit) (rest : Slots) (number : Option ℕ)
+pub settling_there : (trees : List Files) (slots : Slots) (now : List Files) (old : List Entry) (key : List ℕ) (base : Option ℕ) (pending : List Edit)
+    (rest : Slots) (number : Option ℕ)
     → pending ≡ [] → IsSettling trees slots now old ((key, Directory base pending) ∷ rest)
     → fold with_tree now (or_none (where_some directories (base_files now base))) ≡ now → IsSettled now (base_files now base) number
     → IsSettling trees slots now (with_directory old key number) rest
@@ -84,7 +88,8 @@ slot_based_more a b (Directory (Some number) pending) l h = let less = ltb-true 
 
 pub based_more : (a b : ℕ) (slots : Slots) → a ≤ b → list_all (λ slot. is_based a slot.1) slots ≡ true → list_all (λ slot. is_based b slot.1) slots ≡ true
 based_more a b [] l h = refl
-based_more a b (slot ∷ slots) l h = and_from _ _ (slot_based_more a b slot.1 l (and_parts _ _ h).0) (based_more a b slots l (and_parts (is_based a slot.1) _ h).1)
+based_more a b (slot ∷ slots) l h = and_from _ _ (slot_based_more a b slot.1 l (and_parts _ _ h).0)
+    (based_more a b slots l (and_parts (is_based a slot.1) _ h).1)
 
 pub settling_based : (trees : List Files) (slots : Slots) (now : List Files) (entries : List Entry) (rest : Slots) → IsSettling trees slots now entries rest
     → list_all (λ slot. is_based (length now) slot.1) rest ≡ true
@@ -92,7 +97,8 @@ settling_based trees slots now entries rest h = based_more (length trees) (lengt
 
 -- ---- all slots are taken
 
-pub settling_made : (trees : List Files) (files : Files) (slots : Slots) (now : List Files) (entries : List Entry) → IsOpened trees files slots → IsSettling trees slots now entries []
+pub settling_made : (trees : List Files) (files : Files) (slots : Slots) (now : List Files) (entries : List Entry) → IsOpened trees files slots
+    → IsSettling trees slots now entries []
     → IsMade trees now files entries
 settling_made trees files slots now entries o h =
     made trees now slots o.3.0 files entries o.0 o.1 o.3.1 o.2 h.1 (sym (append-nil (listed now entries)) ∙ h.2)
@@ -135,7 +141,8 @@ settling_run trees slots now old (entry ∷ run) rest closed filled h =
     let earlier = (and_parts (is_earlier (length now) entry) _ (all_earlier now (entry ∷ run) filled)).0 in
     let P : List Entry → Type 0 = λ v. IsSettling trees slots now v rest in
     subst P (append_assoc old (entry ∷ []) run)
-    (settling_run trees slots now (old ++ entry ∷ []) run rest closed parts.1 (settling_entry trees slots now old entry (slots_of run ++ rest) closed parts.0 earlier h))
+    (settling_run trees slots now (old ++ entry ∷ []) run rest closed parts.1
+    (settling_entry trees slots now old entry (slots_of run ++ rest) closed parts.0 earlier h))
 
 -- ---- what is known of a directory stays
 
@@ -146,7 +153,8 @@ base_shorter trees table base rest h s = (
       ∙ filled_drop trees (stood table base) s.0 h.1,
 )
   where
-    filled_drop : (trees : List Files) (entries : List Entry) (n : ℕ) → list_all is_filled (listed trees entries) ≡ true → list_all is_filled (listed trees (drop n entries)) ≡ true
+    filled_drop : (trees : List Files) (entries : List Entry) (n : ℕ) → list_all is_filled (listed trees entries) ≡ true
+        → list_all is_filled (listed trees (drop n entries)) ≡ true
     filled_drop trees [] zero k = k
     filled_drop trees [] (suc n) k = k
     filled_drop trees (entry ∷ entries) zero k = k
@@ -161,7 +169,8 @@ base_kept before after base stays h =
           ∙ ap (list_all is_filled) (listed_kept before.trees after.trees entries stays.1 (all_earlier before.trees entries h.1)) ∙ h.1,
     )
 
-pub slots_kept : (before after : World) (rest : Rest) → StaysIn before after → are_within (length before.table) rest.base ≡ true → slots_in after.table rest ≡ slots_in before.table rest
+pub slots_kept : (before after : World) (rest : Rest) → StaysIn before after → are_within (length before.table) rest.base ≡ true
+    → slots_in after.table rest ≡ slots_in before.table rest
 slots_kept before after rest stays h = ap (λ v. overlaid (slots_of v) rest.changes.entries) (stood_kept before.table after.table rest.base stays.0 h)
 
 pub frame_kept : (before after : World) (top : Opened) → StaysIn before after → IsFrame before top → IsFrame after top
@@ -188,11 +197,13 @@ heft_append (slot ∷ a) b = let more = heft_append a b in omega (arith, more)
 abbrev pub IsTaken : World → List ℕ → List ℕ → Slots → Slots → Type 0
 IsTaken world old new all rest =
     (are_within (length world.table) new ≡ true)
-    × ((trees : List Files) (slots : Slots) → IsSettling trees slots world.trees (stood world.table old) all → IsSettling trees slots world.trees (stood world.table new) rest)
+    × ((trees : List Files) (slots : Slots) → IsSettling trees slots world.trees (stood world.table old) all
+    → IsSettling trees slots world.trees (stood world.table new) rest)
     × (list_all (λ slot. is_based (length world.trees) slot.1) all ≡ true → list_all (λ slot. is_based (length world.trees) slot.1) rest ≡ true)
     × (heft rest ≤ heft all)
 
-pub run_taken : (world : World) (old new run : List ℕ) (all rest : Slots) → IsClosedPool world.trees → are_within (length world.table) old ≡ true → IsBase world.trees world.table run
+pub run_taken : (world : World) (old new run : List ℕ) (all rest : Slots) → IsClosedPool world.trees → are_within (length world.table) old ≡ true
+    → IsBase world.trees world.table run
     → new ≡ old ++ run → all ≡ slots_of (stood world.table run) ++ rest → IsTaken world old new all rest
 run_taken world old new run all rest closed within base taken whole = (
   ap (are_within (length world.table)) taken ∙ list_all-append (λ n. nat_lt n (length world.table)) old run ∙ and_from _ _ within base.0.0,
@@ -231,11 +242,14 @@ base_take trees table base n h = (
 
 -- the old entries below a key are taken, and what is to stand there lies in front
 pub turn_taken : (world : World) (old new base rest key : List ℕ) (change : Option Slot) (changes : List (List ℕ × Option Slot)) → IsClosedPool world.trees
-    → are_within (length world.table) old ≡ true → IsBase world.trees world.table base → is_below key changes ≡ true → IsPassed world.table old new base rest key
-    → IsTaken world old new (overlaid (slots_of (stood world.table base)) ((key, change) ∷ changes)) (change_entry key change ++ overlaid (slots_of (stood world.table rest)) changes)
+    → are_within (length world.table) old ≡ true → IsBase world.trees world.table base → is_below key changes ≡ true
+    → IsPassed world.table old new base rest key
+    → IsTaken world old new (overlaid (slots_of (stood world.table base)) ((key, change) ∷ changes))
+    (change_entry key change ++ overlaid (slots_of (stood world.table rest)) changes)
     × IsBase world.trees world.table rest
 turn_taken world old new base rest key change changes closed within known below p = (
-  run_taken world old new (take p.0 base) (overlaid (slots_of (stood world.table base)) ((key, change) ∷ changes)) (change_entry key change ++ overlaid (slots_of (stood world.table rest)) changes)
+  run_taken world old new (take p.0 base) (overlaid (slots_of (stood world.table base)) ((key, change) ∷ changes))
+      (change_entry key change ++ overlaid (slots_of (stood world.table rest)) changes)
       closed within (base_take world.trees world.table base p.0 known) p.1 (taken_slots world.table old new base rest key changes change known.0 below p),
   base_shorter world.trees world.table base rest known p.5,
 )
@@ -243,19 +257,23 @@ turn_taken world old new base rest key change changes closed within known below 
 -- what is known where a table has grown
 abbrev IsEntered : World → World → Rest → List ℕ → Type 0
 IsEntered now next rest numbers =
-    (IsBase next.trees next.table rest.base × (are_within (length next.table) numbers ≡ true) × (list_all (λ slot. is_based (length next.trees) slot.1) (slots_in next.table rest) ≡ true))
+    (IsBase next.trees next.table rest.base × (are_within (length next.table) numbers ≡ true)
+    × (list_all (λ slot. is_based (length next.trees) slot.1) (slots_in next.table rest) ≡ true))
     × (heft (slots_in next.table rest) ≡ heft (slots_in now.table rest))
-    × ((trees : List Files) (slots : Slots) (entries : List Entry) → stood next.table numbers ≡ entries → IsSettling trees slots now.trees entries (slots_in now.table rest)
+    × ((trees : List Files) (slots : Slots) (entries : List Entry) → stood next.table numbers ≡ entries
+    → IsSettling trees slots now.trees entries (slots_in now.table rest)
     → IsSettling trees slots next.trees (stood next.table numbers) (slots_in next.table rest))
 
-pub entered : (now next : World) (rest : Rest) (numbers : List ℕ) → StaysIn now next → next.trees ≡ now.trees → IsBase now.trees now.table rest.base → are_within (length next.table) numbers ≡ true
+pub entered : (now next : World) (rest : Rest) (numbers : List ℕ) → StaysIn now next → next.trees ≡ now.trees → IsBase now.trees now.table rest.base
+    → are_within (length next.table) numbers ≡ true
     → list_all (λ slot. is_based (length now.trees) slot.1) (slots_in now.table rest) ≡ true → IsEntered now next rest numbers
 entered now next rest numbers stays trees base within based =
     let same : slots_in next.table rest ≡ slots_in now.table rest = slots_kept now next rest stays base.0.0 in (
       (
         base_kept now next rest.base stays base,
         within,
-        ap (λ (v : List Files). list_all (λ slot. is_based (length v) slot.1) (slots_in next.table rest)) trees ∙ ap (list_all (λ slot. is_based (length now.trees) slot.1)) same ∙ based,
+        ap (λ (v : List Files). list_all (λ slot. is_based (length v) slot.1) (slots_in next.table rest)) trees ∙ ap
+            (list_all (λ slot. is_based (length now.trees) slot.1)) same ∙ based,
       ),
       ap heft same,
       λ start slots entries e h.
@@ -266,7 +284,8 @@ entered now next rest numbers stays trees base within based =
     )
 
 -- all keys of a map come behind the one that was the first
-pub below_all : {X : Type 0} (key : List ℕ) (entries : List (List ℕ × X)) → All (λ other. slice_cmp nat_cmp key other ≡ Less) (keys_of entries) → is_below key entries ≡ true
+pub below_all : {X : Type 0} (key : List ℕ) (entries : List (List ℕ × X)) → All (λ other. slice_cmp nat_cmp key other ≡ Less) (keys_of entries)
+    → is_below key entries ≡ true
 below_all key [] h = refl
 below_all key (entry ∷ entries) h =
     and_from (is_lt (slice_cmp nat_cmp key entry.0)) _ (ap is_lt (h 0 entry.0 (omega arith))) (below_all key entries (λ k d l. h (suc k) d (omega arith)))
@@ -284,16 +303,19 @@ chain_kept : (start : World) (files : Files) (opened : List Opened) (now : World
 chain_kept start files [] now inner h =
     let P : World → Type 0 = λ v. StaysIn start v in
     subst P h.0 (stays_refl start)
-chain_kept start files (outer ∷ opened) now inner h = stays_trans start h.1 now h.7 (chain_kept h.1 (edited (base_files h.1.trees h.2) h.3) opened now inner h.8)
+chain_kept start files (outer ∷ opened) now inner h = stays_trans start h.1 now h.7
+    (chain_kept h.1 (edited (base_files h.1.trees h.2) h.3) opened now inner h.8)
 
-chain_push : (start : World) (files : Files) (opened : List Opened) (now : World) (inner : Files) (outer : Opened) (slots : Slots) (mid : World) (base : Option ℕ) (pending : List Edit)
+chain_push : (start : World) (files : Files) (opened : List Opened) (now : World) (inner : Files) (outer : Opened) (slots : Slots) (mid : World)
+    (base : Option ℕ) (pending : List Edit)
     → Chain start files opened now inner → IsOpened now.trees inner slots
     → IsSettling now.trees slots mid.trees (stood mid.table outer.numbers) ((outer.inside, Directory base pending) ∷ slots_in mid.table outer.rest)
     → IsFrame mid outer → StaysIn now mid → Chain start files (opened ++ outer ∷ []) mid (edited (base_files mid.trees base) pending)
 chain_push start files [] now inner outer slots mid base pending h o s f k =
     let P : World → Type 0 = λ v. IsOpened v.trees inner slots in
     let Q : Files → Type 0 = λ v. IsOpened start.trees v slots in
-    let R : World → Type 0 = λ v. IsSettling v.trees slots mid.trees (stood mid.table outer.numbers) ((outer.inside, Directory base pending) ∷ slots_in mid.table outer.rest) in
+    let R : World → Type 0 = λ v. IsSettling v.trees slots mid.trees (stood mid.table outer.numbers)
+    ((outer.inside, Directory base pending) ∷ slots_in mid.table outer.rest) in
     let S : World → Type 0 = λ v. StaysIn v mid in
     (slots, mid, base, pending, subst Q (sym h.1) (subst P (sym h.0) o), subst R (sym h.0) s, f, subst S (sym h.0) k, (refl, refl))
 chain_push start files (first ∷ opened) now inner outer slots mid base pending h o s f k =
@@ -302,14 +324,17 @@ chain_push start files (first ∷ opened) now inner outer slots mid base pending
 -- the last of them, and those below it
 abbrev IsLast : World → Files → List Opened → Opened → World → Files → Type 0
 IsLast start files opened outer now inner =
-    (mid : World) × (made : Files) × (slots : Slots) × (base : Option ℕ) × (pending : List Edit) × Chain start files opened mid made × IsOpened mid.trees made slots
+    (mid : World) × (made : Files) × (slots : Slots) × (base : Option ℕ) × (pending : List Edit) × Chain start files opened mid made × IsOpened mid.trees made
+    slots
     × IsSettling mid.trees slots now.trees (stood now.table outer.numbers) ((outer.inside, Directory base pending) ∷ slots_in now.table outer.rest)
     × IsFrame now outer × StaysIn mid now × (edited (base_files now.trees base) pending ≡ inner)
 
-chain_pop : (start : World) (files : Files) (opened : List Opened) (outer : Opened) (now : World) (inner : Files) → Chain start files (opened ++ outer ∷ []) now inner
+chain_pop : (start : World) (files : Files) (opened : List Opened) (outer : Opened) (now : World) (inner : Files)
+    → Chain start files (opened ++ outer ∷ []) now inner
     → IsLast start files opened outer now inner
 chain_pop start files [] outer now inner h =
-    let P : World → Type 0 = λ v. IsSettling start.trees h.0 v.trees (stood v.table outer.numbers) ((outer.inside, Directory h.2 h.3) ∷ slots_in v.table outer.rest) in
+    let P : World → Type 0 = λ v. IsSettling start.trees h.0 v.trees (stood v.table outer.numbers)
+    ((outer.inside, Directory h.2 h.3) ∷ slots_in v.table outer.rest) in
     let Q : World → Type 0 = λ v. IsFrame v outer in
     let R : World → Type 0 = λ v. StaysIn start v in
     let same : h.1 ≡ now = h.8.0 in (
@@ -344,7 +369,8 @@ new_frame : (now : World) (files : Files) (top : Opened) → IsNew now files top
 new_frame now files top h =
     (h.1, ap (are_within (length now.table)) h.2, slots_based (length now.trees) h.0.3.0 (slots_in now.table top.rest) h.0.3.1)
 
-new_settling : (now : World) (files : Files) (top : Opened) → IsNew now files top → IsSettling now.trees (slots_in now.table top.rest) now.trees (stood now.table top.numbers) (slots_in now.table top.rest)
+new_settling : (now : World) (files : Files) (top : Opened) → IsNew now files top
+    → IsSettling now.trees (slots_in now.table top.rest) now.trees (stood now.table top.numbers) (slots_in now.table top.rest)
 new_settling now files top h =
     let P : List ℕ → Type 0 = λ v. IsSettling now.trees (slots_in now.table top.rest) now.trees (stood now.table v) (slots_in now.table top.rest) in
     subst P (sym h.2) (settling_start now.trees files (slots_in now.table top.rest) h.0)
@@ -360,13 +386,17 @@ stacked_stays start files below now top h = stays_trans start h.0 now (chain_kep
 abbrev pub IsAdvance : World → World → Opened → Opened → Option (Option ℕ × List Edit) → Type 0
 IsAdvance now next old top inner = Advances now next old top inner × IsFrame next top × StaysIn now next × (next.trees ≡ now.trees)
 
-pub stacked_base : (start : World) (files : Files) (below : List Opened) (now next : World) (old top : Opened) (base : Option ℕ) (pending : List Edit) → IsStacked start files below now old
+pub stacked_base : (start : World) (files : Files) (below : List Opened) (now next : World) (old top : Opened) (base : Option ℕ) (pending : List Edit)
+    → IsStacked start files below now old
     → IsAdvance now next old top (Some (base, pending)) → is_base (length next.trees) base ≡ true
 stacked_base start files below now next old top base pending h go =
-    (and_parts _ _ (settling_based h.0.trees h.2 next.trees (stood next.table top.numbers) ((top.inside, Directory base pending) ∷ slots_in next.table top.rest) (go.0 h.0.trees h.2 h.5))).0
+    (and_parts _ _ (settling_based h.0.trees h.2 next.trees (stood next.table top.numbers) ((top.inside, Directory base pending) ∷ slots_in next.table top.rest)
+    (go.0 h.0.trees h.2 h.5))).0
 
-pub stacked_push : (start : World) (files : Files) (below : List Opened) (now next : World) (old top inner : Opened) (base : Option ℕ) (pending : List Edit) → IsStacked start files below now old
-    → IsAdvance now next old top (Some (base, pending)) → IsNew next (edited (base_files next.trees base) pending) inner → IsStacked start files (below ++ top ∷ []) next inner
+pub stacked_push : (start : World) (files : Files) (below : List Opened) (now next : World) (old top inner : Opened) (base : Option ℕ) (pending : List Edit)
+    → IsStacked start files below now old
+    → IsAdvance now next old top (Some (base, pending)) → IsNew next (edited (base_files next.trees base) pending) inner
+    → IsStacked start files (below ++ top ∷ []) next inner
 stacked_push start files below now next old top inner base pending h go new =
     let made = edited (base_files next.trees base) pending in (
       next,
@@ -379,13 +409,15 @@ stacked_push start files below now next old top inner base pending h go new =
       stays_refl next,
     )
 
-pub stacked_made : (start : World) (files : Files) (below : List Opened) (now next : World) (old top : Opened) → IsStacked start files below now old → IsAdvance now next old top None
+pub stacked_made : (start : World) (files : Files) (below : List Opened) (now next : World) (old top : Opened) → IsStacked start files below now old
+    → IsAdvance now next old top None
     → slots_in next.table top.rest ≡ [] → is_node next.trees (stood next.table top.numbers) ≡ true
 stacked_made start files below now next old top h go spent =
     let P : Slots → Type 0 = λ v. IsSettling h.0.trees h.2 next.trees (stood next.table top.numbers) v in
     (settling_made h.0.trees h.1 h.2 next.trees (stood next.table top.numbers) h.4 (subst P spent (go.0 h.0.trees h.2 h.5))).1
 
-pub stacked_end : (start : World) (files : Files) (below : List Opened) (now next : World) (old top : Opened) → IsStacked start files below now old → IsAdvance now next old top None
+pub stacked_end : (start : World) (files : Files) (below : List Opened) (now next : World) (old top : Opened) → IsStacked start files below now old
+    → IsAdvance now next old top None
     → slots_in next.table top.rest ≡ [] → below ≡ [] → IsMade start.trees next.trees files (stood next.table top.numbers)
 stacked_end start files below now next old top h go spent none =
     let C : List Opened → Type 0 = λ v. Chain start files v h.0 h.1 in
@@ -393,7 +425,8 @@ stacked_end start files below now next old top h go spent none =
     let P : Slots → Type 0 = λ v. IsSettling h.0.trees h.2 next.trees (stood next.table top.numbers) v in
     let Q : World → Type 0 = λ v. IsMade v.trees next.trees h.1 (stood next.table top.numbers) in
     let R : Files → Type 0 = λ v. IsMade start.trees next.trees v (stood next.table top.numbers) in
-    subst R (sym here.1) (subst Q (sym here.0) (settling_made h.0.trees h.1 h.2 next.trees (stood next.table top.numbers) h.4 (subst P spent (go.0 h.0.trees h.2 h.5))))
+    subst R (sym here.1) (subst Q (sym here.0) (settling_made h.0.trees h.1 h.2 next.trees (stood next.table top.numbers) h.4
+    (subst P spent (go.0 h.0.trees h.2 h.5))))
 
 -- a tree more leaves the entries
 pub tree_stays : (next closed : World) → take (length next.trees) closed.trees ≡ next.trees → closed.table ≡ next.table → StaysIn next closed
@@ -401,7 +434,8 @@ tree_stays next closed kept table =
     let T : List Entry → Type 0 = λ v. take (length next.table) v ≡ next.table in
     (subst T (sym table) (kept_refl next.table), kept)
 
-pub stacked_under : (start : World) (files : Files) (below less : List Opened) (now later : World) (top outer : Opened) → IsStacked start files below now top → below ≡ less ++ outer ∷ []
+pub stacked_under : (start : World) (files : Files) (below less : List Opened) (now later : World) (top outer : Opened) → IsStacked start files below now top
+    → below ≡ less ++ outer ∷ []
     → StaysIn now later → are_within (length later.table) outer.numbers ≡ true
 stacked_under start files below less now later top outer h parts stays =
     let C : List Opened → Type 0 = λ v. Chain start files v h.0 h.1 in
@@ -412,30 +446,44 @@ stacked_under start files below less now later top outer h parts stays =
 pub stacked_pop : (start : World) (files : Files) (below less : List Opened) (now next closed last : World) (old top outer after : Opened) (number : Option ℕ)
     → IsStacked start files below now old → IsAdvance now next old top None → slots_in next.table top.rest ≡ [] → below ≡ less ++ outer ∷ []
     → IsClosed next.trees closed.trees (stood next.table top.numbers) number → take (length next.trees) closed.trees ≡ next.trees → closed.table ≡ next.table
-    → stood last.table after.numbers ≡ with_directory (stood closed.table outer.numbers) outer.inside number → are_within (length last.table) after.numbers ≡ true
+    → stood last.table after.numbers ≡ with_directory (stood closed.table outer.numbers) outer.inside number
+    → are_within (length last.table) after.numbers ≡ true
     → StaysIn closed last → last.trees ≡ closed.trees → after.rest ≡ outer.rest → IsStacked start files less last after
 stacked_pop start files below less now next closed last old top outer after number h go spent parts done kept table entries within stays trees rest =
     let C : List Opened → Type 0 = λ v. Chain start files v h.0 h.1 in
     let low = chain_pop start files less outer h.0 h.1 (subst C parts h.3) in
     let P : Slots → Type 0 = λ v. IsSettling h.0.trees h.2 next.trees (stood next.table top.numbers) v in
-    let settled = settling_closed h.0.trees h.1 h.2 next.trees closed.trees (stood next.table top.numbers) number h.4 (subst P spent (go.0 h.0.trees h.2 h.5)) done in
+    let settled = settling_closed h.0.trees h.1 h.2 next.trees closed.trees (stood next.table top.numbers) number h.4 (subst P spent (go.0 h.0.trees h.2 h.5))
+    done in
     let to_closed : StaysIn next closed = tree_stays next closed kept table in
     let from : StaysIn h.0 closed = stays_trans h.0 next closed (stays_trans h.0 now next h.7 go.2) to_closed in
     let whole : StaysIn h.0 last = stays_trans h.0 closed last from stays in
     let inner : h.1 ≡ edited (base_files h.0.trees low.3) low.4 = sym low.10 in
     let Q : Files → Type 0 = λ v. IsSettled closed.trees v number in
-    let all = settling_directory low.0.trees low.2 h.0.trees closed.trees (stood h.0.table outer.numbers) outer.inside low.3 low.4 (slots_in h.0.table outer.rest) number low.7 from.1
+    let all = settling_directory low.0.trees low.2 h.0.trees closed.trees (stood h.0.table outer.numbers) outer.inside low.3 low.4
+    (slots_in h.0.table outer.rest) number low.7 from.1
     (settled.0 ∙ ap (λ v. fold with_tree h.0.trees (or_none (where_some directories v))) inner) (subst Q inner settled.1) in
     let numbers : stood last.table after.numbers ≡ with_directory (stood h.0.table outer.numbers) outer.inside number =
     entries ∙ ap (λ v. with_directory v outer.inside number) (stood_kept h.0.table closed.table outer.numbers from.0 low.8.1) in
-    let slots : slots_in last.table after.rest ≡ slots_in h.0.table outer.rest = ap (slots_in last.table) rest ∙ slots_kept h.0 last outer.rest whole low.8.0.0.0 in
+    let slots : slots_in last.table after.rest ≡ slots_in h.0.table outer.rest = ap (slots_in last.table) rest ∙ slots_kept h.0 last outer.rest whole
+    low.8.0.0.0 in
     let R : List Entry → Type 0 = λ v. IsSettling low.0.trees low.2 closed.trees v (slots_in h.0.table outer.rest) in
     let S : Slots → Type 0 = λ v. IsSettling low.0.trees low.2 closed.trees (stood last.table after.numbers) v in
     let U : List Files → Type 0 = λ v. IsSettling low.0.trees low.2 v (stood last.table after.numbers) (slots_in last.table after.rest) in
     let frame = frame_kept h.0 last outer whole low.8 in
-    let B : Rest → Type 0 = λ v. IsBase last.trees last.table v.base × (list_all (λ slot. is_based (length last.trees) slot.1) (slots_in last.table v) ≡ true) in
-    let known = subst B (sym rest) (frame.0, frame.2) in
-    (low.0, low.1, low.2, low.5, low.6, subst U (sym trees) (subst S (sym slots) (subst R (sym numbers) all)), (known.0, within, known.1), stays_trans low.0 h.0 last low.9 whole)
+    let B : Rest → Type 0 = λ v. IsBase last.trees last.table v.base
+    × (list_all (λ slot. is_based (length last.trees) slot.1) (slots_in last.table v) ≡ true) in
+    let known = subst B (sym rest) (frame.0, frame.2) in (
+      low.0,
+      low.1,
+      low.2,
+      low.5,
+      low.6,
+      subst U (sym trees) (subst S (sym slots) (subst R (sym numbers) all)),
+      (known.0, within, known.1),
+      stays_trans low.0 h.0
+          last low.9 whole,
+    )
 
 -- ---- what is still to be done falls
 
@@ -443,12 +491,14 @@ abbrev pub height : List Entry → List Opened → ℕ
 height table [] = 0
 height table (outer ∷ opened) = suc (heft (slots_in table outer.rest)) + height table opened
 
-pub height_more : (table : List Entry) (opened : List Opened) (outer : Opened) → height table (opened ++ outer ∷ []) ≡ height table opened + suc (heft (slots_in table outer.rest))
+pub height_more : (table : List Entry) (opened : List Opened) (outer : Opened)
+    → height table (opened ++ outer ∷ []) ≡ height table opened + suc (heft (slots_in table outer.rest))
 height_more table [] outer = omega arith
 height_more table (first ∷ opened) outer = let more = height_more table opened outer in omega (arith, more)
 
 -- a table that grows leaves it as it was
-height_kept : (start now : World) (files inner : Files) (below : List Opened) (later : World) → Chain start files below now inner → StaysIn now later → height later.table below ≡ height now.table below
+height_kept : (start now : World) (files inner : Files) (below : List Opened) (later : World) → Chain start files below now inner → StaysIn now later
+    → height later.table below ≡ height now.table below
 height_kept start now files inner [] later h stays = refl
 height_kept start now files inner (outer ∷ below) later h stays =
     let to_now = chain_kept h.1 (edited (base_files h.1.trees h.2) h.3) below now inner h.8 in
@@ -457,7 +507,8 @@ height_kept start now files inner (outer ∷ below) later h stays =
     let same = ap heft (b ∙ sym a) in
     omega (arith, same, height_kept h.1 now (edited (base_files h.1.trees h.2) h.3) inner below later h.8 stays)
 
-pub stacked_height : (start : World) (files : Files) (below : List Opened) (now later : World) (top : Opened) → IsStacked start files below now top → StaysIn now later
+pub stacked_height : (start : World) (files : Files) (below : List Opened) (now later : World) (top : Opened) → IsStacked start files below now top
+    → StaysIn now later
     → height later.table below ≡ height now.table below
 stacked_height start files below now later top h stays =
     height_kept start h.0 files h.1 below later h.3 (stays_trans h.0 now later h.7 stays) ∙ sym (height_kept start h.0 files h.1 below now h.3 h.7)

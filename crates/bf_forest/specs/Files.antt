@@ -5,8 +5,8 @@ use Rattle.std.specs.Ordering.{nat_cmp, is_lt}
 use Rattle.std.specs.Cmp.Lexicographic.{pointwise, slice_cmp}
 use Rattle.std.specs.List.{starts_with, list_all}
 use Rattle.bf_paths.specs.Components.{path_text}
-use Rattle.bf_grammar.specs.declared.object.Mode.{Mode}
-use Rattle.bf_grammar.specs.declared.object.Oid.{Oid}
+use Rattle.bf_oid.specs.declared.object.Mode.{Mode}
+use Rattle.bf_oid.specs.declared.object.Oid.{Oid}
 use Rattle.bf_forest.specs.declared.entries.FileEntry.{FileEntry}
 use Rattle.bf_forest.specs.declared.edits.Edit.{Edit}
 use Rattle.bf_forest.specs.declared.edits.Edit.TheVariants.{Set, Remove, Clear}
@@ -37,6 +37,10 @@ abbrev pub is_in_part : Part → List (List ℕ) → FileEntry → Bool
 is_in_part Before path file = are_apart file.path path && is_before file.path path
 is_in_part Behind path file = are_apart file.path path && is_before path file.path
 is_in_part Outside path file = not (leads_to path file.path)
+
+-- the file with a name in the directory that names lead to
+abbrev pub file_in : List (List ℕ) → List ℕ → Mode → Oid → FileEntry
+file_in names name mode oid = record { path = names ++ name ∷ []; mode = mode; oid = oid }
 
 abbrev pub part_of : Part → List (List ℕ) → Files → Files
 part_of part path files = filter (is_in_part part path) files

@@ -1,15 +1,15 @@
 -- Trees as entries that name other trees by their numbers: a directory inside is a tree with a smaller number.
-use Rattle.std.specs.Prelude.{◌≡◌, ℕ, Bool, true, false, ◌&&◌, nat_lt, ◌<◌, List, [], ◌∷◌, ◌++◌, map, length, take, codes, Option, Some, None}
+use Rattle.std.specs.Prelude.{◌≡◌, ℕ, Bool, true, false, ◌&&◌, nat_lt, ◌<◌, List, [], ◌∷◌, ◌++◌, map, length, take, fold, codes, Option, Some, None, IsTrue}
 use Rattle.std.specs.List.{list_all, flat_map, list_any, slice_index_or}
 use Rattle.bf_paths.specs.Components.{is_component, is_path}
 use Rattle.bf_forest.specs.declared.nodes.EntryKind.{EntryKind}
 use Rattle.bf_forest.specs.declared.nodes.EntryKind.TheVariants.{File, Directory}
 use Rattle.bf_forest.specs.declared.nodes.Entry.{Entry}
 use Rattle.bf_forest.specs.declared.pool.Kept.{Kept}
-use Rattle.bf_grammar.specs.declared.object.Oid.{Oid}
+use Rattle.bf_oid.specs.declared.object.Oid.{Oid}
 use Rattle.bf_forest.specs.Files.{Files, is_tree}
 use Rattle.bf_forest.specs.Listing.{name_in, Listing, is_listing, shown, beneath}
-use Rattle.bf_forest.specs.Trees.{tree_name, files_at, mode_text, entry_bytes, are_same}
+use Rattle.bf_forest.specs.Trees.{tree_name, files_at, mode_text, entry_bytes, are_same, with_tree, with_directories}
 
 -- a tree: its entries and its name
 pub record Node : Type 0 where
@@ -72,11 +72,14 @@ trees_from trees (node ∷ nodes) = trees_from (trees ++ files_in trees node.ent
 -- each is a directory by those before it, and has the name that git gives it
 abbrev pub AreNodes : List Files → List Node → Type 0
 AreNodes trees [] = Unit {0}
-AreNodes trees (node ∷ nodes) = (is_node trees node.entries ≡ true) × (node.name.0 ≡ tree_name (files_in trees node.entries)) × AreNodes (trees ++ files_in trees node.entries ∷ []) nodes
+AreNodes trees (node ∷ nodes) =
+    (is_node trees node.entries ≡ true) × (node.name.0 ≡ tree_name (files_in trees node.entries))
+    × AreNodes (trees ++ files_in trees node.entries ∷ []) nodes
 
 -- each tree has its files in order, with paths
 abbrev pub IsSound : List Files → Type 0
-IsSound trees = (number : ℕ) → number < length trees → (list_all (λ file. is_path file.path) (files_at trees number) ≡ true) × (is_tree (files_at trees number) ≡ true)
+IsSound trees = (number : ℕ) → number < length trees
+    → (list_all (λ file. is_path file.path) (files_at trees number) ≡ true) × (is_tree (files_at trees number) ≡ true)
 
 -- ---- where a tree stands
 
@@ -112,6 +115,10 @@ node_of table kept = record { entries = stood table kept.numbers; name = kept.na
 abbrev pub nodes_of : List Entry → List Kept → List Node
 nodes_of table kept = map (node_of table) kept
 
+-- the files of the trees that are kept
+abbrev pub kept_trees : List Entry → List Kept → List Files
+kept_trees table kept = trees_from [] (nodes_of table kept)
+
 -- all numbers of trees have an entry
 abbrev pub are_kept_within : ℕ → List Kept → Bool
 are_kept_within count kept = list_all (λ tree. are_within count tree.numbers) kept
@@ -121,6 +128,52 @@ pub record World : Type 0 where
   pub table : List Entry
   pub trees : List Files
 
+-- the entries and the trees that are kept
+abbrev pub world_of : List Entry → List Kept → World
+world_of table kept = record { table = table; trees = kept_trees table kept }
+
 -- entries and trees that are there stay
 abbrev pub StaysIn : World → World → Type 0
 StaysIn before after = (take (length before.table) after.table ≡ before.table) × (take (length before.trees) after.trees ≡ before.trees)
+
+-- ---- directories by the numbers of their entries
+
+-- each number has an entry
+abbrev pub HaveEntries : World → List ℕ → Type 0
+HaveEntries world numbers = IsTrue (are_within (length world.table) numbers)
+
+-- the entries are those of one directory, none of them an empty directory
+abbrev pub IsDirectory : World → List ℕ → Type 0
+IsDirectory world numbers = IsTrue (is_node world.trees (stood world.table numbers))
+
+-- the files of the directory with these entries
+abbrev pub directory_files : World → List ℕ → Files
+directory_files world numbers = files_in world.trees (stood world.table numbers)
+
+-- the trees with that of the directory with these entries
+abbrev pub trees_with : World → List ℕ → List Files
+trees_with world numbers = with_tree world.trees (directory_files world numbers)
+
+-- what the entry with a number adds to the body of its tree
+abbrev pub numbered_body : World → ℕ → List ℕ
+numbered_body world number = entry_body world.trees (entry_at world.table number)
+
+-- whether the tree with a number has these files
+abbrev pub has_files : World → ℕ → Files → Bool
+has_files world number files = are_same (files_at world.trees number) files
+
+-- the tree with a number holds these files
+abbrev pub Holds : List Files → Files → ℕ → Type 0
+Holds trees files number = files_at trees number ≡ files
+
+-- the trees of these files are there already
+abbrev pub HaveJoined : List Files → List Files → Type 0
+HaveJoined trees lists = fold with_tree trees lists ≡ trees
+
+-- the trees of all directories of these files are there already
+abbrev pub HasDirectories : List Files → Files → Type 0
+HasDirectories trees files = with_directories trees files ≡ trees
+
+-- an entry is added to those of a directory
+abbrev pub Enters : World → List ℕ → List ℕ → EntryKind → World → List ℕ → Type 0
+Enters before old key kind after new = stood after.table new ≡ stood before.table old ++ record { key = key; kind = kind } ∷ []

@@ -1,5 +1,5 @@
 -- A directory that is being made: what stands in it so far, and what is still to be taken.
-use Rattle.std.specs.Prelude.{◌≡◌, ℕ, ◌+◌, ◌*◌, ◌<◌, true, List, [], ◌∷◌, ◌++◌, length, take, fold, Option, Some, None}
+use Rattle.std.specs.Prelude.{◌≡◌, ℕ, ◌+◌, ◌*◌, ◌<◌, ◌≤◌, true, List, [], ◌∷◌, ◌++◌, length, take, fold, Option, Some, None}
 use Rattle.std.specs.List.{list_all, filter, flat_map}
 use Rattle.bf_forest.specs.declared.edits.Edit.{Edit}
 use Rattle.bf_forest.specs.declared.nodes.Entry.{Entry}
@@ -9,10 +9,10 @@ use Rattle.bf_forest.specs.declared.slots.Slot.{Slot}
 use Rattle.bf_forest.specs.declared.slots.Slot.TheVariants.{File, Directory}
 use Rattle.bf_forest.specs.Files.{Files}
 use Rattle.bf_forest.specs.Listing.{is_listing, shown}
-use Rattle.bf_forest.specs.Nodes.{listed, files_in, is_filled, is_node, is_earlier, stood, are_within, World, IsSound}
+use Rattle.bf_forest.specs.Nodes.{listed, files_in, is_filled, is_node, is_earlier, stood, are_within, World, IsSound, directory_files}
 use Rattle.bf_forest.specs.Overlays.{is_below}
 use Rattle.bf_forest.specs.Rests.{IsOld, slots_in, slots_with}
-use Rattle.bf_forest.specs.Slots.{contents, slot_directories, edit_length, is_based, is_slot}
+use Rattle.bf_forest.specs.Slots.{contents, base_files, slot_directories, edit_length, is_based, is_slot}
 use Rattle.bf_forest.specs.Trees.{with_tree, with_directories, files_at}
 
 -- slots that stand for files, by the trees that are there
@@ -23,18 +23,28 @@ IsOpened trees files slots =
     × (shown (contents trees slots) ≡ files)
     × ((bound : ℕ) × (list_all (λ slot. is_slot (length trees) bound slot.1) slots ≡ true))
 
+-- an opened directory is to have these files
+abbrev pub Opens : World → Files → Opened → Type 0
+Opens world files top = IsOpened world.trees files (slots_in world.table top.rest)
+
 -- the slots that are left make of the trees and entries so far what all of them make
 abbrev pub IsSettling : List Files → List (List ℕ × Slot) → List Files → List Entry → List (List ℕ × Slot) → Type 0
 IsSettling trees slots now entries rest =
     (take (length trees) now ≡ trees)
-    × (fold with_tree now (flat_map (λ slot. slot_directories trees slot.1) rest) ≡ fold with_tree trees (flat_map (λ slot. slot_directories trees slot.1) slots))
+    × (fold with_tree now (flat_map (λ slot. slot_directories trees slot.1) rest)
+    ≡ fold with_tree trees (flat_map (λ slot. slot_directories trees slot.1) slots))
     × (listed now entries ++ filter is_filled (contents trees rest) ≡ filter is_filled (contents trees slots))
     × (list_all (is_earlier (length now)) entries ≡ true)
     × (list_all (λ slot. is_based (length trees) slot.1) rest ≡ true)
 
 -- the entries of a directory with files, whose directories have joined the trees
 abbrev pub IsMade : List Files → List Files → Files → List Entry → Type 0
-IsMade trees next files entries = (files_in next entries ≡ files) × (is_node next entries ≡ true) × (with_tree next (files_in next entries) ≡ with_directories trees files)
+IsMade trees next files entries =
+    (files_in next entries ≡ files) × (is_node next entries ≡ true) × (with_tree next (files_in next entries) ≡ with_directories trees files)
+
+-- the numbers stand for such entries
+abbrev pub Makes : World → World → Files → List ℕ → Type 0
+Makes before after files numbers = IsMade before.trees after.trees files (stood after.table numbers)
 
 -- ---- what is still to be done
 
@@ -51,11 +61,27 @@ abbrev pub heft : List (List ℕ × Slot) → ℕ
 heft [] = 0
 heft (slot ∷ slots) = slot_heft slot.1 + heft slots
 
+-- how much is left to be done in an opened directory
+abbrev pub heft_left : World → Opened → ℕ
+heft_left world top = heft (slots_in world.table top.rest)
+
+-- how much is left to be done in an opened directory and for a change
+abbrev pub heft_with : World → Opened → List ℕ → Option Slot → ℕ
+heft_with world top key change = heft (slots_with world.table top.rest key change)
+
+-- what is left of edits weighs less than they do, by two for each of them
+abbrev pub IsLighter : World → List Edit → Opened → Type 0
+IsLighter world edits top = heft_left world top + 2 * length edits ≤ weight edits
+
 -- ---- what is known of a directory that is being made
 
 -- numbers of old entries: each is there, they are in order, and no directory among them is empty
 abbrev pub IsBase : List Files → List Entry → List ℕ → Type 0
 IsBase trees table numbers = IsOld table numbers × (list_all is_filled (listed trees (stood table numbers)) ≡ true)
+
+-- the numbers of the entries of a tree, or of an empty directory
+abbrev pub HasBaseFiles : World → Option ℕ → List ℕ → Type 0
+HasBaseFiles world base numbers = directory_files world numbers ≡ base_files world.trees base
 
 abbrev pub IsFrame : World → Opened → Type 0
 IsFrame world top =
@@ -77,6 +103,14 @@ IsTurn world top key change =
 abbrev pub with_directory : List Entry → List ℕ → Option ℕ → List Entry
 with_directory entries key None = entries
 with_directory entries key (Some number) = entries ++ record { key = key; kind = kind.Directory number } ∷ []
+
+-- a directory is added to the entries of another one, if it has files
+abbrev pub EntersDirectory : World → List ℕ → List ℕ → Option ℕ → World → List ℕ → Type 0
+EntersDirectory before old key number after new = stood after.table new ≡ with_directory (stood before.table old) key number
+
+-- a directory goes on behind the one in it that was made, which is an entry of it now, if it has files
+abbrev pub Resumes : World → Opened → Option ℕ → World → Opened → Type 0
+Resumes before old number after new = EntersDirectory before old.numbers old.inside number after new.numbers
 
 -- what a directory is made of lies in front of what is left
 abbrev pub slots_before : Option (Option ℕ × List Edit) → List ℕ → List (List ℕ × Slot) → List (List ℕ × Slot)
@@ -111,8 +145,16 @@ abbrev pub HasSome : Option (Option ℕ × List Edit) → Type 0
 HasSome None = Unit {0}
 HasSome (Some (base, pending)) = 0 < length pending
 
+-- what is left of a directory, with the one in it that is made first, is at most so much
+abbrev pub LeavesAtMost : ℕ → World → Opened → Option (Option ℕ × List Edit) → Type 0
+LeavesAtMost most world top inner = inner_weight inner + heft_left world top ≤ most
+
 -- a directory without entries is not there, and another one stands among the trees
 abbrev pub IsClosed : List Files → List Files → List Entry → Option ℕ → Type 0
 IsClosed trees next entries None = (entries ≡ []) × (next ≡ trees)
 IsClosed trees next entries (Some number) =
     (entries ≡ [] → ⊥) × (next ≡ with_tree trees (files_in trees entries)) × (number < length next) × (files_at next number ≡ files_in trees entries)
+
+-- the same of a directory by the numbers of its entries
+abbrev pub Closes : World → World → List ℕ → Option ℕ → Type 0
+Closes before after numbers number = IsClosed before.trees after.trees (stood before.table numbers) number

@@ -6,8 +6,8 @@ use Rattle.std.specs.Cmp.Lexicographic.{slice_cmp}
 use Rattle.std.specs.List.{list_all}
 use Rattle.std.specs.BTreeMap.{insert_entry, is_at}
 use Rattle.std.specs.Map.{remove_entry, lookup}
-use Rattle.bf_grammar.specs.declared.object.Mode.{Mode}
-use Rattle.bf_grammar.specs.declared.object.Oid.{Oid}
+use Rattle.bf_oid.specs.declared.object.Mode.{Mode}
+use Rattle.bf_oid.specs.declared.object.Oid.{Oid}
 use Rattle.bf_paths.specs.Components.{is_path}
 use Rattle.bf_forest.specs.declared.edits.Edit.{Edit}
 use Rattle.bf_forest.specs.declared.edits.Edit.TheVariants.{Set, Remove, Clear}
@@ -59,7 +59,8 @@ abbrev pub set_slots : List (List ℕ) → Mode → Oid → List (List ℕ × Sl
 set_slots [] mode oid slots = slots
 set_slots (name ∷ []) mode oid slots = put (without (directory_key name) slots) name (File mode oid)
 set_slots (name ∷ next ∷ rest) mode oid slots =
-    put (without (directory_key name) (without name slots)) (directory_key name) (with_edit (directory_at (directory_key name) (without name slots)) (Set (next ∷ rest) mode oid))
+    put (without (directory_key name) (without name slots)) (directory_key name)
+    (with_edit (directory_at (directory_key name) (without name slots)) (Set (next ∷ rest) mode oid))
 
 abbrev pub remove_slots : List (List ℕ) → List (List ℕ × Slot) → List (List ℕ × Slot)
 remove_slots [] slots = slots
@@ -97,9 +98,17 @@ abbrev pub base_files : List Files → Option ℕ → Files
 base_files trees None = []
 base_files trees (Some number) = files_at trees number
 
+-- the files of each directory in a tree, or in an empty directory, of those inside first
+abbrev pub base_directories : List Files → Option ℕ → List Files
+base_directories trees base = or_none (where_some directories (base_files trees base))
+
+-- the files of a tree, or of an empty directory, after edits
+abbrev pub edited_base : List Files → Option ℕ → List Edit → Files
+edited_base trees base edits = edited (base_files trees base) edits
+
 abbrev pub slot_files : List Files → List ℕ → Slot → Files
 slot_files trees key (File mode oid) = record { path = name_in key ∷ []; mode = mode; oid = oid } ∷ []
-slot_files trees key (Directory base pending) = beneath (name_in key) (edited (base_files trees base) pending)
+slot_files trees key (Directory base pending) = beneath (name_in key) (edited_base trees base pending)
 
 abbrev pub contents : List Files → List (List ℕ × Slot) → Listing
 contents trees slots = map {A = List ℕ × Slot} {B = List ℕ × Files} (λ slot. (slot.0, slot_files trees slot.0 slot.1)) slots
@@ -107,7 +116,7 @@ contents trees slots = map {A = List ℕ × Slot} {B = List ℕ × Files} (λ sl
 -- the files of each directory in an entry, of those inside first
 abbrev pub slot_directories : List Files → Slot → List Files
 slot_directories trees (File mode oid) = []
-slot_directories trees (Directory base pending) = or_none (where_some directories (edited (base_files trees base) pending))
+slot_directories trees (Directory base pending) = or_none (where_some directories (edited_base trees base pending))
 
 -- ---- how deep the edits go
 

@@ -1,7 +1,7 @@
 -- Entries as they are kept: with the numbers of their keys.
 use Rattle.std.specs.Prelude.{◌≡◌, ◌⊎◌, ℕ, Bool, nat_lt, List, [], ◌∷◌, ◌++◌, map}
 use Rattle.std.specs.List.{list_all, slice_index_or}
-use Rattle.bf_grammar.specs.declared.object.Mode.TheVariants as mode
+use Rattle.bf_oid.specs.declared.object.Mode.TheVariants as mode
 use Rattle.bf_forest.specs.declared.nodes.Entry.{Entry}
 use Rattle.bf_forest.specs.declared.nodes.EntryKind.{EntryKind}
 use Rattle.bf_forest.specs.declared.nodes.EntryKind.TheVariants as kind

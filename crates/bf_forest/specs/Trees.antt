@@ -3,12 +3,13 @@ use Rattle.std.specs.Prelude.{ℕ, zero, suc, max, Bool, ◌&&◌, List, [], ◌
 use Rattle.std.specs.Cmp.Lexicographic.{pointwise}
 use Rattle.std.specs.List.{filter_map, flat_map, list_any, sum_by, slice_index_or}
 use Rattle.std.specs.Option.{option_map}
-use Rattle.bf_grammar.specs.Object.{name_of}
-use Rattle.bf_grammar.specs.declared.object.Kind.TheVariants.{Tree}
-use Rattle.bf_grammar.specs.declared.object.Mode.{Mode}
-use Rattle.bf_grammar.specs.declared.object.Mode.TheVariants.{Plain, Exec, Link, Module}
+use Rattle.bf_oid.specs.Object.{name_of}
+use Rattle.bf_oid.specs.declared.object.Kind.TheVariants.{Tree}
+use Rattle.bf_oid.specs.declared.object.Mode.{Mode}
+use Rattle.bf_oid.specs.declared.object.Mode.TheVariants.{Plain, Exec, Link, Module}
 use Rattle.bf_forest.specs.declared.entries.FileEntry.{FileEntry}
-use Rattle.bf_forest.specs.Files.{Files, is_same}
+use Rattle.bf_forest.specs.declared.edits.Edit.{Edit}
+use Rattle.bf_forest.specs.Files.{Files, is_same, edited}
 
 -- ---- the entries of a directory
 
@@ -125,3 +126,11 @@ pub record Pool : Type 0 where
 -- the files of the tree with a number
 abbrev pub files_at : List Files → ℕ → Files
 files_at trees number = slice_index_or trees number []
+
+-- the files of a tree after edits
+abbrev pub edited_tree : List Files → ℕ → List Edit → Files
+edited_tree trees tree edits = edited (files_at trees tree) edits
+
+-- trees with those of a tree after edits
+abbrev pub trees_after : List Files → ℕ → List Edit → List Files
+trees_after trees tree edits = with_directories trees (edited_tree trees tree edits)

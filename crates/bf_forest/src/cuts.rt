@@ -10,27 +10,25 @@ use std::marker::Model;
 
 /// An edit with what is left of its path, so that no path is copied.
 #[derive(Debug, Drop)]
-pub(crate) struct Cut<'a> {
+pub(crate) struct LocalEdit<'a> {
     edit: &'a Edit,
     path: &'a [Bytes],
 }
 
-impl<'a> Model for Cut<'a> {
-    ghost use Rattle.std.specs.Prelude.{◌≡◌, IsTrue};
+impl<'a> Model for LocalEdit<'a> {
     ghost use Rattle.bf_forest.specs.declared.edits.Edit.{Edit};
-    ghost use Rattle.bf_forest.specs.Cuts.{path_in, with_path};
-    ghost use Rattle.bf_forest.specs.Slots.{has_path};
+    ghost use Rattle.bf_forest.specs.Cuts.{with_path, IsCut};
 
     ghost Value = { Edit };
 
     ghost view = { λ c. with_path c.edit.now c.path.now };
 
-    ghost invariant = { λ c. IsTrue (has_path (with_path c.edit.now c.path.now)) × (path_in (with_path c.edit.now c.path.now) ≡ c.path.now) };
+    ghost invariant = { λ c. IsCut c.edit.now c.path.now };
 }
 
-impl<'a> Cut<'a> {
+impl<'a> LocalEdit<'a> {
     /// An edit as a whole.
-    fn whole(edit: &'a Edit) -> Cut<'a>
+    fn whole(edit: &'a Edit) -> LocalEdit<'a>
         ensures { result ≡ edit.now }
     {
         let path = match edit {
@@ -38,7 +36,7 @@ impl<'a> Cut<'a> {
             Edit::Remove { path } => path.components(),
             Edit::Clear => &[],
         };
-        Cut { edit, path }
+        LocalEdit { edit, path }
     }
 
     /// The edit whose path is cut.
@@ -57,11 +55,11 @@ impl<'a> Cut<'a> {
     }
 
     /// The edit as the directory sees it that is the first on its path.
-    pub(crate) fn inside(&self) -> Cut<'a>
+    pub(crate) fn inside(&self) -> LocalEdit<'a>
         requires { 1 < length (path_in self.now) }
         ensures { result ≡ inside self.now }
     {
-        Cut {
+        LocalEdit {
             edit: self.edit,
             path: &self.path[1..],
         }
@@ -71,7 +69,7 @@ impl<'a> Cut<'a> {
 /// Edits that wait to be made, in order.
 #[derive(Debug, Drop)]
 pub(crate) struct Pending<'a> {
-    edits: Vec<Cut<'a>>,
+    edits: Vec<LocalEdit<'a>>,
 }
 
 impl<'a> Model for Pending<'a> {
@@ -99,20 +97,20 @@ impl<'a> Pending<'a> {
     {
         let mut pending = Pending::new(alloc);
         for edit in edits {
-            pending.push(Cut::whole(edit))?;
+            pending.push(LocalEdit::whole(edit))?;
         }
         Ok(pending)
     }
 
     /// The edits in order.
-    pub(crate) fn as_slice(&self) -> &[Cut<'a>]
+    pub(crate) fn as_slice(&self) -> &[LocalEdit<'a>]
         ensures { result.now ≡ self.now }
     {
         self.edits.as_slice()
     }
 
     /// Adds an edit behind the others.
-    pub(crate) fn push(&mut self, edit: Cut<'a>) -> Result<(), AllocError>
+    pub(crate) fn push(&mut self, edit: LocalEdit<'a>) -> Result<(), AllocError>
         ensures { OnOk result (self.new ≡ self.old ++ edit.entry ∷ []) }
     {
         self.edits.push(edit)?;

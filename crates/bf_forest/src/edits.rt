@@ -1,6 +1,6 @@
 //! Edits of a list of files.
 
-use bf_grammar::{Mode, Oid};
+use bf_oid::{Mode, Oid};
 use bf_paths::Path;
 
 /// A change of the files of a tree (git-fast-import(1), `filemodify`, `filedelete`, `filedeleteall`).

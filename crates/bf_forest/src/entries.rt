@@ -2,11 +2,12 @@
 ghost use Rattle.std.specs.Prelude.{◌≡◌, [], ◌∷◌, ◌++◌, IsTrue, IfOk, OnOk};
 ghost use Rattle.bf_paths.specs.Components.{is_component};
 ghost use Rattle.std.specs.List.{list_all};
+ghost use Rattle.bf_forest.specs.Files.{file_in};
 ghost use Rattle.bf_forest.specs.Trees.{is_same_file, are_same};
 
 use crate::nodes::mode_text;
-use bf_grammar::{Mode, Oid};
 use bf_io::Bytes;
+use bf_oid::{Mode, Oid};
 use bf_paths::Path;
 use std::alloc::{AllocError, Global};
 
@@ -56,7 +57,8 @@ pub(crate) fn add_file(
 ) -> Result<(), AllocError>
     requires names { IsTrue (list_all is_component names.now) }
     requires name { IsTrue (is_component name.now) }
-    ensures { OnOk result (files.new.items ≡ files.old.items ++ record { path = names.now ++ name.now ∷ []; mode = mode; oid = oid } ∷ []) }
+    ensures { OnOk result
+        (files.new.items ≡ files.old.items ++ file_in names.now name.now mode oid ∷ []) }
 {
     let path = path_in(alloc, names, name)?;
     files.push(FileEntry { path, mode, oid })?;

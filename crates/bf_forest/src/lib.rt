@@ -19,6 +19,6 @@ pub use entries::FileEntry;
 pub use trees::{Forest, ForestFault};
 
 #[cfg(test)]
-mod plain;
-#[cfg(test)]
 mod tests;
+#[cfg(test)]
+mod tests_plain;

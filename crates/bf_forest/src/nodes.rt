@@ -3,8 +3,8 @@ ghost use Rattle.std.specs.Prelude.{◌≡◌, ◌↔◌, [], ◌∷◌, ◌++�
 ghost use Rattle.bf_forest.specs.Listing.{name_in};
 ghost use Rattle.bf_forest.specs.Trees.{mode_text, entry_bytes};
 
-use bf_grammar::{Mode, Oid};
 use bf_io::Bytes;
+use bf_oid::{Mode, Oid};
 use std::alloc::{AllocError, Global};
 use std::marker::Model;
 

@@ -1,14 +1,18 @@
 //! The trees of a pool, each once, with their names. A tree is kept as the numbers of its entries, which
 //! name the trees of its directories by their numbers.
-ghost use Rattle.std.specs.Prelude.{◌≡◌, ℕ, List, ◌+◌, ◌*◌, ◌<◌, ◌≤◌, [], ◌∷◌, ◌++◌, length, take, fold, IsTrue, IfOk, OnOk, OnErr};
-ghost use Rattle.bf_forest.specs.Files.{is_tree, edited};
-ghost use Rattle.bf_forest.specs.Nodes.{files_in, is_node, is_good, entry_body, entry_at, stood, are_within, StaysIn, IsSound, IsPosition, IsSettled};
-ghost use Rattle.bf_forest.specs.Opened.{IsOpened, IsBase, IsFrame, IsTurn, IsMade, Turns, Advances, IsClosed, HasSome, IsSpent, inner_weight, heft, weight, with_directory};
-ghost use Rattle.bf_forest.specs.Rests.{slots_in, slots_with};
-ghost use Rattle.bf_forest.specs.Slots.{base_files, is_base};
-ghost use Rattle.bf_forest.specs.Trees.{tree_name, directories, where_some, or_none, are_same, with_tree, with_directories, entries_of, files_at};
+ghost use Rattle.std.specs.Prelude.{◌≡◌, ◌<◌, [], ◌++◌, length, take, IsTrue, IfOk, OnOk, OnErr};
+ghost use Rattle.bf_forest.specs.Files.{is_tree};
+ghost use Rattle.bf_forest.specs.Nodes.{is_good, entry_at, StaysIn, IsPosition, IsSettled, Enters, Holds, has_files};
+ghost use Rattle.bf_forest.specs.Nodes.{HaveEntries, IsDirectory, directory_files, numbered_body};
+ghost use Rattle.bf_forest.specs.Nodes.{HaveJoined, HasDirectories, trees_with};
+ghost use Rattle.bf_forest.specs.Opened.{IsBase, HasBaseFiles, Opens, IsFrame, IsTurn, Turns, Advances, Makes, Closes};
+ghost use Rattle.bf_forest.specs.Opened.{EntersDirectory, Resumes, HasSome, IsSpent, IsLighter, LeavesAtMost};
+ghost use Rattle.bf_forest.specs.Opened.{heft_left, heft_with};
+ghost use Rattle.bf_forest.specs.Rests.{slots_in};
+ghost use Rattle.bf_forest.specs.Slots.{is_base, base_files, base_directories, edited_base};
+ghost use Rattle.bf_forest.specs.Trees.{tree_name, entries_of, files_at, edited_tree, trees_after};
 
-use crate::cuts::{Cut, Pending};
+use crate::cuts::{LocalEdit, Pending};
 use crate::edits::Edit;
 use crate::entries::{FileEntry, add_file, are_same};
 use crate::levels::Level;
@@ -17,9 +21,8 @@ use crate::opened::Opened;
 use crate::slots::{Rest, Slot, edit_all};
 use crate::table::Table;
 use crate::tail::{Tail, take_below};
-use bf_grammar::{Kind, Oid};
 use bf_io::Bytes;
-use bf_oid::object_name;
+use bf_oid::{Kind, Oid, object_name};
 use std::alloc::{AllocError, Global};
 use std::collections::BTreeMap;
 use std::marker::Model;
@@ -51,12 +54,12 @@ impl Model for Trees {
     ghost use Rattle.std.specs.Prelude.{◌≡◌, [], true, length};
     ghost use Rattle.bf_forest.specs.Trees.{entries_of};
     ghost use Rattle.bf_forest.specs.Index.{IsIndexed};
-    ghost use Rattle.bf_forest.specs.Nodes.{trees_from, AreNodes, nodes_of, are_kept_within};
+    ghost use Rattle.bf_forest.specs.Nodes.{AreNodes, nodes_of, kept_trees, world_of, are_kept_within};
 
-    ghost view = { λ t. record { table = t.table; trees = trees_from [] (nodes_of t.table t.nodes.items) } };
+    ghost view = { λ t. world_of t.table t.nodes.items };
 
-    ghost invariant = { λ t. (t.entries ≡ entries_of (trees_from [] (nodes_of t.table t.nodes.items)))
-        × IsIndexed t.index (trees_from [] (nodes_of t.table t.nodes.items))
+    ghost invariant = { λ t. (t.entries ≡ entries_of (kept_trees t.table t.nodes.items))
+        × IsIndexed t.index (kept_trees t.table t.nodes.items)
         × AreNodes [] (nodes_of t.table t.nodes.items)
         × (are_kept_within (length t.table) t.nodes.items ≡ true) };
 }
@@ -101,18 +104,18 @@ impl Trees {
     /// The numbers of the entries of a tree.
     fn node(&self, number: usize) -> &Numbers
         requires { number < length self.now.trees }
-        ensures files { files_in self.now.trees (stood self.now.table result.now) ≡ files_at self.now.trees number }
-        ensures node { IsTrue (is_node self.now.trees (stood self.now.table result.now)) }
-        ensures within { IsTrue (are_within (length self.now.table) result.now) }
+        ensures files { directory_files self.now result.now ≡ files_at self.now.trees number }
+        ensures node { IsDirectory self.now result.now }
+        ensures within { HaveEntries self.now result.now }
     {
         &self.nodes[number].numbers
     }
 
     /// The files of a directory with these entries.
     pub(crate) fn files(&self, numbers: &Numbers) -> Result<Vec<FileEntry>, AllocError>
-        requires node { IsTrue (is_node self.now.trees (stood self.now.table numbers.now)) }
-        requires within { IsTrue (are_within (length self.now.table) numbers.now) }
-        ensures { IfOk result (λ files. files.items ≡ files_in self.now.trees (stood self.now.table numbers.now)) }
+        requires node { IsDirectory self.now numbers.now }
+        requires within { HaveEntries self.now numbers.now }
+        ensures { IfOk result (λ files. files.items ≡ directory_files self.now numbers.now) }
     {
         let mut files = Vec::new(self.alloc);
         let mut names = Vec::new(self.alloc);
@@ -155,7 +158,7 @@ impl Trees {
     fn add_body(&self, body: &mut Bytes, number: u32) -> Result<(), AllocError>
         requires within { number < length self.now.table }
         requires good { IsTrue (is_good (length self.now.trees) (entry_at self.now.table number)) }
-        ensures { OnOk result (body.new ≡ body.old ++ entry_body self.now.trees (entry_at self.now.table number)) }
+        ensures { OnOk result (body.new ≡ body.old ++ numbered_body self.now number) }
     {
         let name = name_in(self.table.key(number));
         match self.table.kind(number) {
@@ -166,9 +169,9 @@ impl Trees {
 
     /// The name of the tree with these entries.
     fn name_of(&self, numbers: &Numbers) -> Result<Oid, AllocError>
-        requires node { IsTrue (is_node self.now.trees (stood self.now.table numbers.now)) }
-        requires within { IsTrue (are_within (length self.now.table) numbers.now) }
-        ensures { IfOk result (λ name. name.0 ≡ tree_name (files_in self.now.trees (stood self.now.table numbers.now))) }
+        requires node { IsDirectory self.now numbers.now }
+        requires within { HaveEntries self.now numbers.now }
+        ensures { IfOk result (λ name. name.0 ≡ tree_name (directory_files self.now numbers.now)) }
     {
         let mut body = empty_body(self.alloc, numbers)?;
         for number in numbers.as_slice() {
@@ -180,7 +183,8 @@ impl Trees {
     /// Whether the tree with a number has these entries.
     fn is_at(&self, number: usize, numbers: &Numbers) -> bool
         ensures number { IsTrue result → number < length self.now.trees }
-        ensures same { IsTrue result → files_at self.now.trees number ≡ files_in self.now.trees (stood self.now.table numbers.now) }
+        ensures same { IsTrue result
+            → Holds self.now.trees (directory_files self.now numbers.now) number }
     {
         number < self.len() && self.node(number).as_slice() == numbers.as_slice()
     }
@@ -189,7 +193,7 @@ impl Trees {
     fn has_files(&self, number: usize, files: &[FileEntry], name: Oid) -> Result<bool, AllocError>
         requires number { number < length self.now.trees }
         requires named { name.0 ≡ tree_name files.now }
-        ensures { IfOk result (λ answer. answer ≡ are_same (files_at self.now.trees number) files.now) }
+        ensures { IfOk result (λ answer. answer ≡ has_files self.now number files.now) }
     {
         if self.name(number).0.as_slice() != name.0.as_slice() {
             return Ok(false);
@@ -213,10 +217,10 @@ impl Trees {
 
     /// The number of the tree with these entries, which have this name, if there is one.
     fn position(&self, numbers: &Numbers, name: Oid) -> Result<Option<usize>, AllocError>
-        requires named { name.0 ≡ tree_name (files_in self.now.trees (stood self.now.table numbers.now)) }
-        requires node { IsTrue (is_node self.now.trees (stood self.now.table numbers.now)) }
-        requires within { IsTrue (are_within (length self.now.table) numbers.now) }
-        ensures { IfOk result (IsPosition self.now.trees (files_in self.now.trees (stood self.now.table numbers.now))) }
+        requires named { name.0 ≡ tree_name (directory_files self.now numbers.now) }
+        requires node { IsDirectory self.now numbers.now }
+        requires within { HaveEntries self.now numbers.now }
+        ensures { IfOk result (IsPosition self.now.trees (directory_files self.now numbers.now)) }
     {
         let Some(number) = self.index.get(&name.0) else {
             return Ok(None);
@@ -231,11 +235,11 @@ impl Trees {
     /// Adds the tree with these entries where it is not there, and answers its number. After an error
     /// all is as before.
     pub(crate) fn add(&mut self, numbers: Numbers) -> Result<usize, AllocError>
-        requires node { IsTrue (is_node self.old.trees (stood self.old.table numbers)) }
-        requires within { IsTrue (are_within (length self.old.table) numbers) }
-        ensures ok { OnOk result (self.new.trees ≡ with_tree self.old.trees (files_in self.old.trees (stood self.old.table numbers))) }
+        requires node { IsDirectory self.old numbers }
+        requires within { HaveEntries self.old numbers }
+        ensures ok { OnOk result (self.new.trees ≡ trees_with self.old numbers) }
         ensures number { IfOk result (λ number. number < length self.new.trees) }
-        ensures files { IfOk result (λ number. files_at self.new.trees number ≡ files_in self.old.trees (stood self.old.table numbers)) }
+        ensures files { IfOk result (Holds self.new.trees (directory_files self.old numbers)) }
         ensures kept { take (length self.old.trees) self.new.trees ≡ self.old.trees }
         ensures table { self.new.table ≡ self.old.table }
         ensures err { OnErr result (self.new ≡ self.old) }
@@ -260,9 +264,9 @@ impl Trees {
         key: Bytes,
         kind: EntryKind,
     ) -> Result<(), AllocError>
-        requires { IsTrue (are_within (length self.old.table) numbers.old) }
-        ensures entry { OnOk result (stood self.new.table numbers.new ≡ stood self.old.table numbers.old ++ record { key = key; kind = kind } ∷ []) }
-        ensures within { OnOk result (IsTrue (are_within (length self.new.table) numbers.new)) }
+        requires { HaveEntries self.old numbers.old }
+        ensures entry { OnOk result (Enters self.old numbers.old key kind self.new numbers.new) }
+        ensures within { OnOk result (HaveEntries self.new numbers.new) }
         ensures kept { StaysIn self.old self.new }
         ensures trees { self.new.trees ≡ self.old.trees }
     {
@@ -277,9 +281,10 @@ impl Trees {
         key: Bytes,
         number: Option<usize>,
     ) -> Result<(), AllocError>
-        requires { IsTrue (are_within (length self.old.table) numbers.old) }
-        ensures entry { OnOk result (stood self.new.table numbers.new ≡ with_directory (stood self.old.table numbers.old) key number) }
-        ensures within { OnOk result (IsTrue (are_within (length self.new.table) numbers.new)) }
+        requires { HaveEntries self.old numbers.old }
+        ensures entry { OnOk result
+            (EntersDirectory self.old numbers.old key number self.new numbers.new) }
+        ensures within { OnOk result (HaveEntries self.new numbers.new) }
         ensures kept { StaysIn self.old self.new }
         ensures trees { self.new.trees ≡ self.old.trees }
     {
@@ -293,8 +298,8 @@ impl Trees {
     fn tail(&self, base: Option<usize>) -> Result<Tail, AllocError>
         requires { IsTrue (is_base (length self.now.trees) base) }
         ensures base { IfOk result (IsBase self.now.trees self.now.table) }
-        ensures files { IfOk result (λ tail. files_in self.now.trees (stood self.now.table tail) ≡ base_files self.now.trees base) }
-        ensures node { IfOk result (λ tail. IsTrue (is_node self.now.trees (stood self.now.table tail))) }
+        ensures files { IfOk result (HasBaseFiles self.now base) }
+        ensures node { IfOk result (IsDirectory self.now) }
     {
         match base {
             None => Ok(Tail::new(self.alloc)),
@@ -303,13 +308,17 @@ impl Trees {
     }
 
     /// Opens a directory, to make it as it is after edits.
-    fn open<'a>(&self, base: Option<usize>, edits: &[Cut<'a>]) -> Result<Opened<'a>, AllocError>
+    fn open<'a>(
+        &self,
+        base: Option<usize>,
+        edits: &[LocalEdit<'a>],
+    ) -> Result<Opened<'a>, AllocError>
         requires base { IsTrue (is_base (length self.now.trees) base) }
         requires some { 0 < length edits.now }
-        ensures opened { IfOk result (λ top. IsOpened self.now.trees (edited (base_files self.now.trees base) edits.now) (slots_in self.now.table top.rest)) }
+        ensures opened { IfOk result (Opens self.now (edited_base self.now.trees base edits.now)) }
         ensures base { IfOk result (λ top. IsBase self.now.trees self.now.table top.rest.base) }
         ensures empty { IfOk result (λ top. top.numbers ≡ []) }
-        ensures heft { IfOk result (λ top. heft (slots_in self.now.table top.rest) + 2 * length edits.now ≤ weight edits.now) }
+        ensures heft { IfOk result (IsLighter self.now edits.now) }
     {
         let tail = self.tail(base)?;
         let mut rest = Rest {
@@ -333,7 +342,7 @@ impl Trees {
     fn filled(&self, base: Option<usize>) -> Option<usize>
         requires { IsTrue (is_base (length self.now.trees) base) }
         ensures number { IsSettled self.now.trees (base_files self.now.trees base) result }
-        ensures joined { fold with_tree self.now.trees (or_none (where_some directories (base_files self.now.trees base))) ≡ self.now.trees }
+        ensures joined { HaveJoined self.now.trees (base_directories self.now.trees base) }
     {
         let Some(number) = base else {
             return None;
@@ -356,7 +365,8 @@ impl Trees {
         ensures frame { OnOk result (IsFrame self.new top.new) }
         ensures kept { StaysIn self.old self.new }
         ensures trees { self.new.trees ≡ self.old.trees }
-        ensures heft { IfOk result (λ inner. inner_weight inner + heft (slots_in self.new.table top.new.rest) ≤ heft (slots_with self.old.table top.old.rest key change.entry)) }
+        ensures heft { IfOk result
+            (LeavesAtMost (heft_with self.old top.old key change.entry) self.new top.new) }
         ensures some { IfOk result HasSome }
         ensures changes { top.new.rest.changes ≡ top.old.rest.changes }
     {
@@ -393,7 +403,7 @@ impl Trees {
         ensures frame { OnOk result (IsFrame self.new top.new) }
         ensures kept { StaysIn self.old self.new }
         ensures trees { self.new.trees ≡ self.old.trees }
-        ensures heft { IfOk result (λ inner. inner_weight inner + heft (slots_in self.new.table top.new.rest) ≤ heft (slots_in self.old.table top.old.rest)) }
+        ensures heft { IfOk result (LeavesAtMost (heft_left self.old top.old) self.new top.new) }
         ensures some { IfOk result HasSome }
         ensures spent { IfOk result (IsSpent (slots_in self.new.table top.new.rest)) }
     {
@@ -423,9 +433,9 @@ impl Trees {
 
     /// Adds the tree of a directory with these entries, if there are any, and answers its number.
     fn close(&mut self, numbers: Numbers) -> Result<Option<usize>, AllocError>
-        requires node { IsTrue (is_node self.old.trees (stood self.old.table numbers)) }
-        requires within { IsTrue (are_within (length self.old.table) numbers) }
-        ensures closed { IfOk result (IsClosed self.old.trees self.new.trees (stood self.old.table numbers)) }
+        requires node { IsDirectory self.old numbers }
+        requires within { HaveEntries self.old numbers }
+        ensures closed { IfOk result (Closes self.old self.new numbers) }
         ensures kept { take (length self.old.trees) self.new.trees ≡ self.old.trees }
         ensures table { self.new.table ≡ self.old.table }
     {
@@ -436,11 +446,12 @@ impl Trees {
     }
 
     /// The numbers of the entries of a tree after edits. The trees of its directories join.
-    fn settle(&mut self, tree: usize, edits: &[Cut<'_>]) -> Result<Numbers, AllocError>
+    fn settle(&mut self, tree: usize, edits: &[LocalEdit<'_>]) -> Result<Numbers, AllocError>
         requires tree { tree < length self.old.trees }
         requires some { 0 < length edits.now }
-        ensures made { IfOk result (λ numbers. IsMade self.old.trees self.new.trees (edited (files_at self.old.trees tree) edits.now) (stood self.new.table numbers)) }
-        ensures within { IfOk result (λ numbers. IsTrue (are_within (length self.new.table) numbers)) }
+        ensures made { IfOk result
+            (Makes self.old self.new (edited_tree self.old.trees tree edits.now)) }
+        ensures within { IfOk result (HaveEntries self.new) }
         ensures kept { take (length self.old.trees) self.new.trees ≡ self.old.trees }
     {
         let mut below = Vec::new(self.alloc);
@@ -466,9 +477,9 @@ impl Trees {
 
     /// Adds the directory that another one waited for, if it has files.
     fn wait_over(&mut self, outer: &mut Opened<'_>, number: Option<usize>) -> Result<(), AllocError>
-        requires { IsTrue (are_within (length self.old.table) outer.old.numbers) }
-        ensures entry { OnOk result (stood self.new.table outer.new.numbers ≡ with_directory (stood self.old.table outer.old.numbers) outer.old.inside number) }
-        ensures within { OnOk result (IsTrue (are_within (length self.new.table) outer.new.numbers)) }
+        requires { HaveEntries self.old outer.old.numbers }
+        ensures entry { OnOk result (Resumes self.old outer.old number self.new outer.new) }
+        ensures within { OnOk result (HaveEntries self.new outer.new.numbers) }
         ensures kept { StaysIn self.old self.new }
         ensures trees { self.new.trees ≡ self.old.trees }
         ensures rest { OnOk result (outer.new.rest ≡ outer.old.rest) }
@@ -481,9 +492,10 @@ impl Trees {
     /// some of these trees may have been added.
     pub(crate) fn join(&mut self, tree: usize, edits: &[Edit]) -> Result<usize, AllocError>
         requires { tree < length self.old.trees }
-        ensures ok { OnOk result (self.new.trees ≡ with_directories self.old.trees (edited (files_at self.old.trees tree) edits.now)) }
+        ensures ok { OnOk result (self.new.trees ≡ trees_after self.old.trees tree edits.now) }
         ensures number { IfOk result (λ number. number < length self.new.trees) }
-        ensures files { IfOk result (λ number. files_at self.new.trees number ≡ edited (files_at self.old.trees tree) edits.now) }
+        ensures files { IfOk result
+            (Holds self.new.trees (edited_tree self.old.trees tree edits.now)) }
         ensures kept { take (length self.old.trees) self.new.trees ≡ self.old.trees }
     {
         if edits.is_empty() {
@@ -497,7 +509,7 @@ impl Trees {
     /// The number of a tree. All its directories are there.
     fn unchanged(&self, tree: usize) -> usize
         requires { tree < length self.now.trees }
-        ensures joined { with_directories self.now.trees (files_at self.now.trees tree) ≡ self.now.trees }
+        ensures joined { HasDirectories self.now.trees (files_at self.now.trees tree) }
         ensures number { result ≡ tree }
     {
         // A use of a field: what holds of all trees is then known here.

@@ -1,22 +1,20 @@
 //! Changes of the entries of a directory, by their keys, and the edits that wait to be made in the
 //! directories in it.
-ghost use Rattle.std.specs.Prelude.{◌≡◌, ◌<◌, [], ◌∷◌, ◌++◌, length, fold, IsTrue, IfOk, OnOk, Some, None};
+ghost use Rattle.std.specs.Prelude.{◌≡◌, IsTrue, IfOk, OnOk, Some, None};
 ghost use Rattle.std.specs.List.{list_all};
 ghost use Rattle.bf_forest.specs.Cuts.{path_in};
-ghost use Rattle.bf_forest.specs.Nodes.{stood};
-ghost use Rattle.bf_forest.specs.Overlays.{overlaid};
-ghost use Rattle.bf_forest.specs.Rests.{IsOld, IsShorter, slots_in, old_directory, set_changes, less_changes, set_rest, remove_rest};
+ghost use Rattle.bf_forest.specs.Rests.{IsOld, IsShorter, FollowsEdit, FollowsEdits, old_slots, standing_directory};
+ghost use Rattle.bf_forest.specs.Rests.{old_directory, file_changes, gone_changes, set_changes, less_changes, changes_after};
 ghost use Rattle.bf_forest.specs.declared.edits.Edit.TheVariants as edit;
-ghost use Rattle.bf_forest.specs.declared.slots.Slot.TheVariants as slot;
-ghost use Rattle.bf_forest.specs.Slots.{directory_key, put, directory_of, directory_at, slots_after, has_path, slots_of};
+ghost use Rattle.bf_forest.specs.Slots.{directory_key, put, directory_of, directory_at, has_path};
 
-use crate::cuts::{Cut, Pending};
+use crate::cuts::{LocalEdit, Pending};
 use crate::edits::Edit;
 use crate::nodes::EntryKind;
 use crate::table::Table;
 use crate::tail::{Tail, end_of, place_of};
-use bf_grammar::{Mode, Oid};
 use bf_io::Bytes;
+use bf_oid::{Mode, Oid};
 use std::alloc::AllocError;
 use std::collections::BTreeMap;
 
@@ -50,7 +48,7 @@ fn directory_key(name: &Bytes) -> Result<Bytes, AllocError>
 /// The number of the tree of an old directory with a key.
 fn old_directory(table: &Table, numbers: &[u32], key: &[u8]) -> Option<usize>
     requires { IsOld table.now numbers.now }
-    ensures { old_directory result ≡ directory_at key.now (slots_of (stood table.now numbers.now)) }
+    ensures { old_directory result ≡ directory_at key.now (old_slots table.now numbers.now) }
 {
     let place = place_of(table, numbers, key);
     if end_of(table, numbers, place, key) <= place {
@@ -80,7 +78,8 @@ fn taken<'a>(
     key: &Bytes,
 ) -> Result<Option<(Option<usize>, Pending<'a>)>, AllocError>
     requires { IsOld table.now base.now }
-    ensures directory { IfOk result (λ directory. directory ≡ directory_at key.now (overlaid (slots_of (stood table.now base.now)) changes.old.entries)) }
+    ensures directory { IfOk result (λ directory.
+        directory ≡ standing_directory table.now base.now changes.old.entries key.now) }
     ensures changes { OnOk result (changes.new.entries ≡ put changes.old.entries key.now None) }
 {
     match changes.insert(key.try_clone()?, None)? {
@@ -94,7 +93,8 @@ fn taken<'a>(
 
 /// Sets the file with a name.
 fn set_file(changes: &mut Changes<'_>, name: &Bytes, mode: Mode, oid: Oid) -> Result<(), AllocError>
-    ensures { OnOk result (changes.new.entries ≡ put (put changes.old.entries (directory_key name.now) None) name.now (Some (slot.File mode oid))) }
+    ensures { OnOk result
+        (changes.new.entries ≡ file_changes changes.old.entries name.now mode oid) }
 {
     changes.insert(directory_key(name)?, None)?;
     changes.insert(name.try_clone()?, Some(Slot::File(mode, oid)))?;
@@ -103,7 +103,7 @@ fn set_file(changes: &mut Changes<'_>, name: &Bytes, mode: Mode, oid: Oid) -> Re
 
 /// Removes what has a name.
 fn remove_both(changes: &mut Changes<'_>, name: &Bytes) -> Result<(), AllocError>
-    ensures { OnOk result (changes.new.entries ≡ put (put changes.old.entries name.now None) (directory_key name.now) None) }
+    ensures { OnOk result (changes.new.entries ≡ gone_changes changes.old.entries name.now) }
 {
     changes.insert(name.try_clone()?, None)?;
     changes.insert(directory_key(name)?, None)?;
@@ -116,10 +116,11 @@ fn set_inside<'a>(
     base: &[u32],
     changes: &mut Changes<'a>,
     name: &Bytes,
-    edit: Cut<'a>,
+    edit: LocalEdit<'a>,
 ) -> Result<(), AllocError>
     requires { IsOld table.now base.now }
-    ensures { OnOk result (changes.new.entries ≡ set_changes (slots_of (stood table.now base.now)) name.now edit.entry changes.old.entries) }
+    ensures { OnOk result (changes.new.entries
+        ≡ set_changes (old_slots table.now base.now) name.now edit.entry changes.old.entries) }
 {
     changes.insert(name.try_clone()?, None)?;
     let key = directory_key(name)?;
@@ -138,10 +139,11 @@ fn remove_inside<'a>(
     base: &[u32],
     changes: &mut Changes<'a>,
     name: &Bytes,
-    edit: Cut<'a>,
+    edit: LocalEdit<'a>,
 ) -> Result<(), AllocError>
     requires { IsOld table.now base.now }
-    ensures { OnOk result (changes.new.entries ≡ less_changes (slots_of (stood table.now base.now)) name.now edit.entry changes.old.entries) }
+    ensures { OnOk result (changes.new.entries
+        ≡ less_changes (old_slots table.now base.now) name.now edit.entry changes.old.entries) }
 {
     let key = directory_key(name)?;
     if let Some((number, mut pending)) = taken(table, base, changes, &key)? {
@@ -154,14 +156,14 @@ fn remove_inside<'a>(
 fn set<'a>(
     table: &Table,
     rest: &mut Rest<'a>,
-    cut: &Cut<'a>,
+    cut: &LocalEdit<'a>,
     mode: Mode,
     oid: Oid,
 ) -> Result<(), AllocError>
     requires old { IsOld table.now rest.old.base }
     requires cut { cut.now ≡ edit.Set (path_in cut.now) mode oid }
     ensures changes { OnOk result (rest.new.changes.entries
-        ≡ set_rest (slots_of (stood table.now rest.old.base)) (path_in cut.now) mode oid rest.old.changes.entries) }
+        ≡ changes_after table.now rest.old (edit.Set (path_in cut.now) mode oid)) }
     ensures base { rest.new.base ≡ rest.old.base }
 {
     let base = rest.base.as_slice();
@@ -172,11 +174,11 @@ fn set<'a>(
     }
 }
 
-fn remove<'a>(table: &Table, rest: &mut Rest<'a>, cut: &Cut<'a>) -> Result<(), AllocError>
+fn remove<'a>(table: &Table, rest: &mut Rest<'a>, cut: &LocalEdit<'a>) -> Result<(), AllocError>
     requires old { IsOld table.now rest.old.base }
     requires cut { cut.now ≡ edit.Remove (path_in cut.now) }
     ensures changes { OnOk result (rest.new.changes.entries
-        ≡ remove_rest (slots_of (stood table.now rest.old.base)) (path_in cut.now) rest.old.changes.entries) }
+        ≡ changes_after table.now rest.old (edit.Remove (path_in cut.now))) }
     ensures base { rest.new.base ≡ rest.old.base }
 {
     let base = rest.base.as_slice();
@@ -189,9 +191,9 @@ fn remove<'a>(table: &Table, rest: &mut Rest<'a>, cut: &Cut<'a>) -> Result<(), A
 
 /// Makes an edit, in so far as it changes the entries, and leaves the rest of it to the directory where
 /// it belongs.
-fn edit_rest<'a>(table: &Table, rest: &mut Rest<'a>, cut: &Cut<'a>) -> Result<(), AllocError>
+fn edit_rest<'a>(table: &Table, rest: &mut Rest<'a>, cut: &LocalEdit<'a>) -> Result<(), AllocError>
     requires { IsOld table.now rest.old.base }
-    ensures slots { OnOk result (slots_in table.now rest.new ≡ slots_after cut.now (slots_in table.now rest.old)) }
+    ensures slots { OnOk result (FollowsEdit table.now rest.old cut.now rest.new) }
     ensures path { OnOk result (IsTrue (has_path cut.now)) }
     ensures base { IsShorter rest.new.base rest.old.base }
 {
@@ -210,10 +212,10 @@ fn edit_rest<'a>(table: &Table, rest: &mut Rest<'a>, cut: &Cut<'a>) -> Result<()
 pub(crate) fn edit_all<'a>(
     table: &Table,
     rest: &mut Rest<'a>,
-    edits: &[Cut<'a>],
+    edits: &[LocalEdit<'a>],
 ) -> Result<(), AllocError>
     requires { IsOld table.now rest.old.base }
-    ensures slots { OnOk result (slots_in table.now rest.new ≡ fold (λ slots edit. slots_after edit slots) (slots_in table.now rest.old) edits.now) }
+    ensures slots { OnOk result (FollowsEdits table.now rest.old edits.now rest.new) }
     ensures paths { OnOk result (IsTrue (list_all has_path edits.now)) }
     ensures base { OnOk result (IsShorter rest.new.base rest.old.base) }
 {

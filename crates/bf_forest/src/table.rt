@@ -5,8 +5,8 @@ ghost use Rattle.bf_forest.specs.Nodes.{entry_at};
 ghost use Rattle.bf_forest.specs.Stored.{kind_of, IsJoined};
 
 use crate::nodes::{Entry, EntryKind};
-use bf_grammar::{Mode, Oid};
 use bf_io::Bytes;
+use bf_oid::{Mode, Oid};
 use indexmap::IndexSet;
 use std::alloc::{AllocError, Global};
 use std::marker::Model;

@@ -1,9 +1,9 @@
 //! What is left of the old entries of a directory that is edited, and where a key stands among them.
-ghost use Rattle.std.specs.Prelude.{◌≡◌, ℕ, ◌+◌, ◌<◌, ◌≤◌, false, true, [], ◌++◌, length, take, drop, slice_index, IfOk, OnOk};
+ghost use Rattle.std.specs.Prelude.{◌≡◌, ℕ, ◌<◌, ◌≤◌, false, true, [], length, drop, IfOk, OnOk};
 ghost use Rattle.std.specs.Ordering.{nat_cmp, is_lt};
 ghost use Rattle.std.specs.Cmp.Lexicographic.{slice_cmp};
-ghost use Rattle.bf_forest.specs.Nodes.{entry_at, are_within};
-ghost use Rattle.bf_forest.specs.Rests.{IsOld, IsPassed, key_at};
+ghost use Rattle.bf_forest.specs.Nodes.{are_within};
+ghost use Rattle.bf_forest.specs.Rests.{IsOld, IsPassed, IsBehindKey, IsKeyMissing, is_before_key};
 
 use crate::nodes::Numbers;
 use crate::table::Table;
@@ -82,9 +82,9 @@ fn is_below(key: &[u8], other: &[u8]) -> bool
 pub(crate) fn place_of(table: &Table, numbers: &[u32], key: &[u8]) -> usize
     requires { IsOld table.now numbers.now }
     ensures within { result ≤ length numbers.now }
-    ensures before { (k : ℕ) → k < result → is_lt (slice_cmp nat_cmp (entry_at table.now (slice_index numbers.now k)).key key.now) ≡ true }
+    ensures before { (k : ℕ) → k < result → is_before_key table.now numbers.now key.now k ≡ true }
     ensures behind { (k : ℕ) → result ≤ k → k < length numbers.now
-        → is_lt (slice_cmp nat_cmp (entry_at table.now (slice_index numbers.now k)).key key.now) ≡ false }
+        → is_before_key table.now numbers.now key.now k ≡ false }
 {
     let mut low = 0;
     let mut high = numbers.len();
@@ -102,8 +102,8 @@ pub(crate) fn place_of(table: &Table, numbers: &[u32], key: &[u8]) -> usize
 /// The place behind the entry that has a key, where that is the one at a place, and else this place.
 pub(crate) fn end_of(table: &Table, numbers: &[u32], place: usize, key: &[u8]) -> usize
     requires { are_within (length table.now) numbers.now ≡ true }
-    ensures there { place < result → (result ≡ place + 1) × (place < length numbers.now) × (key_at table.now numbers.now place ≡ key.now) }
-    ensures missing { result ≤ place → (result ≡ place) × (place < length numbers.now → key_at table.now numbers.now place ≡ key.now → ⊥) }
+    ensures there { place < result → IsBehindKey table.now numbers.now key.now place result }
+    ensures missing { result ≤ place → IsKeyMissing table.now numbers.now key.now place result }
 {
     if place >= numbers.len() {
         return place;

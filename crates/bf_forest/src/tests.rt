@@ -3,9 +3,8 @@
 ghost use Rattle.std.specs.Prelude.{◌<◌, length, IfOk};
 
 use crate::*;
-use bf_grammar::{Mode, Oid};
 use bf_io::Bytes;
-use bf_oid::{Kind, object_name, oid_from_hex, oid_hex};
+use bf_oid::{Kind, Mode, Oid, object_name, oid_from_hex, oid_hex};
 use bf_paths::{PathFault, read_path};
 use std::alloc::{AllocError, Global};
 use std::process::Abort;

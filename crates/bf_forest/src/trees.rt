@@ -1,14 +1,14 @@
 //! The pool of trees.
 ghost use Rattle.std.specs.Prelude.{◌≡◌, ◌<◌, ◌≤◌, [], ◌∷◌, ◌++◌, length, take, IsTrue, IfOk, OnOk, OnErr, IsErrOf};
 ghost use Rattle.bf_forest.specs.declared.trees.ForestFault.TheVariants as faults;
-ghost use Rattle.bf_forest.specs.Files.{edited, is_tree};
-ghost use Rattle.bf_forest.specs.Trees.{tree_name, with_directories, entries_of, files_at};
+ghost use Rattle.bf_forest.specs.Files.{is_tree};
+ghost use Rattle.bf_forest.specs.Trees.{tree_name, entries_of, files_at, edited_tree, trees_after};
 
 use crate::edits::Edit;
 use crate::entries::FileEntry;
 use crate::nodes::Numbers;
 use crate::pool::Trees;
-use bf_grammar::Oid;
+use bf_oid::Oid;
 use std::alloc::{AllocError, AllocFailed, Global};
 use std::marker::Model;
 use thiserror::Error;
@@ -67,19 +67,20 @@ impl Forest {
     }
 
     /// The number of the tree whose files are those of a tree after edits, in order. It joins the pool,
-    /// with the trees of its directories; the others keep their numbers. `TooMany` comes exactly where the trees would then have more
-    /// entries together than the limit. After a refusal the pool is as before.
+    /// with the trees of its directories; the others keep their numbers. `TooMany` comes exactly where
+    /// the trees would then have more entries together than the limit. After a refusal the pool is as
+    /// before.
     pub fn apply(&mut self, tree: u32, edits: &[Edit]) -> Result<u32, ForestFault>
         requires { tree < length self.old.trees }
         ensures number { IfOk result (λ number. number < length self.new.trees) }
         ensures files { IfOk result
-            (λ number. files_at self.new.trees number ≡ edited (files_at self.old.trees tree) edits.now) }
+            (λ number. files_at self.new.trees number ≡ edited_tree self.old.trees tree edits.now) }
         ensures pool { OnOk result
-            (self.new ≡ record self.old { trees = with_directories self.old.trees (edited (files_at self.old.trees tree) edits.now) }) }
+            (self.new ≡ record self.old { trees = trees_after self.old.trees tree edits.now }) }
         ensures kept { OnOk result (take (length self.old.trees) self.new.trees ≡ self.old.trees) }
         ensures within { OnOk result (entries_of self.new.trees ≤ self.old.limit) }
         ensures too_many { IsErrOf result ForestFault.TooMany
-            → self.old.limit < entries_of (with_directories self.old.trees (edited (files_at self.old.trees tree) edits.now)) }
+            → self.old.limit < entries_of (trees_after self.old.trees tree edits.now) }
         ensures err { OnErr result (self.new ≡ self.old) }
     {
         let count = self.trees.len();
@@ -112,12 +113,13 @@ impl Forest {
 /// Adds the tree after edits, and answers its number. After a refusal some trees may have been added.
 fn joined(trees: &mut Trees, limit: u32, tree: u32, edits: &[Edit]) -> Result<u32, ForestFault>
     requires { tree < length trees.old.trees }
-    ensures pool { OnOk result (trees.new.trees ≡ with_directories trees.old.trees (edited (files_at trees.old.trees tree) edits.now)) }
+    ensures pool { OnOk result (trees.new.trees ≡ trees_after trees.old.trees tree edits.now) }
     ensures number { IfOk result (λ number. number < length trees.new.trees) }
-    ensures files { IfOk result (λ number. files_at trees.new.trees number ≡ edited (files_at trees.old.trees tree) edits.now) }
+    ensures files { IfOk result
+        (λ number. files_at trees.new.trees number ≡ edited_tree trees.old.trees tree edits.now) }
     ensures within { OnOk result (entries_of trees.new.trees ≤ limit) }
     ensures too_many { IsErrOf result ForestFault.TooMany
-        → limit < entries_of (with_directories trees.old.trees (edited (files_at trees.old.trees tree) edits.now)) }
+        → limit < entries_of (trees_after trees.old.trees tree edits.now) }
     ensures kept { take (length trees.old.trees) trees.new.trees ≡ trees.old.trees }
 {
     let number = trees.join(tree as usize, edits)?;

@@ -1,5 +1,6 @@
 -- The front of a text: a word and what follows it, and the first byte that passes a test.
-use Rattle.std.proofs.Common.{◌≡◌, ℕ, ◌+◌, ◌-◌, ◌<◌, Bool, true, false, ◌==◌, ◌&&◌, List, [], ◌∷◌, ◌++◌, length, take, drop, get_or, Option, Some, None, is_some, refl, sym, ap, ◌∙◌, arith, inl, inr, MatchOption}
+use Rattle.std.proofs.Common.{◌≡◌, ℕ, ◌+◌, ◌-◌, ◌<◌, Bool, true, false, ◌==◌, ◌&&◌, List, [], ◌∷◌, ◌++◌, length, take, drop, get_or, Option, Some, None}
+use Rattle.std.proofs.Common.{is_some, refl, sym, ap, ◌∙◌, arith, inl, inr, MatchOption}
 use Rattle.std.specs.Borrow.{Bor}
 use Rattle.bf_forms.specs.Answers.{IsPartWhere}
 use Rattle.std.specs.List.{starts_with, list_any, position_or_len, before_first, after_first}
@@ -27,26 +28,35 @@ and_assoc true b c = refl
 and_assoc false b c = refl
 
 -- a text begins with a word and more where it begins with the word and the rest with more
-pub begins_with_both : (word more text : List ℕ) → starts_with ◌==◌ text (word ++ more) ≡ (pointwise ◌==◌ (take (length word) text) word && pointwise ◌==◌ (take (length more) (drop (length word) text)) more)
+pub begins_with_both : (word more text : List ℕ)
+    → starts_with ◌==◌ text (word ++ more) ≡ (pointwise ◌==◌ (take (length word) text) word && pointwise ◌==◌ (take (length more) (drop (length word) text))
+    more)
 begins_with_both [] more text = pointwise_either_way more (take (length more) text)
 begins_with_both (w ∷ ws) more [] = refl
 begins_with_both (w ∷ ws) more (x ∷ xs) =
-    rw (begins_with_both ws more xs, same_either_way w x) (and_assoc (x == w) (pointwise ◌==◌ (take (length ws) xs) ws) (pointwise ◌==◌ (take (length more) (drop (length ws) xs)) more))
+    rw (begins_with_both ws more xs, same_either_way w x)
+    (and_assoc (x == w) (pointwise ◌==◌ (take (length ws) xs) ws) (pointwise ◌==◌ (take (length more) (drop (length ws) xs)) more))
 
 -- what stands behind a word and more, taken off one after the other
-pub behind_both : (word more text rest : List ℕ) (result : Option (Bor (List ℕ))) → pointwise ◌==◌ (take (length word) text) word ≡ true → rest ≡ drop (length word) text
-    → MatchOption result (pointwise ◌==◌ (take (length more) rest) more ≡ false) (λ x. (pointwise ◌==◌ (take (length more) rest) more ≡ true) × (x.now ≡ drop (length more) rest) × (length x.now + length more ≡ length rest))
+pub behind_both : (word more text rest : List ℕ) (result : Option (Bor (List ℕ))) → pointwise ◌==◌ (take (length word) text) word ≡ true
+    → rest ≡ drop (length word) text
+    → MatchOption result (pointwise ◌==◌ (take (length more) rest) more ≡ false)
+    (λ x. (pointwise ◌==◌ (take (length more) rest) more ≡ true) × (x.now ≡ drop (length more) rest) × (length x.now + length more ≡ length rest))
     → IsPartWhere (starts_with ◌==◌ text (word ++ more)) (drop (length word + length more) text) result
 behind_both word more text rest None first e fails = rw (begins_with_both word more text, first, ← e) fails
 behind_both word more text rest (Some x) first e found =
     (rw (begins_with_both word more text, first, ← e) found.0, found.1 ∙ ap (drop (length more)) e ∙ drop-drop (length more) (length word) text)
 
 -- whether a byte that passes was found, and where the first stands
-pub first_byte_is : (test : ℕ → Bool) (xs : List ℕ) (found : Option ℕ) → IsFirstByte test xs found → (list_any test xs ≡ is_some found) × (position_or_len test xs ≡ unwrap_or found (length xs))
+pub first_byte_is : (test : ℕ → Bool) (xs : List ℕ) (found : Option ℕ) → IsFirstByte test xs found
+    → (list_any test xs ≡ is_some found) × (position_or_len test xs ≡ unwrap_or found (length xs))
 first_byte_is test xs None nowhere =
     let fails : (k : ℕ) → k < length xs → test (get_or xs k 0) ≡ false =
-    λ k lt. elim (cases_Bool (test (get_or xs k 0))) [ inl passes ↦ absurd (nowhere k (omega arith) lt passes) | inr fails ↦ fails ] in
-    (list_any_none test xs (λ k d lt. rw (get_or_default_zero xs k d lt) (fails k lt)), position_or_len_is test xs (length xs) 0 (omega arith) fails (λ lt. absurd (omega arith)))
+    λ k lt. elim (cases_Bool (test (get_or xs k 0))) [ inl passes ↦ absurd (nowhere k (omega arith) lt passes) | inr fails ↦ fails ] in (
+      list_any_none test xs (λ k d lt. rw (get_or_default_zero xs k d lt) (fails k lt)),
+      position_or_len_is test xs (length xs) 0 (omega arith) fails
+          (λ lt. absurd (omega arith)),
+    )
 first_byte_is test xs (Some k) found =
     let fails : (j : ℕ) → j < k → test (get_or xs j 0) ≡ false =
     λ j lt. elim (cases_Bool (test (get_or xs j 0))) [ inl passes ↦ absurd (found.0.before j (omega arith) lt passes) | inr fails ↦ fails ] in

@@ -1,2 +1,3 @@
-pub mod Fronts
 pub mod Dots
+pub mod Fronts
+pub mod Refusals

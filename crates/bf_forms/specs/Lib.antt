@@ -1,2 +1,4 @@
 pub mod Answers
 pub mod Changes
+pub mod DataLines
+pub mod FirstLines

@@ -53,11 +53,3 @@ pub fn text_after<'a>(line: u64, word: &[u8], text: &'a [u8]) -> Result<&'a [u8]
 {
     behind_word(word, text).ok_or(StreamFault::Syntax { line })
 }
-
-/// The ref or name in a line that begins with this word, as `head_of` has looked at it; empty where
-/// the line is shorter.
-pub fn name_after<'a>(word: &[u8], text: &'a [u8]) -> &'a [u8]
-    ensures { result.now ≡ forms.name_after word.now text.now }
-{
-    text.get(word.len() + 1..).unwrap_or_default()
-}

@@ -3,9 +3,10 @@ ghost use Rattle.std.specs.Prelude.{◌≡◌};
 ghost use Rattle.std.specs.List.{list_all};
 ghost use Rattle.bf_grammar.specs.Forms as forms;
 ghost use Rattle.bf_forms.specs.Answers.{IsOfText};
+ghost use Rattle.bf_forms.specs.FirstLines.{IsFirstLine, IsNameIn, IsFeature};
 
-use crate::cuts::{has_word, is_text, text_after};
-use bf_grammar::{Head, StreamFault};
+use crate::cuts::{behind_word, has_word, is_text, text_after};
+use bf_grammar::StreamFault;
 
 /// Whether a text may be a ref or the name of a tag: one or more bytes above 32 and other than 127,
 /// with none of `~ ^ : ? * [ \`, and without `..`.
@@ -41,30 +42,51 @@ fn has_two_dots(text: &[u8]) -> bool
     false
 }
 
-/// What the first line of a command begins. A line of a command of git that is not taken here is
+/// The first line of a command as it is read, with the ref or the name in it.
+#[derive(Clone, Copy, Debug, PartialEq, Eq)]
+pub enum FirstLine<'a> {
+    /// `done`: the stream ends here.
+    Done,
+    /// `blob`: a content.
+    Blob,
+    /// `commit <ref>`: a commit on this branch.
+    Commit(&'a [u8]),
+    /// `tag <name>`: an annotated tag of this name.
+    Tag(&'a [u8]),
+    /// `reset <ref>`: sets or removes this ref.
+    Reset(&'a [u8]),
+    /// `progress`: dropped.
+    Progress,
+    /// `option`, or `feature date-format=raw`: dropped.
+    Feature,
+    /// `feature done`: the stream must end with `done`.
+    FeatureDone,
+}
+
+/// Reads the first line of a command. A line of a command of git that is not taken here is
 /// `Unsupported`, and so is a feature other than `done` and `date-format=raw`. Any other line that is
 /// not in its form is `Syntax`.
 #[tactic(auto, unfolding(bf_grammar::specs::Forms::head_of))]
-pub fn head_of(line: u64, text: &[u8]) -> Result<Head, StreamFault>
-    ensures value { result ≡ forms.head_of line text.now }
+pub fn first_line<'a>(line: u64, text: &'a [u8]) -> Result<FirstLine<'a>, StreamFault>
+    ensures value { IsFirstLine line text.now result }
     ensures own { IsOfText result }
 {
     if is_text(b"done", text) {
-        Ok(Head::Done)
+        Ok(FirstLine::Done)
     } else if is_text(b"blob", text) {
-        Ok(Head::Blob)
+        Ok(FirstLine::Blob)
     } else if has_word(b"commit", text) {
-        named_head(line, b"commit", Head::Commit, text)
+        Ok(FirstLine::Commit(name_in(line, b"commit", text)?))
     } else if has_word(b"tag", text) {
-        named_head(line, b"tag", Head::Tag, text)
+        Ok(FirstLine::Tag(name_in(line, b"tag", text)?))
     } else if has_word(b"reset", text) {
-        named_head(line, b"reset", Head::Reset, text)
+        Ok(FirstLine::Reset(name_in(line, b"reset", text)?))
     } else if has_word(b"progress", text) {
         text_after(line, b"progress", text)?;
-        Ok(Head::Progress)
+        Ok(FirstLine::Progress)
     } else if has_word(b"option", text) {
         text_after(line, b"option", text)?;
-        Ok(Head::Feature)
+        Ok(FirstLine::Feature)
     } else if has_word(b"feature", text) {
         feature_of(line, text_after(line, b"feature", text)?)
     } else if is_unsupported(text) {
@@ -74,26 +96,25 @@ pub fn head_of(line: u64, text: &[u8]) -> Result<Head, StreamFault>
     }
 }
 
-// A word and a ref.
-fn named_head(line: u64, word: &[u8], head: Head, text: &[u8]) -> Result<Head, StreamFault>
-    ensures value { result ≡ forms.named_head line word.now head text.now }
+// The ref or name behind the word of a line.
+fn name_in<'a>(line: u64, word: &[u8], text: &'a [u8]) -> Result<&'a [u8], StreamFault>
+    ensures value { IsNameIn line word.now text.now result }
     ensures own { IsOfText result }
 {
-    if is_ref(text_after(line, word, text)?) {
-        Ok(head)
-    } else {
-        Err(StreamFault::Syntax { line })
+    match behind_word(word, text) {
+        Some(name) if is_ref(name) => Ok(name),
+        _ => Err(StreamFault::Syntax { line }),
     }
 }
 
-fn feature_of(line: u64, feature: &[u8]) -> Result<Head, StreamFault>
-    ensures value { result ≡ forms.feature_of line feature.now }
+fn feature_of<'a>(line: u64, feature: &[u8]) -> Result<FirstLine<'a>, StreamFault>
+    ensures value { IsFeature line feature.now result }
     ensures own { IsOfText result }
 {
     if is_text(b"done", feature) {
-        Ok(Head::FeatureDone)
+        Ok(FirstLine::FeatureDone)
     } else if is_text(b"date-format=raw", feature) {
-        Ok(Head::Feature)
+        Ok(FirstLine::Feature)
     } else {
         Err(StreamFault::Unsupported { line })
     }

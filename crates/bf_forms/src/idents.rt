@@ -1,9 +1,9 @@
 //! Who made a commit, and when.
-ghost use Rattle.std.specs.Prelude.{◌≡◌, ◌==◌, ◌||◌, drop};
+ghost use Rattle.std.specs.Prelude.{◌≡◌, ◌==◌, ◌||◌};
 ghost use Rattle.std.specs.List.{list_any, list_all};
 ghost use Rattle.std.specs.Char.{is_ascii_digit};
 ghost use Rattle.bf_grammar.specs.Forms as forms;
-ghost use Rattle.bf_forms.specs.Answers.{IsPart, IsPartWhere, IsOfText};
+ghost use Rattle.bf_forms.specs.Answers.{IsPart, IsTimeIn, IsOfText};
 
 use crate::cuts::{cut, text_after};
 use bf_grammar::StreamFault;
@@ -35,7 +35,7 @@ pub fn ident_of<'a>(line: u64, word: &[u8], text: &'a [u8]) -> Result<&'a [u8], 
 
 // What stands in the place of the time, where the name and the email are in their form.
 fn time_in(ident: &[u8]) -> Option<&[u8]>
-    ensures { IsPartWhere (forms.has_name_and_email ident.now) (drop 1 (forms.behind_email ident.now)) result }
+    ensures { IsTimeIn ident.now result }
 {
     let (name, behind_less) = cut(b'<', ident);
     let (email, behind_greater) = cut(b'>', behind_less?);

@@ -8,11 +8,11 @@ mod heads;
 mod idents;
 mod parts;
 
-pub use changes::{delete_all_of, modified_path, modify_form};
-pub use cuts::{name_after, text_after};
-pub use heads::{head_of, is_ref};
+pub use changes::{ModifyLine, delete_all_of, modify_line};
+pub use cuts::text_after;
+pub use heads::{FirstLine, first_line, is_ref};
 pub use idents::ident_of;
-pub use parts::{colon_number, data_form, delimiter_in, encoding_of, mark_of};
+pub use parts::{DataLine, colon_number, data_line, encoding_of, mark_of};
 
 #[cfg(test)]
 mod tests;

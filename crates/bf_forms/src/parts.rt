@@ -1,11 +1,11 @@
 //! The lines `mark`, `encoding` and `data`.
 ghost use Rattle.std.specs.Prelude.{◌≡◌};
 ghost use Rattle.bf_grammar.specs.Forms as forms;
-ghost use Rattle.bf_io.specs.Decimal.{decimal_value};
 ghost use Rattle.bf_forms.specs.Answers.{IsPart, IsOfText};
+ghost use Rattle.bf_forms.specs.DataLines.{IsDataLine, IsCount};
 
 use crate::cuts::text_after;
-use bf_grammar::{DataForm, Limit, Limits, StreamFault};
+use bf_grammar::{Limit, Limits, StreamFault};
 use bf_io::decimal;
 
 // The bytes of a line before its delimiter: `data <<`.
@@ -46,40 +46,48 @@ pub fn encoding_of<'a>(line: u64, text: &'a [u8]) -> Result<&'a [u8], StreamFaul
     }
 }
 
-/// How a line `data <count>` or `data <<DELIM` announces its bytes. A count above the limit on a part
-/// is `TooLarge` with `Limit::Data`. Any other line, and an empty DELIM, is `Syntax`.
+/// A line `data` as it is read: how it announces the bytes that follow it.
+#[derive(Clone, Copy, Debug, PartialEq, Eq)]
+pub enum DataLine<'a> {
+    /// `data <count>`: so many bytes.
+    Counted(u64),
+    /// `data <<DELIM`: lines up to one that is DELIM alone.
+    Delimited(&'a [u8]),
+}
+
+/// Reads a line `data <count>` or `data <<DELIM`. A count above the limit on a part is `TooLarge` with
+/// `Limit::Data`. Any other line, and an empty DELIM, is `Syntax`.
 #[tactic(auto, unfolding(bf_grammar::specs::Forms::data_form))]
-pub fn data_form(limits: Limits, line: u64, text: &[u8]) -> Result<DataForm, StreamFault>
-    ensures value { result ≡ forms.data_form limits line text.now }
+pub fn data_line<'a>(limits: Limits, line: u64, text: &'a [u8]) -> Result<DataLine<'a>, StreamFault>
+    ensures value { IsDataLine limits line text.now result }
     ensures own { IsOfText result }
 {
     let body = text_after(line, b"data", text)?;
     if body.starts_with(b"<<") {
         if body.len() > 2 {
-            Ok(DataForm::Delimited)
+            Ok(DataLine::Delimited(delimiter_in(text)))
         } else {
             Err(StreamFault::Syntax { line })
         }
     } else {
-        counted(limits, line, body)
+        Ok(DataLine::Counted(counted(limits, line, body)?))
     }
 }
 
 // A count of bytes within the limit on a part.
-fn counted(limits: Limits, line: u64, digits: &[u8]) -> Result<DataForm, StreamFault>
-    ensures value { result ≡ forms.counted limits line (decimal_value digits.now) }
+fn counted(limits: Limits, line: u64, digits: &[u8]) -> Result<u64, StreamFault>
+    ensures value { IsCount limits line digits.now result }
     ensures own { IsOfText result }
 {
     match decimal(digits) {
         None => Err(StreamFault::Syntax { line }),
-        Some(count) if count <= limits.part => Ok(DataForm::Counted(count)),
+        Some(count) if count <= limits.part => Ok(count),
         Some(_) => Err(StreamFault::TooLarge { what: Limit::Data }),
     }
 }
 
-/// The delimiter in a line `data <<DELIM`, as `data_form` has looked at it; empty where the line is
-/// shorter.
-pub fn delimiter_in(text: &[u8]) -> &[u8]
+// What stands behind `data <<`.
+fn delimiter_in(text: &[u8]) -> &[u8]
     ensures { result.now ≡ forms.delimiter_in text.now }
 {
     text.get(BEFORE_DELIMITER..).unwrap_or_default()

@@ -1,9 +1,10 @@
 //! Lines with their answers, after git-fast-import(1) and the limits of the program.
 use crate::{
-    data_form, delete_all_of, delimiter_in, encoding_of, head_of, ident_of, is_ref, mark_of,
-    modified_path, modify_form, name_after, text_after,
+    DataLine, FirstLine, ModifyLine, data_line, delete_all_of, encoding_of, first_line, ident_of,
+    is_ref, mark_of, modify_line, text_after,
 };
-use bf_grammar::{ContentForm, DataForm, Head, Limit, Limits, Mode, Oid, StreamFault};
+use bf_grammar::{ContentForm, Limit, Limits, StreamFault};
+use bf_oid::{Mode, Oid};
 
 const LINE: u64 = 7;
 
@@ -15,7 +16,7 @@ const TOO_LARGE: Option<StreamFault> = Some(StreamFault::TooLarge { what: Limit:
 
 #[derive(Clone, Copy)]
 enum Part {
-    Head,
+    First,
     Mark,
     Committer,
     Encoding,
@@ -27,12 +28,12 @@ enum Part {
 
 fn refusal_of(part: Part, text: &[u8]) -> Option<StreamFault> {
     match part {
-        Part::Head => head_of(LINE, text).err(),
+        Part::First => first_line(LINE, text).err(),
         Part::Mark => mark_of(LINE, text).err(),
         Part::Committer => ident_of(LINE, b"committer", text).err(),
         Part::Encoding => encoding_of(LINE, text).err(),
-        Part::Data => data_form(Limits::standard(), LINE, text).err(),
-        Part::Modify => modify_form(LINE, text).err(),
+        Part::Data => data_line(Limits::standard(), LINE, text).err(),
+        Part::Modify => modify_line(LINE, text).err(),
         Part::Delete => text_after(LINE, b"D", text).err(),
         Part::DeleteAll => delete_all_of(LINE, text).err(),
     }
@@ -40,21 +41,21 @@ fn refusal_of(part: Part, text: &[u8]) -> Option<StreamFault> {
 
 // Lines, each with its refusal.
 const LINES: [(Part, &str, Option<StreamFault>); 49] = [
-    (Part::Head, "done", None),
-    (Part::Head, "done x", SYNTAX),
-    (Part::Head, "blob x", SYNTAX),
-    (Part::Head, "commit", SYNTAX),
-    (Part::Head, "commit refs/heads/a b", SYNTAX),
-    (Part::Head, "commit refs/heads/a..b", SYNTAX),
-    (Part::Head, "progress", SYNTAX),
-    (Part::Head, "progress ", None),
-    (Part::Head, "feature", SYNTAX),
-    (Part::Head, "feature notes", UNSUPPORTED),
-    (Part::Head, "feature ", UNSUPPORTED),
-    (Part::Head, "C a b", UNSUPPORTED),
-    (Part::Head, "checkpoint", UNSUPPORTED),
-    (Part::Head, "checkpoints", SYNTAX),
-    (Part::Head, "from :1", SYNTAX),
+    (Part::First, "done", None),
+    (Part::First, "done x", SYNTAX),
+    (Part::First, "blob x", SYNTAX),
+    (Part::First, "commit", SYNTAX),
+    (Part::First, "commit refs/heads/a b", SYNTAX),
+    (Part::First, "commit refs/heads/a..b", SYNTAX),
+    (Part::First, "progress", SYNTAX),
+    (Part::First, "progress ", None),
+    (Part::First, "feature", SYNTAX),
+    (Part::First, "feature notes", UNSUPPORTED),
+    (Part::First, "feature ", UNSUPPORTED),
+    (Part::First, "C a b", UNSUPPORTED),
+    (Part::First, "checkpoint", UNSUPPORTED),
+    (Part::First, "checkpoints", SYNTAX),
+    (Part::First, "from :1", SYNTAX),
     (Part::Mark, "mark :1", None),
     (Part::Mark, "mark :0", SYNTAX),
     (Part::Mark, "mark 1", SYNTAX),
@@ -108,25 +109,29 @@ fn refuses_what_is_in_no_form(rt: HostRuntime) {
 
 #[test]
 fn reads_the_values_in_lines(rt: HostRuntime) {
-    for (text, head) in [
-        ("blob", Head::Blob),
-        ("commit refs/heads/main", Head::Commit),
-        ("tag v1.0", Head::Tag),
-        ("reset refs/heads/x", Head::Reset),
-        ("option git quiet", Head::Feature),
-        ("feature done", Head::FeatureDone),
-        ("feature date-format=raw", Head::Feature),
+    for (text, read) in [
+        ("blob", FirstLine::Blob),
+        (
+            "commit refs/heads/main",
+            FirstLine::Commit(b"refs/heads/main"),
+        ),
+        ("tag v1.0", FirstLine::Tag(b"v1.0")),
+        ("reset refs/heads/x", FirstLine::Reset(b"refs/heads/x")),
+        ("option git quiet", FirstLine::Feature),
+        ("feature done", FirstLine::FeatureDone),
+        ("feature date-format=raw", FirstLine::Feature),
     ] {
-        assert_eq!(rt; head_of(LINE, text.as_bytes()), Ok(head), "at {text}");
+        assert_eq!(rt; first_line(LINE, text.as_bytes()), Ok(read), "at {text}");
     }
     assert_eq!(rt; mark_of(LINE, b"mark :18446744073709551615"), Ok(u64::MAX));
     assert_eq!(rt;
-        data_form(Limits::standard(), LINE, b"data 0010"),
-        Ok(DataForm::Counted(10))
+        data_line(Limits::standard(), LINE, b"data 0010"),
+        Ok(DataLine::Counted(10))
     );
-    assert_eq!(rt; delimiter_in(b"data <<END"), b"END".as_slice());
-    assert_eq!(rt; name_after(b"tag", b"tag v1.0"), b"v1.0".as_slice());
-    assert_eq!(rt; modified_path(b"M 644 inline a b"), b"a b".as_slice());
+    assert_eq!(rt;
+        data_line(Limits::standard(), LINE, b"data <<END"),
+        Ok(DataLine::Delimited(b"END"))
+    );
     assert!(rt;
         is_ref(b"refs/heads/main") && !is_ref(b"a.b..c") && !is_ref(b"a\\b") && !is_ref(b"")
     );
@@ -139,17 +144,31 @@ fn reads_modes_and_contents(rt: HostRuntime) {
         0x56, 0xb2, 0x9d, 0x9c, 0x13, 0x0e, 0x2e, 0xc4, 0xb5, 0x06, 0xa4, 0x8d, 0x4f, 0xe5, 0xa1,
         0x8d, 0x92, 0xd8, 0xd1, 0xe3,
     ]);
-    match modify_form(LINE, digits) {
-        Ok((mode, ContentForm::Name(read))) => {
+    match modify_line(LINE, digits) {
+        Ok(
+            ModifyLine {
+                mode,
+                content: ContentForm::Name(read),
+                path,
+            },
+        ) => {
             assert_eq!(rt; mode, Mode::Module);
             assert_eq!(rt; read, name);
+            assert_eq!(rt; path, b"a".as_slice());
         }
         _ => assert!(rt; false, "no name"),
     }
-    match modify_form(LINE, b"M 755 :9 a") {
-        Ok((mode, ContentForm::Mark(mark))) => {
+    match modify_line(LINE, b"M 755 :9 a b") {
+        Ok(
+            ModifyLine {
+                mode,
+                content: ContentForm::Mark(mark),
+                path,
+            },
+        ) => {
             assert_eq!(rt; mode, Mode::Exec);
             assert_eq!(rt; mark, 9);
+            assert_eq!(rt; path, b"a b".as_slice());
         }
         _ => assert!(rt; false, "no mark"),
     }

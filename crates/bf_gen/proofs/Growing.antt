@@ -1,5 +1,6 @@
 -- A stream grows by its next commits.
-use Rattle.std.proofs.Common.{◌≡◌, ℕ, zero, suc, ◌+◌, ◌-◌, ◌≤◌, List, [], ◌∷◌, ◌++◌, Option, Result, Ok, Err, OnErr, refl, sym, ap, ◌∙◌, arith, add-zero, add-one, append_assoc, append-nil}
+use Rattle.std.proofs.Common.{◌≡◌, ℕ, zero, suc, ◌+◌, ◌-◌, ◌≤◌, List, ◌++◌, Option, Result, Ok, Err, OnErr, refl, sym, ap, ◌∙◌, arith, add-zero, add-one}
+use Rattle.std.proofs.Common.{append_assoc, append-nil}
 use Rattle.bf_gen.specs.Streams.{next_state, state_of, commit_text, stream}
 use Rattle.bf_gen.specs.Steps.{states_on, commits_from}
 use Rattle.bf_io.specs.Told.{Appends, AppendsFront}

@@ -3,6 +3,7 @@
 use Rattle.std.specs.Prelude.{ℕ, zero, suc, ◌+◌, ◌-◌, ◌*◌, ◌/◌, ◌%◌, ◌^◌, nat_le, ◌==◌, ◌&&◌, not, if◌then◌else◌, List, [], ◌∷◌, ◌++◌, length, codes, Option, Some, None}
 use Rattle.std.specs.List.{flat_map}
 use Rattle.std.specs.Fmt.{decimal}
+use Rattle.bf_io.specs.Told.{Appends, AppendsFront}
 
 -- the state of each commit
 unfoldable pub next_state : ℕ → ℕ
@@ -30,6 +31,10 @@ second_parent state commit =
 
 abbrev pub line_of : List ℕ → List ℕ
 line_of text = text ++ codes "\n"
+
+-- a line with a number in it
+abbrev pub numbered_line : List ℕ → ℕ → List ℕ → List ℕ
+numbered_line before number after = line_of (before ++ decimal number ++ after)
 
 abbrev pub lines : List (List ℕ) → List ℕ
 lines texts = flat_map line_of texts
@@ -68,3 +73,11 @@ commit_text state commit = start_text commit ++ committer_text commit ++ data_te
 unfoldable pub stream : ℕ → ℕ → List ℕ
 stream number zero = []
 stream number (suc commit) = stream number commit ++ commit_text (state_of number commit) commit
+
+-- a sink gained the stream
+abbrev pub GainsStream : ℕ → ℕ → Option (List ℕ) → Option (List ℕ) → Type 0
+GainsStream number commits before after = Appends before after (stream number commits)
+
+-- a sink gained some front of the stream
+abbrev pub GainsFront : ℕ → ℕ → Option (List ℕ) → Option (List ℕ) → Type 0
+GainsFront number commits before after = AppendsFront before after (stream number commits)

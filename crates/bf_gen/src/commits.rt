@@ -2,6 +2,7 @@
 ghost use Rattle.std.specs.Prelude.{◌≡◌, ◌≤◌, ◌+◌, ◌-◌, ◌++◌, length, codes, OnOk, IfOk};
 ghost use Rattle.std.specs.Fmt.{decimal};
 ghost use Rattle.bf_gen.specs.Streams as streams;
+ghost use Rattle.bf_gen.specs.Streams.{numbered_line};
 ghost use Rattle.bf_gen.specs.Steps as steps;
 
 use crate::numbers::{first_parent, next_state, second_parent};
@@ -28,7 +29,7 @@ fn put_line(text: &mut Bytes, before: &[u8], number: u64) -> Result<(), AllocErr
 
 // Adds a line with a number in it.
 fn put_between(text: &mut Bytes, before: &[u8], number: u64, after: &[u8]) -> Result<(), AllocError>
-    ensures { OnOk result (text.new ≡ text.old ++ streams.line_of (before.now ++ decimal number ++ after.now)) }
+    ensures { OnOk result (text.new ≡ text.old ++ numbered_line before.now number after.now) }
 {
     text.append(before)?;
     put_decimal(text, number)?;
@@ -110,7 +111,7 @@ pub(crate) fn put_commits(
     end: u32,
 ) -> Result<u32, AllocError>
     requires { first ≤ end }
-    ensures text { OnOk result (text.new ≡ text.old ++ steps.commits_from state first (end - first)) }
+    ensures text { OnOk result (text.new ≡ text.old ++ steps.commits_between state first end) }
     ensures state { IfOk result (λ after. after ≡ steps.states_on state (end - first)) }
 {
     for commit in first..end {

@@ -1,8 +1,7 @@
 //! A whole stream.
 ghost use Rattle.std.specs.Prelude.{◌≡◌, OnOk, OnErr};
 ghost use Rattle.bf_io.specs.Causes.{FailsOnlyAt};
-ghost use Rattle.bf_io.specs.Told.{Appends, AppendsFront};
-ghost use Rattle.bf_gen.specs.Streams.{stream};
+ghost use Rattle.bf_gen.specs.Streams.{GainsFront, GainsStream};
 
 use crate::commits::put_commits;
 use crate::numbers::first_state;
@@ -22,8 +21,8 @@ pub fn generate<K: Sink>(
     commits: u32,
     sink: &mut K,
 ) -> Result<(), SinkFault>
-    ensures whole { OnOk result (Appends (K.held sink.old) (K.held sink.new) (stream number commits)) }
-    ensures front { OnErr result (AppendsFront (K.held sink.old) (K.held sink.new) (stream number commits)) }
+    ensures whole { OnOk result (GainsStream number commits (K.held sink.old) (K.held sink.new)) }
+    ensures front { OnErr result (GainsFront number commits (K.held sink.old) (K.held sink.new)) }
     ensures cause { FailsOnlyAt SinkFault.Failed (K.faults sink.old) (K.faults sink.new) result }
 {
     let mut text = Bytes::new(alloc);

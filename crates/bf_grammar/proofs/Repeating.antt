@@ -14,13 +14,16 @@ TakesSome {A} {X} step = (a b : A) (p q : Place) → step a p ≡ Ok (inl b, q) 
 
 module _ {A X : Type 0} (step : A → Reading (A ⊎ X)) (takes : TakesSome step) where
   -- turns to spare don't matter
-  pub repeated_enough : (n m : ℕ) (a : A) (p : Place) → length p.rest < n → length p.rest < m → repeated faults.Read step n a p ≡ repeated faults.Read step m a p
+  pub repeated_enough : (n m : ℕ) (a : A) (p : Place) → length p.rest < n → length p.rest < m
+      → repeated faults.Read step n a p ≡ repeated faults.Read step m a p
   repeated_enough zero m a p few many = absurd (omega arith)
   repeated_enough (suc n) zero a p few many = absurd (omega arith)
   repeated_enough (suc n) (suc m) a p few many = go (λ b q. repeated_enough n m b q) (step a p) refl
     where
-      go : ((b : A) (q : Place) → length q.rest < n → length q.rest < m → repeated faults.Read step n b q ≡ repeated faults.Read step m b q) → (r : Result ((A ⊎ X) × Place) StreamFault) → step a p ≡ r → goes_on (repeated faults.Read step n) r ≡ goes_on (repeated faults.Read step m) r
-      go again (Ok (inl b, q)) is = again b q (let h : length q.rest < length p.rest = takes a b p q is in omega arith) (let h : length q.rest < length p.rest = takes a b p q is in omega arith)
+      go : ((b : A) (q : Place) → length q.rest < n → length q.rest < m → repeated faults.Read step n b q ≡ repeated faults.Read step m b q)
+          → (r : Result ((A ⊎ X) × Place) StreamFault) → step a p ≡ r → goes_on (repeated faults.Read step n) r ≡ goes_on (repeated faults.Read step m) r
+      go again (Ok (inl b, q)) is = again b q (let h : length q.rest < length p.rest = takes a b p q is in omega arith)
+          (let h : length q.rest < length p.rest = takes a b p q is in omega arith)
       go again (Ok (inr x, q)) is = refl
       go again (Err fault) is = refl
 
@@ -46,7 +49,8 @@ abbrev pub pair_or : {X : Type 0} → X × Place → Result (X × Place) StreamF
 pair_or pair (Ok other) = other
 pair_or pair (Err fault) = pair
 
-pub pair_is : {X : Type 0} {x y : X} {p q : Place} → (let gave : Result (X × Place) StreamFault = Ok (x, p) in gave) ≡ Ok (y, q) → (let pair : X × Place = (x, p) in pair) ≡ (y, q)
+pub pair_is : {X : Type 0} {x y : X} {p q : Place} → (let gave : Result (X × Place) StreamFault = Ok (x, p) in gave) ≡ Ok (y, q)
+    → (let pair : X × Place = (x, p) in pair) ≡ (y, q)
 pair_is {X} {x} {y} {p} {q} is = ap (pair_or (x, p)) is
 
 pub same_place : {X : Type 0} (x y : X) (p q : Place) → (let gave : Result (X × Place) StreamFault = Ok (x, p) in gave) ≡ Ok (y, q) → p ≡ q
@@ -67,7 +71,8 @@ pub never_back-then : {X Y : Type 0} (read : Reading X) (next : X → Reading Y)
 never_back-then read next first second y p q is = go (read p) refl is
   where
     go : (r : Result (_ × Place) StreamFault) → read p ≡ r → and_then r next ≡ Ok (y, q) → length q.rest ≤ length p.rest
-    go (Ok (x, m)) at goes = let a : length m.rest ≤ length p.rest = first x p m at in let b : length q.rest ≤ length m.rest = second x y m q goes in omega arith
+    go (Ok (x, m)) at goes = let a : length m.rest ≤ length p.rest = first x p m at in let b : length q.rest ≤ length m.rest = second x y m q goes in omega
+        arith
     go (Err fault) at goes = absurd (cc)
 
 pub never_back-if : {X : Type 0} (test : Bool) (read other : Reading X) → NeverBack read → NeverBack other → NeverBack (cond test read other)
@@ -84,22 +89,28 @@ module _ {A X : Type 0} (step : A → Reading (A ⊎ X)) where
   never_back-repeated each zero a x p q is = absurd (cc)
   never_back-repeated each (suc n) a x p q is = go (never_back-repeated each n) (step a p) refl is
     where
-      go : ((b : A) → NeverBack (repeated faults.Read step n b)) → (r : Result ((A ⊎ X) × Place) StreamFault) → step a p ≡ r → goes_on (repeated faults.Read step n) r ≡ Ok (x, q) → length q.rest ≤ length p.rest
-      go again (Ok (inl b, m)) at goes = let h : length m.rest ≤ length p.rest = each a (inl b) p m at in let k : length q.rest ≤ length m.rest = again b x m q goes in omega arith
-      go again (Ok (inr y, m)) at goes = let h : length m.rest ≤ length p.rest = each a (inr y) p m at in let e = same_place y x m q goes in omega (arith, ap (λ (r : Place). length r.rest) e)
+      go : ((b : A) → NeverBack (repeated faults.Read step n b)) → (r : Result ((A ⊎ X) × Place) StreamFault) → step a p ≡ r
+          → goes_on (repeated faults.Read step n) r ≡ Ok (x, q) → length q.rest ≤ length p.rest
+      go again (Ok (inl b, m)) at goes = let h : length m.rest ≤ length p.rest = each a (inl b) p m at in let k : length q.rest ≤ length m.rest = again b x m q
+          goes in omega arith
+      go again (Ok (inr y, m)) at goes = let h : length m.rest ≤ length p.rest = each a (inr y) p m at in let e = same_place y x m q goes in omega
+          (arith, ap (λ (r : Place). length r.rest) e)
       go again (Err fault) at goes = absurd (cc)
 
   pub never_back-repeat : ((a : A) → NeverBack (step a)) → (a : A) → NeverBack (repeat step a)
   never_back-repeat each a x p q is = never_back-repeated each (suc (length p.rest)) a x p q is
 
-  pub repeated_ends : (P : X → Place → Type 0) → ((a : A) (x : X) (p q : Place) → step a p ≡ Ok (inr x, q) → P x q) → (n : ℕ) (a : A) (x : X) (p q : Place) → repeated faults.Read step n a p ≡ Ok (x, q) → P x q
+  pub repeated_ends : (P : X → Place → Type 0) → ((a : A) (x : X) (p q : Place) → step a p ≡ Ok (inr x, q) → P x q) → (n : ℕ) (a : A) (x : X) (p q : Place)
+      → repeated faults.Read step n a p ≡ Ok (x, q) → P x q
   repeated_ends P ends zero a x p q is = absurd (cc)
   repeated_ends P ends (suc n) a x p q is = go (repeated_ends P ends n) (step a p) refl is
     where
-      go : ((b : A) (y : X) (m r : Place) → repeated faults.Read step n b m ≡ Ok (y, r) → P y r) → (r : Result ((A ⊎ X) × Place) StreamFault) → step a p ≡ r → goes_on (repeated faults.Read step n) r ≡ Ok (x, q) → P x q
+      go : ((b : A) (y : X) (m r : Place) → repeated faults.Read step n b m ≡ Ok (y, r) → P y r) → (r : Result ((A ⊎ X) × Place) StreamFault) → step a p ≡ r
+          → goes_on (repeated faults.Read step n) r ≡ Ok (x, q) → P x q
       go again (Ok (inl b, m)) at goes = again b x m q goes
       go again (Ok (inr y, m)) at goes = ends a x p q (at ∙ ap (λ (v : X × Place). Ok (inr v.0, v.1)) (pair_is goes))
       go again (Err fault) at goes = absurd (cc)
 
-  pub repeat_ends : (P : X → Place → Type 0) → ((a : A) (x : X) (p q : Place) → step a p ≡ Ok (inr x, q) → P x q) → (a : A) (x : X) (p q : Place) → repeat step a p ≡ Ok (x, q) → P x q
+  pub repeat_ends : (P : X → Place → Type 0) → ((a : A) (x : X) (p q : Place) → step a p ≡ Ok (inr x, q) → P x q) → (a : A) (x : X) (p q : Place)
+      → repeat step a p ≡ Ok (x, q) → P x q
   repeat_ends P ends a x p q is = repeated_ends P ends (suc (length p.rest)) a x p q is

@@ -1,23 +1,27 @@
 -- Worked streams, by computation: each is these commands, and ends so.
-use Rattle.std.specs.Prelude.{[], ◌∷◌, codes, Some, None, refl}
+use Rattle.std.specs.Prelude.{ℕ, List, [], ◌∷◌, ◌++◌, codes, Some, None, refl}
 use Rattle.bf_grammar.specs.declared.command.Change.TheVariants.{Modify, Delete, DeleteAll}
 use Rattle.bf_grammar.specs.declared.command.Command.TheVariants.{Blob, Commit, Tag, Reset, Progress, Feature}
 use Rattle.bf_grammar.specs.declared.command.DataRef.TheVariants.{Inline, Mark, Name}
 use Rattle.bf_grammar.specs.declared.fault.Limit.TheVariants.{Line, Data, Stream}
 use Rattle.bf_grammar.specs.declared.fault.Limits.{Limits}
 use Rattle.bf_grammar.specs.declared.fault.StreamFault.TheVariants.{Syntax, Unsupported, Truncated, NoDone, TooLarge}
-use Rattle.bf_grammar.specs.declared.object.Mode.TheVariants.{Plain, Exec}
+use Rattle.bf_oid.specs.declared.object.Mode.TheVariants.{Plain, Exec}
 use Rattle.bf_grammar.specs.Limits.{standard_limits}
 use Rattle.bf_grammar.specs.Lines.{next_front, at_word, must_be_at, at_command, skip_end_of_line, bytes_at, delimited_at}
 use Rattle.bf_grammar.specs.Forms.{mark_of, ident_of, encoding_of, data_form, modify_form, head_of}
-use Rattle.bf_grammar.specs.Commands.{mark_at, original_oid_at, author_at, committer_at, encoding_at, no_signature_at, target_at, from_at, data_at, announced_at, merges_at, modify_at, delete_at, delete_all_at, change_at, changes_at, blob_at, commit_at, tag_at, reset_at, headed_at, command_at}
+use Rattle.bf_grammar.specs.Commands.{mark_at, original_oid_at, author_at, committer_at, encoding_at, no_signature_at, target_at, from_at, data_at}
+use Rattle.bf_grammar.specs.Commands.{announced_at, merges_at, modify_at, delete_at, delete_all_at, change_at, changes_at, blob_at, header_at, commit_at}
+use Rattle.bf_grammar.specs.Commands.{tag_at, reset_at, headed_at, command_at}
 use Rattle.bf_grammar.specs.Stream.{IsStream}
 use Rattle.bf_io.specs.Decimal.{decimal_value}
 use Rattle.hex.specs.Hex.{decode_pairs}
 
 -- all that the rows compute with
 grammar : Unit {0}
-unfolding command_at headed_at at_command next_front at_word must_be_at head_of blob_at commit_at tag_at reset_at mark_at mark_of original_oid_at author_at committer_at encoding_at encoding_of no_signature_at ident_of data_at announced_at data_form decimal_value bytes_at delimited_at skip_end_of_line target_at from_at merges_at changes_at change_at modify_at modify_form delete_at delete_all_at decode_pairs
+unfolding command_at headed_at at_command next_front at_word must_be_at head_of blob_at header_at commit_at tag_at reset_at mark_at mark_of original_oid_at
+    author_at committer_at encoding_at encoding_of no_signature_at ident_of data_at announced_at data_form decimal_value bytes_at delimited_at skip_end_of_line
+    target_at from_at merges_at changes_at change_at modify_at modify_form delete_at delete_all_at decode_pairs
 grammar = tt
 
 -- a blob, a comment and an empty line, and the end by `done`
@@ -35,21 +39,50 @@ unfolding grammar
 cut = refl
 
 -- a commit with a file in it, and a feature that wants `done`
-filed : IsStream (codes "feature done\ncommit refs/heads/x\ncommitter <> 1 -1400\ndata <<E\nm\nE\nM 644 inline a\ndata 1\nzD") standard_limits (Feature 1 ∷ []) (Some (Syntax 9))
+filed : IsStream (codes "feature done\ncommit refs/heads/x\ncommitter <> 1 -1400\ndata <<E\nm\nE\nM 644 inline a\ndata 1\nzD") standard_limits (Feature 1 ∷ [])
+    (Some (Syntax 9))
 unfolding grammar
 filed = (_, refl, refl)
 
-commit : IsStream (codes "commit refs/heads/x\ncommitter <> 1 -1400\ndata <<E\nm\nE\nM 644 inline a\ndata 1\nz") standard_limits (Commit 1 (codes "refs/heads/x") None None (codes "<> 1 -1400") None (codes "m\n") None [] (Modify 6 Plain (Inline (codes "z")) (codes "a") ∷ []) ∷ []) None
+commit : IsStream (codes "commit refs/heads/x\ncommitter <> 1 -1400\ndata <<E\nm\nE\nM 644 inline a\ndata 1\nz") standard_limits (Commit (record {
+  line = 1;
+  branch = codes "refs/heads/x";
+  mark = None;
+  header = record { author = None; committer = codes "<> 1 -1400"; encoding = None; message = codes "m\n" };
+  from = None;
+  merges = [];
+  changes = Modify 6 Plain (Inline (codes "z")) (codes "a") ∷ [];
+}) ∷ []) None
 unfolding grammar
 commit = (_, refl, (_, refl))
 
 -- a commit of an export without contents, with all its parts
-exported : IsStream (codes "commit refs/heads/main\nmark :4\nauthor Bo <b@e> 1700000100 -0530\ncommitter Ann Lee <a@e> 1700000400 +0100\ndata 6\nmerge\nfrom :3\nmerge :2\nmerge refs/heads/x\nM 100755 e69de29bb2d1d6434b8b29ae775ad8c2e48c5391 b c\nM 100644 :9 d\nD hello.txt\ndeleteall\n\n") standard_limits
-    (Commit 1 (codes "refs/heads/main") (Some 4) (Some (codes "Bo <b@e> 1700000100 -0530")) (codes "Ann Lee <a@e> 1700000400 +0100") None (codes "merge\n") (Some (record { line = 7; text = codes ":3" }))
-    (record { line = 8; text = codes ":2" } ∷ record { line = 9; text = codes "refs/heads/x" } ∷ [])
-    (Modify 10 Exec (Name (record { 0 = 230 ∷ 157 ∷ 226 ∷ 155 ∷ 178 ∷ 209 ∷ 214 ∷ 67 ∷ 75 ∷ 139 ∷ 41 ∷ 174 ∷ 119 ∷ 90 ∷ 216 ∷ 194 ∷ 228 ∷ 140 ∷ 83 ∷ 145 ∷ [] })) (codes "b c") ∷ Modify 11 Plain (Mark 9) (codes "d") ∷ Delete 12 (codes "hello.txt") ∷ DeleteAll 13 ∷ [])
-    ∷ []) None
-unfolding grammar
+exported_text : List ℕ
+exported_text =
+    codes "commit refs/heads/main\nmark :4\nauthor Bo <b@e> 1700000100 -0530\ncommitter Ann Lee <a@e> 1700000400 +0100\n"
+    ++ codes "data 6\nmerge\nfrom :3\nmerge :2\nmerge refs/heads/x\n"
+    ++ codes "M 100755 e69de29bb2d1d6434b8b29ae775ad8c2e48c5391 b c\nM 100644 :9 d\nD hello.txt\ndeleteall\n\n"
+
+exported : IsStream exported_text standard_limits
+    (Commit (record {
+      line = 1;
+      branch = codes "refs/heads/main";
+      mark = Some 4;
+      header = record {
+        author = Some (codes "Bo <b@e> 1700000100 -0530");
+        committer = codes "Ann Lee <a@e> 1700000400 +0100";
+        encoding = None;
+        message = codes
+            "merge\n";
+      };
+      from = Some (record { line = 7; text = codes ":3" });
+      merges = record { line = 8; text = codes ":2" } ∷ record { line = 9; text = codes "refs/heads/x" } ∷ [];
+      changes = Modify 10 Exec (Name (record {
+        0 = 230 ∷ 157 ∷ 226 ∷ 155 ∷ 178 ∷ 209 ∷ 214 ∷ 67 ∷ 75 ∷ 139 ∷ 41 ∷ 174 ∷ 119 ∷ 90 ∷ 216 ∷ 194 ∷ 228 ∷ 140 ∷ 83
+            ∷ 145 ∷ [];
+      })) (codes "b c") ∷ Modify 11 Plain (Mark 9) (codes "d") ∷ Delete 12 (codes "hello.txt") ∷ DeleteAll 13 ∷ [];
+    }) ∷ []) None
+unfolding grammar exported_text
 exported = (_, refl, (_, refl))
 
 -- Comments between parts are passed over. Inside data they are data.
@@ -58,7 +91,15 @@ unfolding grammar
 comments = (_, refl, (_, refl))
 
 -- one LF behind a data part belongs to it, a second one is an empty line, which ends the commit
-two_ends : IsStream (codes "commit refs/heads/x\ncommitter <> 1 -1400\ndata 1\nm\n\nfrom :1\n") standard_limits (Commit 1 (codes "refs/heads/x") None None (codes "<> 1 -1400") None (codes "m") None [] [] ∷ []) (Some (Syntax 6))
+two_ends : IsStream (codes "commit refs/heads/x\ncommitter <> 1 -1400\ndata 1\nm\n\nfrom :1\n") standard_limits (Commit (record {
+  line = 1;
+  branch = codes "refs/heads/x";
+  mark = None;
+  header = record { author = None; committer = codes "<> 1 -1400"; encoding = None; message = codes "m" };
+  from = None;
+  merges = [];
+  changes = [];
+}) ∷ []) (Some (Syntax 6))
 unfolding grammar
 two_ends = (_, refl, refl)
 
@@ -68,7 +109,15 @@ unfolding grammar
 empty_line = refl
 
 -- a second `from` ends the commit, and is no command
-second_from : IsStream (codes "commit refs/heads/x\ncommitter <> 1 -1400\ndata 1\nm\nfrom :1\nfrom :2\n") standard_limits (Commit 1 (codes "refs/heads/x") None None (codes "<> 1 -1400") None (codes "m") (Some (record { line = 5; text = codes ":1" })) [] [] ∷ []) (Some (Syntax 6))
+second_from : IsStream (codes "commit refs/heads/x\ncommitter <> 1 -1400\ndata 1\nm\nfrom :1\nfrom :2\n") standard_limits (Commit (record {
+  line = 1;
+  branch = codes "refs/heads/x";
+  mark = None;
+  header = record { author = None; committer = codes "<> 1 -1400"; encoding = None; message = codes "m" };
+  from = Some (record { line = 5; text = codes ":1" });
+  merges = [];
+  changes = [];
+}) ∷ []) (Some (Syntax 6))
 unfolding grammar
 second_from = (_, refl, refl)
 
@@ -100,7 +149,9 @@ unfolding grammar
 tag_of_nothing = refl
 
 -- a tag, whose tagger and message are dropped, and refs that are set
-tag_and_reset : IsStream (codes "tag v1\nmark :5\nfrom :1\ntagger T <t@e> 0 +0000\ndata 2\nhi\nreset refs/heads/a\nfrom 00\nreset refs/heads/b\n") standard_limits (Tag 1 (codes "v1") (Some 5) (record { line = 3; text = codes ":1" }) ∷ Reset 7 (codes "refs/heads/a") (Some (record { line = 8; text = codes "00" })) ∷ Reset 9 (codes "refs/heads/b") None ∷ []) None
+tag_and_reset : IsStream (codes "tag v1\nmark :5\nfrom :1\ntagger T <t@e> 0 +0000\ndata 2\nhi\nreset refs/heads/a\nfrom 00\nreset refs/heads/b\n")
+    standard_limits (Tag 1 (codes "v1") (Some 5) (record { line = 3; text = codes ":1" }) ∷ Reset 7 (codes "refs/heads/a")
+    (Some (record { line = 8; text = codes "00" })) ∷ Reset 9 (codes "refs/heads/b") None ∷ []) None
 unfolding grammar
 tag_and_reset = (_, refl, (_, refl, (_, refl, (_, refl))))
 
@@ -136,6 +187,15 @@ long_command : IsStream (codes "reset r\nprogress x\n") narrow (Reset 1 (codes "
 unfolding grammar narrow
 long_command = (_, refl, refl)
 
+-- a line and a data part that are as long as their limits
+whole_line : IsStream (codes "reset rr\n") narrow (Reset 1 (codes "rr") None ∷ []) None
+unfolding grammar narrow
+whole_line = (_, refl, (_, refl))
+
+whole_data : IsStream (codes "blob\ndata 3\nabc") narrow (Blob 1 None (codes "abc") ∷ []) None
+unfolding grammar narrow
+whole_data = (_, refl, (_, refl))
+
 -- data that ends where the limit on the stream does, without a byte behind it and with one
 at_the_limit : IsStream (codes "reset r\n\n\n\n\nblob\ndata 0\n") narrow (Reset 1 (codes "r") None ∷ Blob 6 None [] ∷ []) None
 unfolding grammar narrow
@@ -162,6 +222,14 @@ unsupported = refl
 no_done : IsStream (codes "feature done\n") standard_limits (Feature 1 ∷ []) (Some (NoDone 2))
 unfolding grammar
 no_done = (_, refl, refl)
+
+open_email : IsStream (codes "commit refs/heads/x\ncommitter A <a@b 0 +0000\n") standard_limits [] (Some (Syntax 2))
+unfolding grammar
+open_email = refl
+
+dotted_ref : IsStream (codes "reset refs/heads/a..b\n") standard_limits [] (Some (Syntax 1))
+unfolding grammar
+dotted_ref = refl
 
 spaced_ref : IsStream (codes "commit refs/heads/a b\n") standard_limits [] (Some (Syntax 1))
 unfolding grammar

@@ -5,6 +5,7 @@ use Rattle.bf_grammar.specs.declared.command.Change.{Change}
 use Rattle.bf_grammar.specs.declared.command.Change.TheVariants.{Modify, Delete, DeleteAll}
 use Rattle.bf_grammar.specs.declared.command.Command.{Command}
 use Rattle.bf_grammar.specs.declared.command.Command.TheVariants.{Blob, Commit, Tag, Reset, Progress, Feature}
+use Rattle.bf_grammar.specs.declared.command.Header.{Header}
 use Rattle.bf_grammar.specs.declared.command.ContentForm.{ContentForm}
 use Rattle.bf_grammar.specs.declared.command.ContentForm.TheVariants as content
 use Rattle.bf_grammar.specs.declared.command.DataForm.{DataForm}
@@ -150,19 +151,33 @@ blob_at limits line = do
   content ← data_at limits
   pure (Blob line mark content)
 
-unfoldable pub commit_at : Limits → ℕ → List ℕ → Reading Command
-commit_at limits line branch = do
-  mark ← mark_at limits
-  _ ← original_oid_at limits
+-- who wrote a commit, who committed it, its encoding and its message
+unfoldable pub header_at : Limits → Reading Header
+header_at limits = do
   author ← author_at limits (codes "author")
   committer ← committer_at limits
   encoding ← encoding_at limits
   _ ← no_signature_at limits
   message ← data_at limits
+  pure (record { author = author; committer = committer; encoding = encoding; message = message })
+
+unfoldable pub commit_at : Limits → ℕ → List ℕ → Reading Command
+commit_at limits line branch = do
+  mark ← mark_at limits
+  _ ← original_oid_at limits
+  header ← header_at limits
   from ← target_at limits (codes "from")
   merges ← merges_at limits
   changes ← changes_at limits
-  pure (Commit line branch mark author committer encoding message from merges changes)
+  pure (Commit (record {
+    line = line;
+    branch = branch;
+    mark = mark;
+    header = header;
+    from = from;
+    merges = merges;
+    changes = changes;
+  }))
 
 unfoldable pub tag_at : Limits → ℕ → List ℕ → Reading Command
 tag_at limits line name = do

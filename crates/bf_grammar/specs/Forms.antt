@@ -2,14 +2,14 @@
 use Rattle.std.specs.Prelude.{ℕ, ◌+◌, Bool, false, ◌==◌, ◌&&◌, ◌||◌, not, nat_lt, nat_le, List, [], ◌∷◌, ◌++◌, length, drop, codes, Option, Some, None, Result, Ok, Err, if◌then◌else◌}
 use Rattle.std.specs.List.{list_any, list_all, starts_with, before_first, after_first, ends_with}
 use Rattle.bf_io.specs.Decimal.{decimal_value}
-use Rattle.bf_grammar.specs.Object.{oid_of_hex}
+use Rattle.bf_oid.specs.Object.{oid_of_hex}
 use Rattle.bf_grammar.specs.declared.fault.Limit.TheVariants.{Data}
 use Rattle.bf_grammar.specs.declared.fault.Limits.{Limits}
 use Rattle.bf_grammar.specs.declared.fault.StreamFault.{StreamFault}
 use Rattle.bf_grammar.specs.declared.fault.StreamFault.TheVariants.{Syntax, Unsupported, TooLarge}
-use Rattle.bf_grammar.specs.declared.object.Mode.{Mode}
-use Rattle.bf_grammar.specs.declared.object.Mode.TheVariants.{Plain, Exec, Link, Module}
-use Rattle.bf_grammar.specs.declared.object.Oid.{Oid}
+use Rattle.bf_oid.specs.declared.object.Mode.{Mode}
+use Rattle.bf_oid.specs.declared.object.Mode.TheVariants.{Plain, Exec, Link, Module}
+use Rattle.bf_oid.specs.declared.object.Oid.{Oid}
 use Rattle.bf_grammar.specs.Lines.{is_text, has_word}
 use Rattle.bf_grammar.specs.declared.command.ContentForm.{ContentForm}
 use Rattle.bf_grammar.specs.declared.command.ContentForm.TheVariants as content

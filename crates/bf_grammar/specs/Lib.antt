@@ -1,7 +1,7 @@
 pub mod Limits
-pub mod Object
 pub mod Place
 pub mod Lines
 pub mod Forms
 pub mod Commands
 pub mod Stream
+pub mod Laws

@@ -1,10 +1,7 @@
 //! The commands of a git fast-import stream (git-fast-import(1)).
-ghost use Rattle.std.specs.Prelude.{◌≡◌, [], ◌∷◌, ◌++◌, length, OnOk, OnErr};
 
-use crate::{Mode, Oid};
-use bf_io::Bytes;
-use std::alloc::{AllocError, Global};
-use std::marker::Model;
+use bf_io::{Bytes, List};
+use bf_oid::{Mode, Oid};
 
 /// A commit that `from` or `merge` names, as it is written.
 #[derive(Debug, Drop)]
@@ -48,87 +45,41 @@ pub enum Change {
 }
 
 /// The targets of the `merge` lines of a commit, in order.
-#[derive(Debug, Drop)]
-pub struct Targets {
-    items: Vec<Target>,
-}
-
-impl Model for Targets {
-    ghost use Rattle.std.specs.Prelude.{List};
-    ghost use Rattle.bf_grammar.specs.declared.command.Target.{Target};
-
-    ghost Value = { List Target };
-
-    ghost view = { λ t. t.items.items };
-}
-
-impl Targets {
-    /// No target. It takes no memory.
-    pub fn new(alloc: Global) -> Targets
-        ensures { result ≡ [] }
-    {
-        Targets {
-            items: Vec::new(alloc),
-        }
-    }
-
-    /// The targets as a slice.
-    pub fn as_slice(&self) -> &[Target]
-        ensures { result.now ≡ self.now }
-    {
-        self.items.as_slice()
-    }
-
-    /// Adds a target at the end. After an error the targets are as before.
-    pub fn push(&mut self, target: Target) -> Result<(), AllocError>
-        ensures ok { OnOk result (self.new ≡ self.old ++ target ∷ []) }
-        ensures err { OnErr result (self.new ≡ self.old) }
-    {
-        self.items.push(target)?;
-        Ok(())
-    }
-}
+pub type Targets = List<Target>;
 
 /// The changes of a commit, in order.
+pub type Changes = List<Change>;
+
+/// What a commit says of itself beside its tree and its parents: bytes as the stream gives them.
 #[derive(Debug, Drop)]
-pub struct Changes {
-    items: Vec<Change>,
+pub struct Header {
+    /// Who wrote it and when. Without an author the committer stands for it.
+    pub author: Option<Bytes>,
+    /// Who committed it and when.
+    pub committer: Bytes,
+    /// The encoding of the message, where it is told.
+    pub encoding: Option<Bytes>,
+    /// The message, taken as it is. It may be empty.
+    pub message: Bytes,
 }
 
-impl Model for Changes {
-    ghost use Rattle.std.specs.Prelude.{List};
-    ghost use Rattle.bf_grammar.specs.declared.command.Change.{Change};
-
-    ghost Value = { List Change };
-
-    ghost view = { λ c. c.items.items };
-}
-
-impl Changes {
-    /// No change. It takes no memory.
-    pub fn new(alloc: Global) -> Changes
-        ensures { result ≡ [] }
-    {
-        Changes {
-            items: Vec::new(alloc),
-        }
-    }
-
-    /// The changes as a slice.
-    pub fn as_slice(&self) -> &[Change]
-        ensures { result.now ≡ self.now }
-    {
-        self.items.as_slice()
-    }
-
-    /// Adds a change at the end. After an error the changes are as before.
-    pub fn push(&mut self, change: Change) -> Result<(), AllocError>
-        ensures ok { OnOk result (self.new ≡ self.old ++ change ∷ []) }
-        ensures err { OnErr result (self.new ≡ self.old) }
-    {
-        self.items.push(change)?;
-        Ok(())
-    }
+/// A commit as its command gives it.
+#[derive(Debug, Drop)]
+pub struct Commit {
+    /// The line of its first line in the stream, from 1.
+    pub line: u64,
+    /// The ref that the commit becomes the present one of.
+    pub branch: Bytes,
+    /// The mark that stands for it from now on, 1 to 2^64 - 1.
+    pub mark: Option<u64>,
+    /// Who wrote and who committed it, and what they say of it.
+    pub header: Header,
+    /// The commit that it follows, where one is named.
+    pub from: Option<Target>,
+    /// The commits that are merged into it, in order.
+    pub merges: Targets,
+    /// How its files differ from those of the commit that it follows, in order.
+    pub changes: Changes,
 }
 
 /// A command of a stream. `line` is the line of its first line, from 1; a mark is 1 to 2^64 - 1.
@@ -141,18 +92,7 @@ pub enum Command {
         content: Bytes,
     },
     /// A commit on a branch.
-    Commit {
-        line: u64,
-        branch: Bytes,
-        mark: Option<u64>,
-        author: Option<Bytes>,
-        committer: Bytes,
-        encoding: Option<Bytes>,
-        message: Bytes,
-        from: Option<Target>,
-        merges: Targets,
-        changes: Changes,
-    },
+    Commit(Commit),
     /// An annotated tag. Its tagger and message are read and dropped.
     Tag {
         line: u64,

@@ -1,5 +1,6 @@
 -- Lemmas on the layout of a graph: the list at a place, and what a push adds.
-use Rattle.std.proofs.Common.{◌≡◌, ℕ, zero, suc, ◌+◌, ◌-◌, ◌<◌, ◌≤◌, List, [], ◌∷◌, ◌++◌, length, get_or, take, drop, refl, ap, sym, ◌∙◌, ⊎_elim, arith, length-append}
+use Rattle.std.proofs.Common.{◌≡◌, ℕ, zero, suc, ◌+◌, ◌-◌, ◌<◌, ◌≤◌, List, [], ◌∷◌, ◌++◌, length, get_or, take, drop, refl, ap, sym, ◌∙◌, ⊎_elim, arith}
+use Rattle.std.proofs.Common.{length-append}
 use Rattle.std.proofs.lemmas.Bool.{cases_order}
 use Rattle.std.proofs.lemmas.List.{drop_at, take-append-le, drop-append-le, take_all, length-drop, get_or_append_left, get_or_push, get_or_past, length_push}
 use Rattle.std.proofs.lemmas.List.Elements.{All-nil}
@@ -33,7 +34,8 @@ EndsRise-push start [] last n h = (omega arith, refl)
 EndsRise-push start (e ∷ es) last n h = (h.0, EndsRise-push e es last n h.1)
 
 -- what lies before the end of a list stays when more is added
-between-append : (start end : ℕ) (all more : List ℕ) → start ≤ end → end ≤ length all → take (end - start) (drop start (all ++ more)) ≡ take (end - start) (drop start all)
+between-append : (start end : ℕ) (all more : List ℕ) → start ≤ end → end ≤ length all
+    → take (end - start) (drop start (all ++ more)) ≡ take (end - start) (drop start all)
 between-append start end all more h k =
     rw (drop-append-le start all more (omega arith)) (take-append-le (end - start) (drop start all) more (omega (arith, length-drop start all)))
 
@@ -44,7 +46,8 @@ lists_from-push start [] all more h =
     let whole : take (length all + length more - start) more ≡ more = take_all _ more (omega arith) in
     rw there (ap (λ (x : List ℕ). x ∷ []) whole)
 lists_from-push start (e ∷ es) all more h =
-    rw (between-append start e all more h.0 (EndsRise-le e es (length all) h.1)) (ap (λ (x : List (List ℕ)). take (e - start) (drop start all) ∷ x) (lists_from-push e es all more h.1))
+    rw (between-append start e all more h.0 (EndsRise-le e es (length all) h.1))
+    (ap (λ (x : List (List ℕ)). take (e - start) (drop start all) ∷ x) (lists_from-push e es all more h.1))
 
 pub IsGraph-nil : IsGraph []
 IsGraph-nil = record { earlier = λ p. All-nil _ }
@@ -74,7 +77,8 @@ pushed ends all parents new_ends new_all end laid earlier room grown at put =
     let e : end ≡ length all + length parents = at ∙ ap length grown ∙ length-append all parents in
     let ends_are : new_ends ≡ ends ++ (length all + length parents) ∷ [] = put ∙ ap (λ (n : ℕ). ends ++ n ∷ []) e in
     let lists_are : lists_from 0 new_ends new_all ≡ lists_from 0 ends all ++ parents ∷ [] =
-    ap (λ (es : List ℕ). lists_from 0 es new_all) ends_are ∙ ap (λ (xs : List ℕ). lists_from 0 (ends ++ (length all + length parents) ∷ []) xs) grown ∙ lists_from-push 0 ends all parents laid.rise in
+    ap (λ (es : List ℕ). lists_from 0 es new_all) ends_are ∙ ap (λ (xs : List ℕ). lists_from 0 (ends ++ (length all + length parents) ∷ []) xs) grown ∙
+    lists_from-push 0 ends all parents laid.rise in
     record {
       lists = lists_are;
       layout = record {

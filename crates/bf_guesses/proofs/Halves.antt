@@ -1,5 +1,6 @@
 -- Halving: among candidates in one line each good or bad mark halves them.
-use Rattle.std.proofs.Common.{◌≡◌, ℕ, zero, suc, ◌+◌, ◌*◌, ◌^◌, ◌<◌, ◌≤◌, ◌⊎◌, Bool, true, ◌&&◌, cond, List, [], ◌∷◌, length, Option, Some, None, refl, sym, ap, ◌∙◌, subst, inl, inr, arith}
+use Rattle.std.proofs.Common.{◌≡◌, ℕ, zero, suc, ◌+◌, ◌*◌, ◌^◌, ◌<◌, ◌≤◌, ◌⊎◌, Bool, true, ◌&&◌, cond, List, [], ◌∷◌, length, Option, Some, None, refl, sym, ap}
+use Rattle.std.proofs.Common.{◌∙◌, subst, inl, inr, arith}
 use Rattle.std.proofs.Math.Nat.{pow-suc}
 use Rattle.std.proofs.lemmas.List.Elements.{All-head, All-tail}
 use Rattle.std.specs.List.{All}
@@ -38,7 +39,8 @@ record Chosen (graph : List (List ℕ)) (s : Search) (q : ℕ) : Type 0 where
   bad_is : s.bad ≡ Some bad
   chosen : best_of graph s bad ≡ Some q
 
-chosen_of : (graph : List (List ℕ)) (s : Search) (o : Option ℕ) (goods : List ℕ) (q : ℕ) → s.bad ≡ o → s.checked ≡ true → (ask_ends graph s o goods).step.ask ≡ Test q → Chosen graph s q
+chosen_of : (graph : List (List ℕ)) (s : Search) (o : Option ℕ) (goods : List ℕ) (q : ℕ) → s.bad ≡ o → s.checked ≡ true
+    → (ask_ends graph s o goods).step.ask ≡ Test q → Chosen graph s q
 chosen_of graph s None [] q b c h = cc
 chosen_of graph s None (good ∷ goods) q b c h = cc
 chosen_of graph s (Some bad) [] q b c h = cc
@@ -63,7 +65,8 @@ record Halved (graph : List (List ℕ)) (s : Search) (q : ℕ) : Type 0 where
   bad_low : half ≤ left_of graph (mark (ask graph s).search Bad q)
   both : left_of graph (mark (ask graph s).search Good q) + left_of graph (mark (ask graph s).search Bad q) ≡ left_of graph s
 
-halved : (graph : List (List ℕ)) (s : Search) (q : ℕ) → IsGraph graph → IsSearchOver graph s → s.checked ≡ true → NoneSkipped s → IsLine graph s → (ask graph s).step.ask ≡ Test q → Halved graph s q
+halved : (graph : List (List ℕ)) (s : Search) (q : ℕ) → IsGraph graph → IsSearchOver graph s → s.checked ≡ true → NoneSkipped s → IsLine graph s
+    → (ask graph s).step.ask ≡ Test q → Halved graph s q
 unfolding left_of
 halved graph s q g over c unskipped line h = record {
   half = best.0;
@@ -105,7 +108,8 @@ halved graph s q g over c unskipped line h = record {
     not_bad : q ≡ bad → ⊥
     not_bad e = a.asks_for.not_bad (e ∙ some_same (sym found.bad_is ∙ a.asks_for.bad_is))
 
-    best : (half : ℕ) × (1 ≤ half) × (half + half ≤ first_of Has (length graph)) × (first_of Has (length graph) ≤ half + half + 1) × (half ≤ first_of Has (suc q)) × (half + first_of Has (suc q) ≤ first_of Has (length graph))
+    best : (half : ℕ) × (1 ≤ half) × (half + half ≤ first_of Has (length graph)) × (first_of Has (length graph) ≤ half + half + 1)
+        × (half ≤ first_of Has (suc q)) × (half + first_of Has (suc q) ≤ first_of Has (length graph))
     best = best_halves graph s bad g q in_line unskipped found.chosen a.asks_for.within bad_place here not_bad
 
     whole : first_of (λ p. is_candidate_of graph s p) (length graph) ≡ first_of Has (length graph)
@@ -117,8 +121,10 @@ halved graph s q g over c unskipped line h = record {
         ∙ (λ i. first_of (λ p. has_is p i && reaches (in_mode graph s.first_parent) q p) (length graph))
         ∙ reached_count graph s bad g q in_line a.asks_for.within here
 
-    parts : first_of (λ p. is_candidate_of graph (mark (ask graph s).search Good q) p) (length graph) + first_of (λ p. is_candidate_of graph (mark (ask graph s).search Bad q) p) (length graph) ≡ first_of (λ p. is_candidate_of graph s p) (length graph)
-    parts = parts_count (λ p. is_candidate_of graph s p) (λ p. is_candidate_of graph (mark (ask graph s).search Good q) p) (λ p. is_candidate_of graph (mark (ask graph s).search Bad q) p) (places graph) (λ p. guesses_part graph s q p g h)
+    parts : first_of (λ p. is_candidate_of graph (mark (ask graph s).search Good q) p) (length graph) + first_of
+        (λ p. is_candidate_of graph (mark (ask graph s).search Bad q) p) (length graph) ≡ first_of (λ p. is_candidate_of graph s p) (length graph)
+    parts = parts_count (λ p. is_candidate_of graph s p) (λ p. is_candidate_of graph (mark (ask graph s).search Good q) p)
+        (λ p. is_candidate_of graph (mark (ask graph s).search Bad q) p) (places graph) (λ p. guesses_part graph s q p g h)
 
 -- ---- powers of two
 
@@ -163,7 +169,8 @@ module _ (graph : List (List ℕ)) (known : Outcomes) (g : IsGraph graph) where
   unfolding mark
   mode_bad t q = refl
 
-  lined_child : (s : Search) (m : Mark) (q : ℕ) → Lined s → (ask graph s).step.ask ≡ Test q → (mark (ask graph s).search m q).skips ≡ (ask graph s).search.skips → (mark (ask graph s).search m q).first_parent ≡ (ask graph s).search.first_parent → Lined (mark (ask graph s).search m q)
+  lined_child : (s : Search) (m : Mark) (q : ℕ) → Lined s → (ask graph s).step.ask ≡ Test q → (mark (ask graph s).search m q).skips ≡ (ask graph s).search.skips
+      → (mark (ask graph s).search m q).first_parent ≡ (ask graph s).search.first_parent → Lined (mark (ask graph s).search m q)
   lined_child s m q lined h same_skips same_mode = record {
     over = IsSearchOver-marked graph s m q g lined.over h;
     checked = stays_checked graph s m q g h (settled graph s q h lined.checked).0;
@@ -173,7 +180,8 @@ module _ (graph : List (List ℕ)) (known : Outcomes) (g : IsGraph graph) where
         (lined.line p r (candidate_before graph s m q p g h k) (candidate_before graph s m q r g h l));
   }
 
-  bounded_mark : (go : Go) (left : Option ℕ) (s : Search) (q : ℕ) (outcome : Outcome) (m : Mark) → Lined s → (ask graph s).step.ask ≡ Test q → (MarkOf m ≡ MarkOf Good) ⊎ (MarkOf m ≡ MarkOf Bad)
+  bounded_mark : (go : Go) (left : Option ℕ) (s : Search) (q : ℕ) (outcome : Outcome) (m : Mark) → Lined s → (ask graph s).step.ask ≡ Test q
+      → (MarkOf m ≡ MarkOf Good) ⊎ (MarkOf m ≡ MarkOf Bad)
       → ((t : Search) → Lined t → Bounded t (go (marked_one left) t))
       → All (λ (pair : ℕ × Outcome). IsGoodOrBad pair.1) (go (marked_one left) (mark (ask graph s).search m q)).used
       → 2 ^ suc (length (go (marked_one left) (mark (ask graph s).search m q)).used) < 2 * left_of graph s
@@ -181,14 +189,19 @@ module _ (graph : List (List ℕ)) (known : Outcomes) (g : IsGraph graph) where
   bounded_mark go left s q outcome Skip lined h (inr e) each all = cc
   bounded_mark go left s q outcome Good lined h kind each all =
       let parts : Halved graph s q = halved graph s q g lined.over lined.checked lined.unskipped lined.line h in
-      doubled (length (go (marked_one left) (mark (ask graph s).search Good q)).used) (left_of graph s) parts.half (left_of graph (mark (ask graph s).search Good q)) parts.some parts.low parts.high (omega (arith, parts.both, parts.bad_low))
-      (each (mark (ask graph s).search Good q) (lined_child s Good q lined h (marked_good (ask graph s).search q) (mode_good (ask graph s).search q)) all (omega (arith, parts.some, parts.good_low)))
+      doubled (length (go (marked_one left) (mark (ask graph s).search Good q)).used) (left_of graph s) parts.half
+      (left_of graph (mark (ask graph s).search Good q)) parts.some parts.low parts.high (omega (arith, parts.both, parts.bad_low))
+      (each (mark (ask graph s).search Good q) (lined_child s Good q lined h (marked_good (ask graph s).search q) (mode_good (ask graph s).search q)) all
+      (omega (arith, parts.some, parts.good_low)))
   bounded_mark go left s q outcome Bad lined h kind each all =
       let parts : Halved graph s q = halved graph s q g lined.over lined.checked lined.unskipped lined.line h in
-      doubled (length (go (marked_one left) (mark (ask graph s).search Bad q)).used) (left_of graph s) parts.half (left_of graph (mark (ask graph s).search Bad q)) parts.some parts.low parts.high (omega (arith, parts.both, parts.good_low))
-      (each (mark (ask graph s).search Bad q) (lined_child s Bad q lined h (marked_bad (ask graph s).search q) (mode_bad (ask graph s).search q)) all (omega (arith, parts.some, parts.bad_low)))
+      doubled (length (go (marked_one left) (mark (ask graph s).search Bad q)).used) (left_of graph s) parts.half
+      (left_of graph (mark (ask graph s).search Bad q)) parts.some parts.low parts.high (omega (arith, parts.both, parts.good_low))
+      (each (mark (ask graph s).search Bad q) (lined_child s Bad q lined h (marked_bad (ask graph s).search q) (mode_bad (ask graph s).search q)) all
+      (omega (arith, parts.some, parts.bad_low)))
 
-  bounded_verdict : (go : Go) (left : Option ℕ) (s : Search) (q : ℕ) (outcome : Outcome) (v : Verdict) → Lined s → (ask graph s).step.ask ≡ Test q → (v ≡ MarkOf Good) ⊎ (v ≡ MarkOf Bad)
+  bounded_verdict : (go : Go) (left : Option ℕ) (s : Search) (q : ℕ) (outcome : Outcome) (v : Verdict) → Lined s → (ask graph s).step.ask ≡ Test q
+      → (v ≡ MarkOf Good) ⊎ (v ≡ MarkOf Bad)
       → ((t : Search) → Lined t → Bounded t (go (marked_one left) t))
       → All (λ (pair : ℕ × Outcome). IsGoodOrBad pair.1) (after_verdict go left (ask graph s).search q outcome v).used
       → 2 ^ suc (length (after_verdict go left (ask graph s).search q outcome v).used) < 2 * left_of graph s
@@ -196,7 +209,8 @@ module _ (graph : List (List ℕ)) (known : Outcomes) (g : IsGraph graph) where
   bounded_verdict go left s q outcome Abort lined h (inr e) each all = cc
   bounded_verdict go left s q outcome (MarkOf m) lined h kind each all = bounded_mark go left s q outcome m lined h kind each all
 
-  bounded_look : (go : Go) (left : Option ℕ) (s : Search) (q : ℕ) (o : Option Outcome) → Lined s → (ask graph s).step.ask ≡ Test q → ((t : Search) → Lined t → Bounded t (go (marked_one left) t))
+  bounded_look : (go : Go) (left : Option ℕ) (s : Search) (q : ℕ) (o : Option Outcome) → Lined s → (ask graph s).step.ask ≡ Test q
+      → ((t : Search) → Lined t → Bounded t (go (marked_one left) t))
       → Bounded s (after_look known go left (ask graph s).search q o)
   bounded_look go left s q None lined h each = λ all some. bounded_none s some
   bounded_look go left s q (Some outcome) lined h each = λ all some.
@@ -204,7 +218,8 @@ module _ (graph : List (List ℕ)) (known : Outcomes) (g : IsGraph graph) where
       bounded_verdict go left s q outcome (verdict_of outcome) lined h (All-head (λ (pair : ℕ × Outcome). IsGoodOrBad pair.1) (q, outcome) rest.used all) each
       (All-tail (λ (pair : ℕ × Outcome). IsGoodOrBad pair.1) (q, outcome) rest.used all)
 
-  bounded_step : (go : Go) (left : Option ℕ) (s : Search) (a : Ask) → Lined s → (ask graph s).step.ask ≡ a → ((t : Search) → Lined t → Bounded t (go (marked_one left) t)) → Bounded s (after_step known go left (ask graph s).search a)
+  bounded_step : (go : Go) (left : Option ℕ) (s : Search) (a : Ask) → Lined s → (ask graph s).step.ask ≡ a
+      → ((t : Search) → Lined t → Bounded t (go (marked_one left) t)) → Bounded s (after_step known go left (ask graph s).search a)
   bounded_step go left s (Test q) lined h each = bounded_look go left s q (known q) lined h each
   bounded_step go left s (FirstBad p) lined h each = λ all some. bounded_none s some
   bounded_step go left s (OnlySkipped ps) lined h each = λ all some. bounded_none s some
@@ -215,10 +230,12 @@ module _ (graph : List (List ℕ)) (known : Outcomes) (g : IsGraph graph) where
   bounded_step go left s (GoodNotAncestor p) lined h each = λ all some. bounded_none s some
   bounded_step go left s (BothSides p) lined h each = λ all some. bounded_none s some
 
-  bounded_ask : (go : Go) (left : Option ℕ) (s : Search) → Lined s → ((t : Search) → Lined t → Bounded t (go (marked_one left) t)) → Bounded s (after_ask known go left (ask graph s))
+  bounded_ask : (go : Go) (left : Option ℕ) (s : Search) → Lined s → ((t : Search) → Lined t → Bounded t (go (marked_one left) t))
+      → Bounded s (after_ask known go left (ask graph s))
   bounded_ask go left s lined each = λ all some. bounded_step go left s (ask graph s).step.ask lined refl each all some
 
-  bounded_turn : (go : Go) (left : Option ℕ) (s : Search) → Lined s → ((t : Search) → Lined t → Bounded t (go (marked_one left) t)) → Bounded s (turn graph known go left s)
+  bounded_turn : (go : Go) (left : Option ℕ) (s : Search) → Lined s → ((t : Search) → Lined t → Bounded t (go (marked_one left) t))
+      → Bounded s (turn graph known go left s)
   bounded_turn go (Some zero) s lined each = λ all some. bounded_none s some
   bounded_turn go (Some (suc k)) s lined each = bounded_ask go (Some (suc k)) s lined each
   bounded_turn go None s lined each = bounded_ask go None s lined each
@@ -228,7 +245,9 @@ module _ (graph : List (List ℕ)) (known : Outcomes) (g : IsGraph graph) where
   bounded_within zero left s lined = λ all some. bounded_none s some
   bounded_within (suc n) left s lined = bounded_turn (run_within n graph known) left s lined (λ t l. bounded_within n (marked_one left) t l)
 
-  pub run_halves : (left : Option ℕ) (s : Search) → IsSearchOver graph s → s.checked ≡ true → NoneSkipped s → IsLine graph s → All (λ (pair : ℕ × Outcome). IsGoodOrBad pair.1) (run graph known left s).used → 1 ≤ left_of graph s
+  pub run_halves : (left : Option ℕ) (s : Search) → IsSearchOver graph s → s.checked ≡ true → NoneSkipped s → IsLine graph s
+      → All (λ (pair : ℕ × Outcome). IsGoodOrBad pair.1) (run graph known left s).used → 1 ≤ left_of graph s
       → 2 ^ length (run graph known left s).used < 2 * left_of graph s
   unfolding run
-  run_halves left s over c unskipped line all some = bounded_within (suc (length graph)) left s (record { over = over; checked = c; unskipped = unskipped; line = line }) all some
+  run_halves left s over c unskipped line all some = bounded_within (suc (length graph)) left s
+      (record { over = over; checked = c; unskipped = unskipped; line = line }) all some

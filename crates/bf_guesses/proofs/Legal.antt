@@ -1,5 +1,6 @@
 -- What legal events keep.
-use Rattle.std.proofs.Common.{◌≡◌, ◌≢◌, ℕ, suc, Bool, true, false, not, ◌&&◌, ◌||◌, ◌==◌, List, [], ◌∷◌, ◌++◌, get_or, set, Option, Some, None, refl, sym, ap, ◌∙◌, subst, ⊎_elim, arith, eqb-true, eq-eqb}
+use Rattle.std.proofs.Common.{◌≡◌, ◌≢◌, ℕ, suc, Bool, true, false, not, ◌&&◌, ◌||◌, ◌==◌, List, [], ◌∷◌, ◌++◌, get_or, set, Option, Some, None, refl, sym, ap}
+use Rattle.std.proofs.Common.{◌∙◌, subst, ⊎_elim, arith, eqb-true, eq-eqb}
 use Rattle.std.proofs.lemmas.Bool.{and_parts, or_parts, not-true, both_ways, cases_Bool}
 use Rattle.std.proofs.lemmas.List.{get_or-set_other}
 use Rattle.std.proofs.lemmas.List.Elements.{All-nil, All-cons, All-push, All-filter, filter_passes}
@@ -36,14 +37,17 @@ none_passes f (x ∷ xs) h = let parts = or_parts (f x) (list_any f xs) h in All
 
 -- ---- the best open place
 
-opened : (setting : Setting) (farm : Farm) (run : Run) (end : End) (p : ℕ) → is_best (place_at setting farm run end) p ≡ true → (outcomes_of_table farm.table p ≡ None) × (is_claimed farm.claims p ≡ false)
+opened : (setting : Setting) (farm : Farm) (run : Run) (end : End) (p : ℕ) → is_best (place_at setting farm run end) p ≡ true
+    → (outcomes_of_table farm.table p ≡ None) × (is_claimed farm.claims p ≡ false)
 opened setting farm run (Open q) p h = by_path (best_open setting.graph (outcomes_of_table farm.table) farm.claims run.search) refl h
   where
-    by_path : (found : Option OpenPath) → best_open setting.graph (outcomes_of_table farm.table) farm.claims run.search ≡ found → is_best (place_of found) p ≡ true → (outcomes_of_table farm.table p ≡ None) × (is_claimed farm.claims p ≡ false)
+    by_path : (found : Option OpenPath) → best_open setting.graph (outcomes_of_table farm.table) farm.claims run.search ≡ found
+        → is_best (place_of found) p ≡ true → (outcomes_of_table farm.table p ≡ None) × (is_claimed farm.claims p ≡ false)
     by_path None e k = cc
     by_path (Some path) e k =
         let same : path.place ≡ p = eqb-true path.place p k in
-        let is : IsOpenPath setting.graph (outcomes_of_table farm.table) farm.claims run.search path = best_is_open setting.graph (outcomes_of_table farm.table) farm.claims run.search path e in
+        let is : IsOpenPath setting.graph (outcomes_of_table farm.table) farm.claims run.search path = best_is_open setting.graph (outcomes_of_table farm.table)
+        farm.claims run.search path e in
         (ap (outcomes_of_table farm.table) (sym same) ∙ is.unknown, ap (λ (x : ℕ). is_claimed farm.claims x) (sym same) ∙ is.unclaimed)
 opened setting farm run (Answered a) p h = cc
 opened setting farm run Leg p h = cc
@@ -54,7 +58,8 @@ opened setting farm run (Aborted q outcome) p h = cc
 other_worker : (c : Claim) (worker : ℕ) → (c.worker == worker) ≡ false → c.worker ≢ worker
 other_worker c worker h e = both_ways (c.worker == worker) h (eq-eqb c.worker worker e)
 
-tidy_claim : (setting : Setting) (farm : Farm) (worker p : ℕ) → IsTidy farm → has_claim farm.claims worker ≡ false → (outcomes_of_table farm.table p ≡ None) → is_claimed farm.claims p ≡ false
+tidy_claim : (setting : Setting) (farm : Farm) (worker p : ℕ) → IsTidy farm → has_claim farm.claims worker ≡ false → (outcomes_of_table farm.table p ≡ None)
+    → is_claimed farm.claims p ≡ false
     → IsTidy (record farm { claims = farm.claims ++ (record { worker = worker; place = p }) ∷ [] })
 tidy_claim setting farm worker p tidy idle none free = record {
   workers = all_pairs_push (λ a b. a.worker ≢ b.worker) farm.claims (record { worker = worker; place = p }) tidy.workers
@@ -65,7 +70,8 @@ tidy_claim setting farm worker p tidy idle none free = record {
 }
 
 -- the claims of other workers are of other places
-others_elsewhere : (claims : List Claim) (worker p : ℕ) → AllPairs (λ a b. a.place ≢ b.place) claims → stands claims worker p ≡ true → All (λ (c : Claim). not (c.worker == worker) ≡ true → c.place ≢ p) claims
+others_elsewhere : (claims : List Claim) (worker p : ℕ) → AllPairs (λ a b. a.place ≢ b.place) claims → stands claims worker p ≡ true
+    → All (λ (c : Claim). not (c.worker == worker) ≡ true → c.place ≢ p) claims
 others_elsewhere [] worker p apart h = cc
 others_elsewhere (c ∷ cs) worker p apart h =
     ⊎_elim
@@ -76,7 +82,8 @@ others_elsewhere (c ∷ cs) worker p apart h =
     (λ k d l other e. pairs_head (λ a b. a.place ≢ b.place) c cs apart k d l (same ∙ sym e)))
     (λ not_here.
     let later : stands cs worker p ≡ true = ap (λ (b : Bool). b || stands cs worker p) (sym not_here) ∙ h in
-    All-cons (λ (x : Claim). not (x.worker == worker) ≡ true → x.place ≢ p) c cs (λ other e. standing_elsewhere cs later (λ k d l same. pairs_head (λ a b. a.place ≢ b.place) c cs apart k d l (e ∙ sym same)))
+    All-cons (λ (x : Claim). not (x.worker == worker) ≡ true → x.place ≢ p) c cs
+    (λ other e. standing_elsewhere cs later (λ k d l same. pairs_head (λ a b. a.place ≢ b.place) c cs apart k d l (e ∙ sym same)))
     (others_elsewhere cs worker p (pairs_tail (λ a b. a.place ≢ b.place) c cs apart) later))
     (cases_Bool ((c.worker == worker) && (c.place == p)))
   where
@@ -95,7 +102,8 @@ tidy_without farm worker tidy = record {
   untold = All-filter (λ (c : Claim). not (c.worker == worker)) (λ (c : Claim). outcomes_of_table farm.table c.place ≡ None) farm.claims tidy.untold;
 }
 
-tidy_post : (farm : Farm) (worker p : ℕ) (outcome : Outcome) → IsTidy farm → stands farm.claims worker p ≡ true → IsTidy (record { table = set farm.table p (Some outcome); claims = without farm.claims worker })
+tidy_post : (farm : Farm) (worker p : ℕ) (outcome : Outcome) → IsTidy farm → stands farm.claims worker p ≡ true
+    → IsTidy (record { table = set farm.table p (Some outcome); claims = without farm.claims worker })
 tidy_post farm worker p outcome tidy h =
     let rest : IsTidy (record farm { claims = without farm.claims worker }) = tidy_without farm worker tidy in
     record {
@@ -103,7 +111,8 @@ tidy_post farm worker p outcome tidy h =
       places = rest.places;
       untold = λ k d l.
           get_or-set_other farm.table p (get_or (without farm.claims worker) k d).place (Some outcome) None
-          (All-filter (λ (c : Claim). not (c.worker == worker)) (λ (c : Claim). not (c.worker == worker) ≡ true → c.place ≢ p) farm.claims (others_elsewhere farm.claims worker p tidy.places h) k d l
+          (All-filter (λ (c : Claim). not (c.worker == worker)) (λ (c : Claim). not (c.worker == worker) ≡ true → c.place ≢ p) farm.claims
+          (others_elsewhere farm.claims worker p tidy.places h) k d l
           (filter_passes (λ (c : Claim). not (c.worker == worker)) farm.claims k d l))
           ∙ rest.untold k d l;
     }
@@ -125,11 +134,13 @@ after_none : (setting : Setting) (events : List Event) → after_events setting 
 after_none setting [] = refl
 after_none setting (event ∷ events) = refl
 
-pub events_keep_tidy : (setting : Setting) (farm next : Farm) (events : List Event) → IsTidy farm → after_events setting (Some farm) events ≡ Some next → IsTidy next
+pub events_keep_tidy : (setting : Setting) (farm next : Farm) (events : List Event) → IsTidy farm → after_events setting (Some farm) events ≡ Some next
+    → IsTidy next
 events_keep_tidy setting farm next [] tidy e = let same : farm ≡ next = cc in subst IsTidy same tidy
 events_keep_tidy setting farm next (event ∷ events) tidy e = by_step (step setting farm event) refl e (λ between. events_keep_tidy setting between next events)
   where
-    by_step : (found : Option Farm) → step setting farm event ≡ found → after_events setting found events ≡ Some next → ((between : Farm) → IsTidy between → after_events setting (Some between) events ≡ Some next → IsTidy next) → IsTidy next
+    by_step : (found : Option Farm) → step setting farm event ≡ found → after_events setting found events ≡ Some next
+        → ((between : Farm) → IsTidy between → after_events setting (Some between) events ≡ Some next → IsTidy next) → IsTidy next
     by_step None is k rest = absurd (clash (sym (after_none setting events) ∙ k))
       where
         clash : {x : Farm} → None ≡ Some x → ⊥
@@ -139,7 +150,8 @@ events_keep_tidy setting farm next (event ∷ events) tidy e = by_step (step set
 pub untold_at : (farm : Farm) (worker p : ℕ) → IsTidy farm → stands farm.claims worker p ≡ true → outcomes_of_table farm.table p ≡ None
 untold_at farm worker p tidy h = find farm.claims tidy.untold h
   where
-    find : (claims : List Claim) → All (λ (c : Claim). outcomes_of_table farm.table c.place ≡ None) claims → stands claims worker p ≡ true → outcomes_of_table farm.table p ≡ None
+    find : (claims : List Claim) → All (λ (c : Claim). outcomes_of_table farm.table c.place ≡ None) claims → stands claims worker p ≡ true
+        → outcomes_of_table farm.table p ≡ None
     find [] all k = cc
     find (c ∷ cs) all k =
         ⊎_elim
@@ -147,14 +159,16 @@ untold_at farm worker p tidy h = find farm.claims tidy.untold h
         (λ not_here. find cs (λ i d l. all (suc i) d (omega arith)) (ap (λ (b : Bool). b || stands cs worker p) (sym not_here) ∙ k))
         (cases_Bool ((c.worker == worker) && (c.place == p)))
 
-pub events_append : (setting : Setting) (farm : Option Farm) (first second : List Event) → after_events setting farm (first ++ second) ≡ after_events setting (after_events setting farm first) second
+pub events_append : (setting : Setting) (farm : Option Farm) (first second : List Event)
+    → after_events setting farm (first ++ second) ≡ after_events setting (after_events setting farm first) second
 events_append setting farm [] second = refl
 events_append setting None (event ∷ first) second = sym (after_none setting second)
 events_append setting (Some farm) (event ∷ first) second = events_append setting (step setting farm event) first second
 
 -- ---- without claims
 
-pub place_without_claims : (setting : Setting) (table : List (Option Outcome)) (p : ℕ) → (consumed setting table).end ≡ Open p → best_place setting (record { table = table; claims = [] }) ≡ Some p
+pub place_without_claims : (setting : Setting) (table : List (Option Outcome)) (p : ℕ) → (consumed setting table).end ≡ Open p
+    → best_place setting (record { table = table; claims = [] }) ≡ Some p
 place_without_claims setting table p e =
     ap (λ (x : End). place_at setting (record { table = table; claims = [] }) (consumed setting table) x) e
     ∙ ap place_of

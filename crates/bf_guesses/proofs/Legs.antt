@@ -35,7 +35,8 @@ left_after-one (Some k) n = let e : k - suc n ≡ k - 1 - n = omega arith in ap 
 module _ (graph : List (List ℕ)) (known more : Outcomes) (g : IsGraph graph) (part : IsPartOf known more) where
   -- the run goes on after that one
   abbrev Follows : Option ℕ → Run → Search → Type 0
-  Follows left first s = is_open first.end ≡ true → run graph more left s ≡ in_sequence first (run graph more (left_after left (length first.used)) first.search)
+  Follows left first s = is_open first.end ≡ true
+      → run graph more left s ≡ in_sequence first (run graph more (left_after left (length first.used)) first.search)
 
   abbrev StepFollows : Option ℕ → Run → Run → Type 0
   StepFollows left first whole = is_open first.end ≡ true → whole ≡ in_sequence first (run graph more (left_after left (length first.used)) first.search)
@@ -46,31 +47,37 @@ module _ (graph : List (List ℕ)) (known more : Outcomes) (g : IsGraph graph) (
   turn-is (Some (suc k)) s h = refl
 
   -- from the state that was asked the run goes on with the same ask
-  from_asked : (left : Option ℕ) (s : Search) (p : ℕ) → IsUnspent left → IsSearchOver graph s → (ask graph s).step.ask ≡ Test p → run graph more left (ask graph s).search ≡ after_look more (run graph more) left (ask graph s).search p (more p)
+  from_asked : (left : Option ℕ) (s : Search) (p : ℕ) → IsUnspent left → IsSearchOver graph s → (ask graph s).step.ask ≡ Test p
+      → run graph more left (ask graph s).search ≡ after_look more (run graph more) left (ask graph s).search p (more p)
   from_asked left s p on over h =
       run-is graph more left (ask graph s).search g (over_asked graph known more g part s p over h)
       ∙ turn-is left (ask graph s).search on
       ∙ ap (λ (a : Asked). after_ask more (run graph more) left a) (ask_again graph s)
       ∙ ap (λ (a : Ask). after_step more (run graph more) left (ask graph s).search a) h
 
-  verdict_follows : (go : Go) (left : Option ℕ) (t : Search) (p : ℕ) (outcome : Outcome) (v : Verdict) → ((m : Mark) → Follows (marked_one left) (go (marked_one left) (mark t m p)) (mark t m p))
+  verdict_follows : (go : Go) (left : Option ℕ) (t : Search) (p : ℕ) (outcome : Outcome) (v : Verdict)
+      → ((m : Mark) → Follows (marked_one left) (go (marked_one left) (mark t m p)) (mark t m p))
       → StepFollows left (with_used p outcome (after_verdict go left t p outcome v)) (with_used p outcome (after_verdict (run graph more) left t p outcome v))
   verdict_follows go left t p outcome Abort h = λ e. cc
   verdict_follows go left t p outcome (MarkOf m) h = λ e.
       ap (λ (r : Run). with_used p outcome (with_entries (Marked m p ∷ []) r)) (h m e)
-      ∙ ap (λ (l : Option ℕ). in_sequence (with_used p outcome (with_entries (Marked m p ∷ []) (go (marked_one left) (mark t m p)))) (run graph more l (go (marked_one left) (mark t m p)).search))
+      ∙ ap (λ (l : Option ℕ). in_sequence (with_used p outcome (with_entries (Marked m p ∷ []) (go (marked_one left) (mark t m p))))
+      (run graph more l (go (marked_one left) (mark t m p)).search))
       (sym (left_after-one left (length (go (marked_one left) (mark t m p)).used)))
 
-  look_follows : (go : Go) (left : Option ℕ) (s : Search) (p : ℕ) (o : Option Outcome) → IsUnspent left → IsSearchOver graph s → (ask graph s).step.ask ≡ Test p → IfSome o (λ outcome. more p ≡ Some outcome)
+  look_follows : (go : Go) (left : Option ℕ) (s : Search) (p : ℕ) (o : Option Outcome) → IsUnspent left → IsSearchOver graph s → (ask graph s).step.ask ≡ Test p
+      → IfSome o (λ outcome. more p ≡ Some outcome)
       → ((m : Mark) → Follows (marked_one left) (go (marked_one left) (mark (ask graph s).search m p)) (mark (ask graph s).search m p))
       → StepFollows left (after_look known go left (ask graph s).search p o) (after_look more (run graph more) left (ask graph s).search p (more p))
-  look_follows go left s p None on over asks told h = λ e. sym (ap (λ (l : Option ℕ). run graph more l (ask graph s).search) (left_after-none left) ∙ from_asked left s p on over asks)
+  look_follows go left s p None on over asks told h = λ e. sym
+      (ap (λ (l : Option ℕ). run graph more l (ask graph s).search) (left_after-none left) ∙ from_asked left s p on over asks)
   look_follows go left s p (Some outcome) on over asks told h = λ e.
       ap (λ (x : Option Outcome). after_look more (run graph more) left (ask graph s).search p x) told
       ∙ verdict_follows go left (ask graph s).search p outcome (verdict_of outcome) h e
 
   step_follows : (go : Go) (left : Option ℕ) (s : Search) (a : Ask) → IsUnspent left → IsSearchOver graph s → (ask graph s).step.ask ≡ a
-      → ((p : ℕ) (m : Mark) → (ask graph s).step.ask ≡ Test p → Follows (marked_one left) (go (marked_one left) (mark (ask graph s).search m p)) (mark (ask graph s).search m p))
+      → ((p : ℕ) (m : Mark) → (ask graph s).step.ask ≡ Test p
+      → Follows (marked_one left) (go (marked_one left) (mark (ask graph s).search m p)) (mark (ask graph s).search m p))
       → StepFollows left (after_step known go left (ask graph s).search a) (after_step more (run graph more) left (ask graph s).search a)
   step_follows go left s (Test p) on over asks h = look_follows go left s p (known p) on over asks (part p) (λ m. h p m asks)
   step_follows go left s (FirstBad p) on over asks h = λ e. cc
@@ -83,17 +90,20 @@ module _ (graph : List (List ℕ)) (known more : Outcomes) (g : IsGraph graph) (
   step_follows go left s (BothSides p) on over asks h = λ e. cc
 
   ask_follows : (go : Go) (left : Option ℕ) (s : Search) → IsUnspent left → IsSearchOver graph s
-      → ((p : ℕ) (m : Mark) → (ask graph s).step.ask ≡ Test p → Follows (marked_one left) (go (marked_one left) (mark (ask graph s).search m p)) (mark (ask graph s).search m p))
+      → ((p : ℕ) (m : Mark) → (ask graph s).step.ask ≡ Test p
+      → Follows (marked_one left) (go (marked_one left) (mark (ask graph s).search m p)) (mark (ask graph s).search m p))
       → Follows left (after_ask known go left (ask graph s)) s
   ask_follows go left s on over h = λ e.
       run-is graph more left s g over
       ∙ turn-is left s on
       ∙ ap (λ (r : Run). with_entries (map (λ p. SkippedBase p) (ask graph s).step.warned) r) (step_follows go left s (ask graph s).step.ask on over refl h e)
       ∙ sym (sequence_entries (map (λ p. SkippedBase p) (ask graph s).step.warned) (after_step known go left (ask graph s).search (ask graph s).step.ask)
-      (run graph more (left_after left (length (after_step known go left (ask graph s).search (ask graph s).step.ask).used)) (after_step known go left (ask graph s).search (ask graph s).step.ask).search))
+      (run graph more (left_after left (length (after_step known go left (ask graph s).search (ask graph s).step.ask).used))
+      (after_step known go left (ask graph s).search (ask graph s).step.ask).search))
 
   turn_follows : (go : Go) (left : Option ℕ) (s : Search) → IsSearchOver graph s
-      → ((p : ℕ) (m : Mark) → (ask graph s).step.ask ≡ Test p → Follows (marked_one left) (go (marked_one left) (mark (ask graph s).search m p)) (mark (ask graph s).search m p))
+      → ((p : ℕ) (m : Mark) → (ask graph s).step.ask ≡ Test p
+      → Follows (marked_one left) (go (marked_one left) (mark (ask graph s).search m p)) (mark (ask graph s).search m p))
       → Follows left (turn graph known go left s) s
   turn_follows go (Some zero) s over h = λ e. cc
   turn_follows go (Some (suc k)) s over h = ask_follows go (Some (suc k)) s tt over h
@@ -104,7 +114,8 @@ module _ (graph : List (List ℕ)) (known more : Outcomes) (g : IsGraph graph) (
   within_follows zero left s over few = absurd (omega arith)
   within_follows (suc n) left s over few =
       turn_follows (run_within n graph known) left s over
-      (λ p m h. within_follows n (marked_one left) (mark (ask graph s).search m p) (IsSearchOver-marked graph s m p g over h) (omega (arith, left_to_ask-falls graph s m p g over h)))
+      (λ p m h. within_follows n (marked_one left) (mark (ask graph s).search m p) (IsSearchOver-marked graph s m p g over h)
+      (omega (arith, left_to_ask-falls graph s m p g over h)))
 
   pub run_follows : (left : Option ℕ) (s : Search) → IsSearchOver graph s → Follows left (run graph known left s) s
   unfolding run
@@ -112,19 +123,22 @@ module _ (graph : List (List ℕ)) (known more : Outcomes) (g : IsGraph graph) (
 
 -- ---- a core consumes from a search that has asked
 
-turn_asks : (graph : List (List ℕ)) (known : Outcomes) (go : Go) (left : Option ℕ) (s : Search) → IsUnspent left → turn graph known go left s ≡ after_ask known go left (ask graph s)
+turn_asks : (graph : List (List ℕ)) (known : Outcomes) (go : Go) (left : Option ℕ) (s : Search) → IsUnspent left
+    → turn graph known go left s ≡ after_ask known go left (ask graph s)
 turn_asks graph known go None s h = refl
 turn_asks graph known go (Some zero) s h = absurd h
 turn_asks graph known go (Some (suc k)) s h = refl
 
 -- A run warns once, and goes on from the search that has asked: no warning is lost or comes twice.
-pub run_asked : (graph : List (List ℕ)) (known : Outcomes) (left : Option ℕ) (s : Search) → IsGraph graph → IsSearchOver graph s → IsSearchOver graph (ask graph s).search → IsUnspent left
+pub run_asked : (graph : List (List ℕ)) (known : Outcomes) (left : Option ℕ) (s : Search) → IsGraph graph → IsSearchOver graph s
+    → IsSearchOver graph (ask graph s).search → IsUnspent left
     → run graph known left s ≡ with_entries (map (λ p. SkippedBase p) (ask graph s).step.warned) (run graph known left (ask graph s).search)
 run_asked graph known left s g over asked unspent =
     run-is graph known left s g over
     ∙ turn_asks graph known (run graph known) left s unspent
     ∙ sym (ap (λ (r : Run). with_entries (map (λ p. SkippedBase p) (ask graph s).step.warned) r)
-    (run-is graph known left (ask graph s).search g asked ∙ turn_asks graph known (run graph known) left (ask graph s).search unspent ∙ ap (λ (a : Asked). after_ask known (run graph known) left a) (ask_again graph s)))
+    (run-is graph known left (ask graph s).search g asked ∙ turn_asks graph known (run graph known) left (ask graph s).search unspent ∙ ap
+    (λ (a : Asked). after_ask known (run graph known) left a) (ask_again graph s)))
 
 -- the places of a search that has asked are places of the graph
 pub asked_over : (graph : List (List ℕ)) (s : Search) → IsGraph graph → IsSearchOver graph s → IsSearchOver graph (ask graph s).search

@@ -1,5 +1,6 @@
 -- Candidates in one line: the best of them halves them.
-use Rattle.std.proofs.Common.{◌≡◌, ℕ, zero, suc, ◌+◌, ◌-◌, ◌<◌, ◌≤◌, ◌⊎◌, min, Bool, true, false, ◌&&◌, cond, List, [], ◌∷◌, ◌++◌, length, map, Some, refl, sym, ap, ◌∙◌, inl, inr, ⊎_elim, arith, zero-add}
+use Rattle.std.proofs.Common.{◌≡◌, ℕ, zero, suc, ◌+◌, ◌-◌, ◌<◌, ◌≤◌, ◌⊎◌, min, Bool, true, false, ◌&&◌, cond, List, [], ◌∷◌, ◌++◌, length, map, Some, refl, sym}
+use Rattle.std.proofs.Common.{ap, ◌∙◌, inl, inr, ⊎_elim, arith, zero-add}
 use Rattle.std.proofs.Math.Nat.{min-le_left, min-le_right, le-min}
 use Rattle.std.proofs.lemmas.Bool.{and_parts, and_from, not_from_false, false_from_ne_true, cases_Bool, cond-true, ne_eqb, leb-true}
 use Rattle.std.proofs.lemmas.Bool.Decides.{leb_tells}
@@ -35,7 +36,13 @@ first_of f n = count_by f (range_with_len 0 n)
 
 pub first_more : (f : ℕ → Bool) (n : ℕ) → first_of f (suc n) ≡ first_of f n + cond (f n) 1 0
 first_more f n =
-    omega (arith, ap (count_by f) (range_more 0 n n (omega arith)), sum_by-append (λ x. cond (f x) 1 0) (range_with_len 0 n) (n ∷ []), sum_by-cons (λ x. cond (f x) 1 0) n [])
+    omega (
+      arith,
+      ap (count_by f) (range_more 0 n n (omega arith)),
+      sum_by-append (λ x. cond (f x) 1 0) (range_with_len 0 n) (n ∷ []),
+      sum_by-cons
+          (λ x. cond (f x) 1 0) n [],
+    )
 
 pub first_same : (f h : ℕ → Bool) (n : ℕ) → ((r : ℕ) → r < n → f r ≡ h r) → first_of f n ≡ first_of h n
 first_same f h zero e = refl
@@ -45,11 +52,19 @@ first_quiet : (f : ℕ → Bool) (m k n : ℕ) → m + k ≡ n → ((r : ℕ) �
 first_quiet f m zero n e h = let same : n ≡ m = omega arith in ap (λ (x : ℕ). first_of f x) same
 first_quiet f m (suc k) n e h =
     let same : n ≡ suc (m + k) = omega arith in
-    omega (arith, ap (λ (x : ℕ). first_of f x) same, first_more f (m + k), ap as_number (h (m + k) (omega arith) (omega arith)), first_quiet f m k (m + k) refl (λ r l k'. h r l (omega arith)))
+    omega (
+      arith,
+      ap (λ (x : ℕ). first_of f x) same,
+      first_more f (m + k),
+      ap as_number (h (m + k) (omega arith) (omega arith)),
+      first_quiet f m k (m + k) refl
+          (λ r l k'. h r l (omega arith)),
+    )
 
 first_mono : (f : ℕ → Bool) (m k n : ℕ) → m + k ≡ n → first_of f m ≤ first_of f n
 first_mono f m zero n e = let same : n ≡ m = omega arith in omega (arith, ap (λ (x : ℕ). first_of f x) same)
-first_mono f m (suc k) n e = let same : n ≡ suc (m + k) = omega arith in omega (arith, ap (λ (x : ℕ). first_of f x) same, first_more f (m + k), first_mono f m k (m + k) refl)
+first_mono f m (suc k) n e = let same : n ≡ suc (m + k) = omega arith in omega
+    (arith, ap (λ (x : ℕ). first_of f x) same, first_more f (m + k), first_mono f m k (m + k) refl)
 
 -- where so many pass, some place is the h-th that does
 found_at : (f : ℕ → Bool) (n h : ℕ) → 1 ≤ h → h ≤ first_of f n → (p : ℕ) × (p < n) × (f p ≡ true) × (first_of f (suc p) ≡ h)
@@ -67,10 +82,19 @@ found_at f (suc n) h low high =
     cases_le : (a b : ℕ) → (a ≤ b) ⊎ (b < a)
     cases_le a b = ⊎_elim (λ t. inl t.1) (λ t. inr t.1) (leb_tells a b)
 
-pub parts_count : (whole one other : ℕ → Bool) (xs : List ℕ) → ((p : ℕ) → IsParted (whole p) (one p) (other p)) → count_by one xs + count_by other xs ≡ count_by whole xs
+pub parts_count : (whole one other : ℕ → Bool) (xs : List ℕ) → ((p : ℕ) → IsParted (whole p) (one p) (other p))
+    → count_by one xs + count_by other xs ≡ count_by whole xs
 parts_count whole one other [] h = refl
 parts_count whole one other (x ∷ xs) h =
-    omega (arith, sum_by-cons (λ y. cond (whole y) 1 0) x xs, sum_by-cons (λ y. cond (one y) 1 0) x xs, sum_by-cons (λ y. cond (other y) 1 0) x xs, at (whole x) (one x) (other x) (h x), parts_count whole one other xs h)
+    omega (
+      arith,
+      sum_by-cons (λ y. cond (whole y) 1 0) x xs,
+      sum_by-cons (λ y. cond (one y) 1 0) x xs,
+      sum_by-cons (λ y. cond (other y) 1 0) x xs,
+      at (whole x)
+          (one x) (other x) (h x),
+      parts_count whole one other xs h,
+    )
   where
     at : (w a b : Bool) → IsParted w a b → cond a 1 0 + cond b 1 0 ≡ cond w 1 0
     at true true true k = let e = k.apart in cc
@@ -119,10 +143,12 @@ module _ (graph : List (List ℕ)) (s : Search) (bad : ℕ) (g : IsGraph graph) 
           let down : r ≤ p = Reaches-le mode_is (Reaches-from_test Mode p r (and_parts (is_in Row r) (reaches Mode p r) k).1) in omega arith)
 
       reached : (r : ℕ) → r < suc p → Has r ≡ true → Reaches Mode p r
-      reached r l k = ⊎_elim (λ down. down) (λ (up : Reaches Mode r p). let high : p ≤ r = Reaches-le mode_is up in Reaches-same Mode p r (omega arith)) (line p r here k)
+      reached r l k = ⊎_elim (λ down. down) (λ (up : Reaches Mode r p). let high : p ≤ r = Reaches-le mode_is up in Reaches-same Mode p r (omega arith))
+          (line p r here k)
 
       earlier : (r : ℕ) → r < suc p → (Has r ≡ true) ⊎ (Has r ≡ false) → (is_in Row r && reaches Mode p r) ≡ Has r
-      earlier r l (inl k) = and_from _ _ (is_in-candidate_row graph bad s.goods s.first_parent r (omega arith) ∙ k) (reaches-true Mode p r mode_is (reached r l k)) ∙ sym k
+      earlier r l (inl k) = and_from _ _ (is_in-candidate_row graph bad s.goods s.first_parent r (omega arith) ∙ k)
+          (reaches-true Mode p r mode_is (reached r l k)) ∙ sym k
       earlier r l (inr k) = ap (λ (b : Bool). b && reaches Mode p r) (is_in-candidate_row graph bad s.goods s.first_parent r (omega arith) ∙ k) ∙ sym k
 
   -- all candidates stand at or below the bad place
@@ -136,13 +162,28 @@ module _ (graph : List (List ℕ)) (s : Search) (bad : ℕ) (g : IsGraph graph) 
   bad_is_one q k =
       let c : IsCandidate graph bad s.goods s.first_parent q = IsCandidate-from_test graph bad s.goods s.first_parent q g k in
       is_candidate-true graph bad s.goods s.first_parent bad g
-      (record { reached = Reaches-refl Mode bad; not_good = λ (x : SomeReaches graph s.goods bad). c.not_good (record { source = x.source; among = x.among; leads = Reaches-trans x.leads (Reaches-in_mode graph s.first_parent bad q c.reached) }) })
+      (record {
+        reached = Reaches-refl Mode bad;
+        not_good =
+            λ (x : SomeReaches graph s.goods bad).
+            let leads = Reaches-trans x.leads (Reaches-in_mode graph s.first_parent bad q c.reached) in
+            c.not_good (record { source = x.source; among = x.among; leads = leads });
+      })
 
   two_at_least : (q : ℕ) → Has q ≡ true → (q ≡ bad → ⊥) → bad < length graph → 2 ≤ count_all
   two_at_least q k other place =
       let low : q ≤ bad = Reaches-le mode_is (IsCandidate-from_test graph bad s.goods s.first_parent q g k).reached in
       let below : suc q ≤ bad = under low in
-      omega (arith, all_below place, first_more Has bad, ap as_number (bad_is_one q k), first_mono Has (suc q) (bad - suc q) bad (omega arith), first_more Has q, ap as_number k)
+      omega (
+        arith,
+        all_below place,
+        first_more Has bad,
+        ap as_number (bad_is_one q k),
+        first_mono Has (suc q) (bad - suc q) bad (omega arith),
+        first_more Has
+            q,
+        ap as_number k,
+      )
     where
       under : q ≤ bad → suc q ≤ bad
       under low = ⊎_elim (λ t. t.1) (λ t. let high : bad < suc q = t.1 in absurd (other (omega arith))) (leb_tells (suc q) bad)
@@ -167,20 +208,30 @@ module _ (graph : List (List ℕ)) (s : Search) (bad : ℕ) (g : IsGraph graph) 
       ∙ weight_is p line place here
 
   -- no candidate has a greater value than the best
-  best_leads : (p q : ℕ) → ((r : ℕ) → is_in s.skips r ≡ false) → best_of graph s bad ≡ Some q → p < length graph → Has p ≡ true → (p ≡ bad → ⊥) → Value p ≤ Value q
+  best_leads : (p q : ℕ) → ((r : ℕ) → is_in s.skips r ≡ false) → best_of graph s bad ≡ Some q → p < length graph → Has p ≡ true → (p ≡ bad → ⊥)
+      → Value p ≤ Value q
   unfolding best_of best
   best_leads p q unskipped chosen place here other =
       leb-true (Value p) (Value q)
       (All-contains (λ x. nat_le (Value x) (Value q) ≡ true) (eligible Row bad s.skips) p
-      (AllPass-from_list_all (λ x. nat_le (Value x) (Value q)) (eligible Row bad s.skips) (find_tells (λ y. list_all (λ x. nat_le (Value x) (Value y)) (eligible Row bad s.skips)) (eligible Row bad s.skips) q chosen).1)
-      (filter_has (λ x. is_eligible Row bad s.skips x) (range_with_len 0 (length Row)) p
-      (p, omega (arith, length-range_with_len 0 (length Row), length-candidate_row graph bad s.goods s.first_parent), get_or-range_with_len 0 (length Row) p p (omega (arith, length-candidate_row graph bad s.goods s.first_parent)) ∙ zero-add p)
-      (and_from _ _ (and_from _ _ (is_in-candidate_row graph bad s.goods s.first_parent p place ∙ here) (not_from_false _ (ne_eqb p bad other))) (not_from_false _ (unskipped p)))))
+      (AllPass-from_list_all (λ x. nat_le (Value x) (Value q)) (eligible Row bad s.skips)
+      (find_tells (λ y. list_all (λ x. nat_le (Value x) (Value y)) (eligible Row bad s.skips)) (eligible Row bad s.skips) q chosen).1)
+      (filter_has (λ x. is_eligible Row bad s.skips x) (range_with_len 0 (length Row)) p (
+        p,
+        omega (arith, length-range_with_len 0 (length Row), length-candidate_row graph bad s.goods s.first_parent),
+        get_or-range_with_len 0 (length Row) p p
+            (omega (arith, length-candidate_row graph bad s.goods s.first_parent)) ∙ zero-add p,
+      )
+      (and_from _ _ (and_from _ _ (is_in-candidate_row graph bad s.goods s.first_parent p place ∙ here) (not_from_false _ (ne_eqb p bad other)))
+      (not_from_false _ (unskipped p)))))
 
   -- what the best candidate leaves on both sides
-  pub best_halves : (q : ℕ) → Line → ((r : ℕ) → is_in s.skips r ≡ false) → best_of graph s bad ≡ Some q → q < length graph → bad < length graph → Has q ≡ true → (q ≡ bad → ⊥)
-      → (h : ℕ) × (1 ≤ h) × (h + h ≤ first_of Has (length graph)) × (first_of Has (length graph) ≤ h + h + 1) × (h ≤ first_of Has (suc q)) × (h + first_of Has (suc q) ≤ first_of Has (length graph))
-  best_halves q line unskipped chosen place bad_place here other = (h, some_half, half.1, half.2, omega (arith, left_side), omega (arith, right_side, some_half))
+  pub best_halves : (q : ℕ) → Line → ((r : ℕ) → is_in s.skips r ≡ false) → best_of graph s bad ≡ Some q → q < length graph → bad < length graph → Has q ≡ true
+      → (q ≡ bad → ⊥)
+      → (h : ℕ) × (1 ≤ h) × (h + h ≤ first_of Has (length graph)) × (first_of Has (length graph) ≤ h + h + 1) × (h ≤ first_of Has (suc q))
+      × (h + first_of Has (suc q) ≤ first_of Has (length graph))
+  best_halves q line unskipped chosen place bad_place here other =
+      (h, some_half, half.1, half.2, omega (arith, left_side), omega (arith, right_side, some_half))
     where
       half : (x : ℕ) × (x + x ≤ first_of Has (length graph)) × (first_of Has (length graph) ≤ x + x + 1)
       half = halves_of (first_of Has (length graph))
@@ -222,6 +273,7 @@ module _ (graph : List (List ℕ)) (s : Search) (bad : ℕ) (g : IsGraph graph) 
   pub reached_count : (q : ℕ) → Line → q < length graph → Has q ≡ true → first_of (λ p. Has p && reaches Mode q p) (length graph) ≡ first_of Has (suc q)
   unfolding weight
   reached_count q line place here =
-      first_same (λ p. Has p && reaches Mode q p) (λ p. is_in Row p && reaches Mode q p) (length graph) (λ r l. ap (λ (b : Bool). b && reaches Mode q r) (sym (is_in-candidate_row graph bad s.goods s.first_parent r l)))
+      first_same (λ p. Has p && reaches Mode q p) (λ p. is_in Row p && reaches Mode q p) (length graph)
+      (λ r l. ap (λ (b : Bool). b && reaches Mode q r) (sym (is_in-candidate_row graph bad s.goods s.first_parent r l)))
       ∙ sym (ap (λ (n : ℕ). count_by (λ p. is_in Row p && reaches Mode q p) (range_with_len 0 n)) (length-in_mode graph s.first_parent))
       ∙ weight_is q line place here

@@ -28,8 +28,10 @@ same_mask graph s t b g f = ap (λ (o : Option ℕ). row_below graph o t) b ∙ 
     below None = refl
     below (Some bad) = ap (λ (gs : List ℕ). candidate_row graph bad gs t.first_parent) g ∙ ap (λ (v : Bool). candidate_row graph bad s.goods v) f
 
-same_weights : (graph : List (List ℕ)) (s t : Search) → t.bad ≡ s.bad → t.goods ≡ s.goods → t.first_parent ≡ s.first_parent → weights_of graph t ≡ weights_of graph s
-same_weights graph s t b g f = ap (λ (m : List Bool). weights graph m t.first_parent) (same_mask graph s t b g f) ∙ ap (λ (v : Bool). weights graph (mask_of graph s) v) f
+same_weights : (graph : List (List ℕ)) (s t : Search) → t.bad ≡ s.bad → t.goods ≡ s.goods → t.first_parent ≡ s.first_parent
+    → weights_of graph t ≡ weights_of graph s
+same_weights graph s t b g f = ap (λ (m : List Bool). weights graph m t.first_parent) (same_mask graph s t b g f) ∙ ap
+    (λ (v : Bool). weights graph (mask_of graph s) v) f
 
 asked_bad : (graph : List (List ℕ)) (s : Search) → (ask graph s).search.bad ≡ s.bad
 asked_bad graph s = ap (λ (t : Search). t.bad) (ask_leaves graph s)
@@ -74,7 +76,8 @@ row_of : (graph : List (List ℕ)) (s : Search) (bad : ℕ) → s.bad ≡ Some b
 unfolding candidate_row
 row_of graph s bad b = subst (λ (o : Option ℕ). row_below graph o s ≡ map (λ p. is_candidate_below graph o s p) (places graph)) (sym b) refl
 
-pub after_good : (graph : List (List ℕ)) (s : Search) (q p : ℕ) → IsGraph graph → (ask graph s).step.ask ≡ Test q → is_candidate_of graph (mark (ask graph s).search Good q) p ≡ (is_candidate_of graph s p && not (reaches graph q p))
+pub after_good : (graph : List (List ℕ)) (s : Search) (q p : ℕ) → IsGraph graph → (ask graph s).step.ask ≡ Test q
+    → is_candidate_of graph (mark (ask graph s).search Good q) p ≡ (is_candidate_of graph s p && not (reaches graph q p))
 unfolding mark is_candidate
 after_good graph s q p g h =
     ap (λ (o : Option ℕ). is_candidate_below graph o (mark t Good q) p) (a.same.bad ∙ a.asks_for.bad_is)
@@ -91,17 +94,20 @@ after_good graph s q p g h =
     a = asking graph s q g h
 
     goods_are : cond (has_place t.goods q) t.goods (t.goods ++ q ∷ []) ≡ s.goods ++ q ∷ []
-    goods_are = cond-false (has_place t.goods q) t.goods (t.goods ++ q ∷ []) (ap (λ (gs : List ℕ). has_place gs q) a.same.goods ∙ a.asks_for.not_good) ∙ ap (λ (gs : List ℕ). gs ++ q ∷ []) a.same.goods
+    goods_are = cond-false (has_place t.goods q) t.goods (t.goods ++ q ∷ []) (ap (λ (gs : List ℕ). has_place gs q) a.same.goods ∙ a.asks_for.not_good) ∙ ap
+        (λ (gs : List ℕ). gs ++ q ∷ []) a.same.goods
 
     split : (m d r : Bool) → (m && not (d || r)) ≡ ((m && not d) && not r)
     split true true r = refl
     split true false r = refl
     split false d r = refl
 
-pub after_bad : (graph : List (List ℕ)) (s : Search) (q p : ℕ) → IsGraph graph → (ask graph s).step.ask ≡ Test q → is_candidate_of graph (mark (ask graph s).search Bad q) p ≡ (is_candidate_of graph s p && reaches (in_mode graph s.first_parent) q p)
+pub after_bad : (graph : List (List ℕ)) (s : Search) (q p : ℕ) → IsGraph graph → (ask graph s).step.ask ≡ Test q
+    → is_candidate_of graph (mark (ask graph s).search Bad q) p ≡ (is_candidate_of graph s p && reaches (in_mode graph s.first_parent) q p)
 unfolding mark is_candidate
 after_bad graph s q p g h =
-    after ∙ meet (is_candidate_of graph s p) (reaches (in_mode graph s.first_parent) a.asks_for.bad p) (reaches (in_mode graph s.first_parent) q p) (any_reaches graph s.goods p)
+    after ∙ meet (is_candidate_of graph s p) (reaches (in_mode graph s.first_parent) a.asks_for.bad p) (reaches (in_mode graph s.first_parent) q p)
+    (any_reaches graph s.goods p)
     (ap (λ (o : Option ℕ). is_candidate_below graph o s p) a.asks_for.bad_is) (λ k. other_in _ _ _ (guesses_part graph s q p g h) (after ∙ k))
   where
     t : Search
@@ -143,7 +149,8 @@ unfolding reach_row
 mask-good graph s q g h =
     row_of graph (mark (ask graph s).search Good q) a.asks_for.bad (kept_bad (ask graph s).search q ∙ a.same.bad ∙ a.asks_for.bad_is)
     ∙ (λ i. map (λ p. after_good graph s q p g h i) (places graph))
-    ∙ sym (zip2_of_maps (λ mine theirs. mine && not theirs) (λ p. is_candidate_of graph s p) (λ p. reaches graph q p) (places graph) (row_of graph s a.asks_for.bad a.asks_for.bad_is) refl)
+    ∙ sym (zip2_of_maps (λ mine theirs. mine && not theirs) (λ p. is_candidate_of graph s p) (λ p. reaches graph q p) (places graph)
+    (row_of graph s a.asks_for.bad a.asks_for.bad_is) refl)
   where
     a : Asking graph s (ask graph s) q
     a = asking graph s q g h
@@ -154,7 +161,8 @@ unfolding reach_row
 mask-bad graph s q g h =
     row_of graph (mark (ask graph s).search Bad q) q (new_bad (ask graph s).search q)
     ∙ (λ i. map (λ p. after_bad graph s q p g h i) (places graph))
-    ∙ sym (zip2_of_maps ◌&&◌ (λ p. is_candidate_of graph s p) (λ p. reaches (in_mode graph s.first_parent) q p) (places graph) (row_of graph s a.asks_for.bad a.asks_for.bad_is)
+    ∙ sym (zip2_of_maps ◌&&◌ (λ p. is_candidate_of graph s p) (λ p. reaches (in_mode graph s.first_parent) q p) (places graph)
+    (row_of graph s a.asks_for.bad a.asks_for.bad_is)
     (ap (λ (n : ℕ). map (λ p. reaches (in_mode graph s.first_parent) q p) (range_with_len 0 n)) (length-in_mode graph s.first_parent)))
   where
     a : Asking graph s (ask graph s) q

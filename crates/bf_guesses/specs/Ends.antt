@@ -1,8 +1,10 @@
 -- What is known of a search with both ends, and of the marks that a run made.
-use Rattle.std.specs.Prelude.{◌≡◌, ◌≢◌, ℕ, zero, suc, List, [], ◌∷◌, Option, Some, None}
+use Rattle.std.specs.Prelude.{◌≡◌, ◌≢◌, ℕ, zero, suc, List, [], ◌∷◌, length, Option, Some, None}
 use Rattle.bf_search.specs.declared.entries.Entry.{Entry}
 use Rattle.bf_search.specs.declared.entries.Entry.TheVariants.{Marked}
 use Rattle.bf_search.specs.declared.outcomes.Mark.{Mark}
+use Rattle.bf_search.specs.Outcomes.{Outcomes}
+use Rattle.bf_search.specs.Run.{Run, left_after, run}
 use Rattle.bf_search.specs.State.{Search}
 
 -- a bad place and a good one are known
@@ -22,3 +24,7 @@ abbrev pub IsUnspent : Option ℕ → Type 0
 IsUnspent None = Unit {0}
 IsUnspent (Some zero) = ⊥
 IsUnspent (Some (suc k)) = Unit {0}
+
+-- the run from where another one ended, to the end of the same leg
+abbrev pub run_on : List (List ℕ) → Outcomes → Option ℕ → Run → Run
+run_on graph known left first = run graph known (left_after left (length first.used)) first.search

@@ -22,7 +22,8 @@ pub fn posts_tell_what_is_not_known()
 /// Events one list after another lead where both lists lead together.
 pub fn events_go_on()
     ensures { (setting : Setting) (farm : Option Farm) (first second : List Event) →
-        after_events setting farm (first ++ second) ≡ after_events setting (after_events setting farm first) second }
+        after_events setting farm (first ++ second)
+        ≡ after_events setting (after_events setting farm first) second }
 {}
 
 /// Where there is no ending and no claim, the place for which the run waits is the best one.

@@ -30,12 +30,14 @@ pub fn a_skip_changes_no_candidate()
 pub fn candidates_after_good()
     ensures { (graph : List (List ℕ)) (s : Search) (q : ℕ) → IsGraph graph →
         (ask graph s).step.ask ≡ Test q →
-        mask_of graph (mark (ask graph s).search Good q) ≡ zip2 (λ mine theirs. mine && not theirs) (mask_of graph s) (reach_row graph q) }
+        mask_of graph (mark (ask graph s).search Good q)
+        ≡ zip2 (λ mine theirs. mine && not theirs) (mask_of graph s) (reach_row graph q) }
 {}
 
 /// After bad the candidates are left that the asked place reaches in the mode: none after a merge base.
 pub fn candidates_after_bad()
     ensures { (graph : List (List ℕ)) (s : Search) (q : ℕ) → IsGraph graph →
         (ask graph s).step.ask ≡ Test q →
-        mask_of graph (mark (ask graph s).search Bad q) ≡ zip2 ◌&&◌ (mask_of graph s) (reach_row (in_mode graph s.first_parent) q) }
+        mask_of graph (mark (ask graph s).search Bad q)
+        ≡ zip2 ◌&&◌ (mask_of graph s) (reach_row (in_mode graph s.first_parent) q) }
 {}

@@ -9,11 +9,11 @@ ghost use Rattle.bf_search.specs.declared.outcomes.Mark.TheVariants.{Bad};
 ghost use Rattle.bf_search.specs.declared.outcomes.Outcome.{Outcome};
 ghost use Rattle.bf_search.specs.Outcomes.{Outcomes, outcomes_of_pairs};
 ghost use Rattle.bf_search.specs.State.{Search, IsSearchOver, ask, mark};
-ghost use Rattle.bf_search.specs.Run.{Leg, Open, left_after, with_entries, run, seq};
+ghost use Rattle.bf_search.specs.Run.{Leg, Open, with_entries, run, one_at_a_time};
 ghost use Rattle.bf_search.specs.OpenPaths.{left_of};
 ghost use Rattle.bf_search.specs.Farm.{end_of};
 ghost use Rattle.bf_state.specs.Runs.{IsPartOf, is_open, is_unfinished, in_sequence};
-ghost use Rattle.bf_guesses.specs.Ends.{HasEnds, marks_of, IsUnspent};
+ghost use Rattle.bf_guesses.specs.Ends.{HasEnds, marks_of, IsUnspent, run_on};
 ghost use Rattle.bf_guesses.specs.Halving.{IsLine, NoneSkipped, IsGoodOrBad};
 ghost use Rattle.bf_guesses.specs.Used.{TellsUsed};
 
@@ -22,19 +22,23 @@ pub fn open_runs_go_on()
     ensures { (graph : List (List ℕ)) (s : Search) (known more : Outcomes) (left : Option ℕ) →
         IsGraph graph → IsSearchOver graph s → IsPartOf known more →
         is_open (run graph known left s).end ≡ true →
-        run graph more left s ≡ in_sequence (run graph known left s) (run graph more (left_after left (length (run graph known left s).used)) (run graph known left s).search) }
+        run graph more left s
+        ≡ in_sequence (run graph known left s) (run_on graph more left (run graph known left s)) }
 {}
 
 /// The places of a search that has asked are places of the graph.
 pub fn asks_stay_within_the_graph()
-    ensures { (graph : List (List ℕ)) (s : Search) → IsGraph graph → IsSearchOver graph s → IsSearchOver graph (ask graph s).search }
+    ensures { (graph : List (List ℕ)) (s : Search) →
+        IsGraph graph → IsSearchOver graph s → IsSearchOver graph (ask graph s).search }
 {}
 
 /// A run warns once, and goes on from the search that has asked: no warning is lost or comes twice.
 pub fn runs_warn_once()
     ensures { (graph : List (List ℕ)) (known : Outcomes) (left : Option ℕ) (s : Search) →
         IsGraph graph → IsSearchOver graph s → IsUnspent left →
-        run graph known left s ≡ with_entries (map (λ p. SkippedBase p) (ask graph s).step.warned) (run graph known left (ask graph s).search) }
+        run graph known left s
+        ≡ with_entries (map (λ p. SkippedBase p) (ask graph s).step.warned)
+        (run graph known left (ask graph s).search) }
 {}
 
 /// Outcomes that tell what a run used, and not the one that it waits for, give the same run.
@@ -51,7 +55,8 @@ pub fn used_outcomes_are_known()
 
 /// More outcomes change nothing of a run that waits for one that is not among them.
 pub fn outcomes_off_the_path()
-    ensures { (graph : List (List ℕ)) (known more : Outcomes) (left : Option ℕ) (s : Search) (p : ℕ) →
+    ensures { (graph : List (List ℕ)) (known more : Outcomes) (left : Option ℕ) (s : Search)
+        (p : ℕ) →
         IsPartOf known more → (run graph known left s).end ≡ Open p → more p ≡ None →
         run graph more left s ≡ run graph known left s }
 {}
@@ -65,7 +70,8 @@ pub fn same_outcomes_same_run()
 /// The pairs that a run used tell the run in all its parts.
 pub fn used_pairs_tell_the_run()
     ensures { (graph : List (List ℕ)) (known : Outcomes) (left : Option ℕ) (s : Search) →
-        run graph (outcomes_of_pairs (run graph known left s).used) left s ≡ run graph known left s }
+        run graph (outcomes_of_pairs (run graph known left s).used) left s
+        ≡ run graph known left s }
 {}
 
 /// The pairs that a run used have different places.
@@ -79,7 +85,8 @@ pub fn used_places_differ()
 pub fn cause_of_a_leg()
     ensures { (graph : List (List ℕ)) (known : Outcomes) (s : Search) (k : ℕ) → IsGraph graph →
         IsSearchOver graph s →
-        ((seq graph s known k).end ≡ Leg ↔ ((0 < k) × (length (marks_of (seq graph s known k).entries) ≡ k))) }
+        ((one_at_a_time graph s known k).end ≡ Leg
+        ↔ ((0 < k) × (length (marks_of (one_at_a_time graph s known k).entries) ≡ k))) }
 {}
 
 /// Each outcome that a run used was marked, where it ended with its leg or for want of an outcome.
@@ -93,7 +100,11 @@ pub fn used_outcomes_are_marked()
 pub fn waiting_runs_have_asked()
     ensures { (graph : List (List ℕ)) (known : Outcomes) (left : Option ℕ) (s : Search) (p : ℕ) →
         (run graph known left s).end ≡ Open p →
-        ask graph (run graph known left s).search ≡ record { search = (run graph known left s).search; step = record { warned = []; ask = Test p } } }
+        ask graph (run graph known left s).search
+        ≡ record {
+          search = (run graph known left s).search;
+          step = record { warned = []; ask = Test p };
+        } }
 {}
 
 /// From a state with both ends a run ends as an ending tells: with no ask for an end, and no ask for a test.
@@ -112,14 +123,15 @@ pub fn ends_stay_known()
 pub fn whole_plans_end()
     ensures { (graph : List (List ℕ)) (known : Outcomes) (s : Search) → IsGraph graph →
         IsSearchOver graph s → ((p : ℕ) → (outcome : Outcome) × (known p ≡ Some outcome)) →
-        is_unfinished (seq graph s known 0).end ≡ false }
+        is_unfinished (one_at_a_time graph s known 0).end ≡ false }
 {}
 
 /// A merge base that was asked and is bad ends the search: the next ask tells it.
 pub fn bad_bases_are_told()
     ensures { (graph : List (List ℕ)) (s : Search) (q : ℕ) → IsGraph graph →
         (ask graph s).step.ask ≡ Test q → (ask graph s).search.checked ≡ false →
-        (ask graph (mark (ask graph s).search Bad q)).step ≡ record { warned = []; ask = MergeBaseBad q } }
+        (ask graph (mark (ask graph s).search Bad q)).step
+        ≡ record { warned = []; ask = MergeBaseBad q } }
 {}
 
 /// Where the candidates stand in one line, a run that tests `n` of them, each good or bad, began with more

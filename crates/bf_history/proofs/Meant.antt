@@ -1,5 +1,6 @@
 -- How meanings are composed: what a call gives is joined from what its own calls give, each lemma for one step.
-use Rattle.std.proofs.Common.{◌≡◌, ℕ, suc, ◌+◌, ◌<◌, ◌≤◌, List, [], ◌∷◌, ◌++◌, length, drop, get_or, Result, Ok, Err, refl, sym, ◌∙◌, ap, subst, append_assoc, add-one}
+use Rattle.std.proofs.Common.{◌≡◌, ℕ, suc, ◌+◌, ◌<◌, ◌≤◌, List, [], ◌∷◌, ◌++◌, length, drop, get_or, Result, Ok, Err, refl, sym, ◌∙◌, ap, subst, append_assoc}
+use Rattle.std.proofs.Common.{add-one}
 use Rattle.std.specs.Result.{IsErrAnd}
 use Rattle.std.proofs.Math.Seq.{drop-cons}
 use Rattle.std.proofs.lemmas.List.{append-nil, drop_all}
@@ -31,7 +32,8 @@ means_alike view other (faults.TooLarge what) meant again alike means = alike me
 means_alike view other faults.NoMemory meant again alike means = tt
 
 -- equal meanings are given alike
-pub means_same : {X Y : Type 0} (view : X → Y) (result : Result X ImportFault) (meant again : Result Y ImportFault) → meant ≡ again → Means view result meant → Means view result again
+pub means_same : {X Y : Type 0} (view : X → Y) (result : Result X ImportFault) (meant again : Result Y ImportFault) → meant ≡ again → Means view result meant
+    → Means view result again
 means_same view result meant again same means = subst (λ (m : Result _ ImportFault). Means view result m) same means
 
 -- what the exit of a `?` returns
@@ -47,7 +49,8 @@ module _ {X Y Z W : Type 0} (view : X → Y) (other : Z → W) (meant : Result Y
   means_stopped fault means = means_alike view other fault meant (meant >>= next) (λ is. ap (λ (m : Result Y ImportFault). m >>= next) is) means
 
   -- the same at the exit of a `?`
-  pub means_passed_on : (fault : ImportFault) (result : Result Z ImportFault) → IsErrAnd result (λ other. other ≡ fault) → Means view (Err fault) meant → Means other result (meant >>= next)
+  pub means_passed_on : (fault : ImportFault) (result : Result Z ImportFault) → IsErrAnd result (λ other. other ≡ fault) → Means view (Err fault) meant
+      → Means other result (meant >>= next)
   means_passed_on fault result exit means = means_at_exit other (meant >>= next) fault result exit (means_stopped fault means)
 
   -- the first step gave a value, and the next went on with it
@@ -69,10 +72,12 @@ in_front done y (Err fault) = refl
 module _ {X Y : Type 0} (value : X → Result Y ImportFault) (items : List X) (index : ℕ) (done : List Y) where
   -- the next item, and those behind it
   next_item : (x : X) → index < length items → x ≡ get_or items index x → drop index items ≡ x ∷ drop (index + 1) items
-  next_item x lt here = drop-cons items index x lt ∙ ap (λ (y : X). y ∷ drop (suc index) items) (sym here) ∙ ap (λ (i : ℕ). x ∷ drop i items) (sym (add-one index))
+  next_item x lt here = drop-cons items index x lt ∙ ap (λ (y : X). y ∷ drop (suc index) items) (sym here) ∙ ap (λ (i : ℕ). x ∷ drop i items)
+      (sym (add-one index))
 
   -- the next item gave its value
-  pub each_more : (x : X) (y : Y) → index < length items → x ≡ get_or items index x → value x ≡ Ok y → EachSoFar value items index done → EachSoFar value items (index + 1) (done ++ y ∷ [])
+  pub each_more : (x : X) (y : Y) → index < length items → x ≡ get_or items index x → value x ≡ Ok y → EachSoFar value items index done
+      → EachSoFar value items (index + 1) (done ++ y ∷ [])
   unfolding each_of
   each_more x y lt here is so_far =
       so_far
@@ -81,7 +86,8 @@ module _ {X Y : Type 0} (value : X → Result Y ImportFault) (items : List X) (i
       ∙ in_front done y (each_of value (drop (index + 1) items))
 
   -- the next item was refused, so all are
-  pub each_refused : {Z W : Type 0} (view : Z → Y) (other : W → List Y) (x : X) (fault : ImportFault) (result : Result W ImportFault) → IsErrAnd result (λ refused. refused ≡ fault) → index < length items → x ≡ get_or items index x
+  pub each_refused : {Z W : Type 0} (view : Z → Y) (other : W → List Y) (x : X) (fault : ImportFault) (result : Result W ImportFault)
+      → IsErrAnd result (λ refused. refused ≡ fault) → index < length items → x ≡ get_or items index x
       → Means view (Err fault) (value x) → EachSoFar value items index done → Means other result (each_of value items)
   unfolding each_of
   each_refused view other x fault result exit lt here means so_far =

@@ -1,8 +1,8 @@
 -- Worked meanings, by computation. The names of the commits here are single bytes.
-use Rattle.std.specs.Prelude.{◌≡◌, ℕ, ◌==◌, [], ◌∷◌, codes, Some, Ok, Err, refl}
+use Rattle.std.specs.Prelude.{◌≡◌, ℕ, ◌==◌, [], ◌∷◌, codes, Ok, Err, refl}
 use Rattle.bf_io.specs.Decimal.{decimal_value}
 use Rattle.hex.specs.Hex.{decode_pairs}
-use Rattle.bf_grammar.specs.declared.object.Mode.TheVariants.{Plain, Module}
+use Rattle.bf_oid.specs.declared.object.Mode.TheVariants.{Plain, Module}
 use Rattle.bf_grammar.specs.declared.command.DataRef.TheVariants as dataref
 use Rattle.bf_history.specs.declared.fault.ImportFault.TheVariants.{BadFrom, BadMark, Unsupported}
 use Rattle.bf_history.specs.declared.marked.Marked.TheVariants as marked

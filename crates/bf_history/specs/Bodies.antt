@@ -2,16 +2,10 @@
 use Rattle.std.specs.Prelude.{ℕ, List, [], ◌∷◌, ◌++◌, codes, Option, Some, None, if◌then◌else◌}
 use Rattle.std.specs.List.{flat_map}
 use Rattle.hex.specs.Hex.{encode_lower}
-use Rattle.bf_grammar.specs.declared.object.Oid.{Oid}
+use Rattle.bf_oid.specs.declared.object.Oid.{Oid}
+use Rattle.bf_grammar.specs.declared.command.Header.{Header}
 use Rattle.bf_grammar.specs.Place.{is_end_of_line}
 use Rattle.bf_grammar.specs.Lines.{front_line}
-
--- what a commit says of itself, beside its tree and its parents
-pub record Saying : Type 0 where
-  pub author : Option (List ℕ)
-  pub committer : List ℕ
-  pub encoding : Option (List ℕ)
-  pub message : List ℕ
 
 -- a line of a body
 abbrev pub body_line : List ℕ → List ℕ → List ℕ
@@ -26,19 +20,19 @@ abbrev pub or_committer : Option (List ℕ) → List ℕ → List ℕ
 or_committer None committer = committer
 or_committer (Some author) committer = author
 
-abbrev pub author_of : Saying → List ℕ
-author_of saying = or_committer saying.author saying.committer
+abbrev pub author_of : Header → List ℕ
+author_of header = or_committer header.author header.committer
 
 -- its tree, its parents, who wrote it and who committed it, its encoding, an empty line, and its message
-unfoldable pub commit_body : List ℕ → List Oid → Saying → List ℕ
-commit_body tree parents saying =
+unfoldable pub commit_body : List ℕ → List Oid → Header → List ℕ
+commit_body tree parents header =
     body_line (codes "tree") (encode_lower tree)
     ++ flat_map (λ (parent : Oid). body_line (codes "parent") (encode_lower parent.0)) parents
-    ++ body_line (codes "author") (author_of saying)
-    ++ body_line (codes "committer") saying.committer
-    ++ optional_line (codes "encoding") saying.encoding
+    ++ body_line (codes "author") (author_of header)
+    ++ body_line (codes "committer") header.committer
+    ++ optional_line (codes "encoding") header.encoding
     ++ codes "\n"
-    ++ saying.message
+    ++ header.message
 
 -- the first line of a message that has a byte, without its LF
 abbrev pub without_empty_lines : List ℕ → List ℕ

@@ -6,17 +6,19 @@ use Rattle.bf_grammar.specs.declared.command.Change.{Change}
 use Rattle.bf_grammar.specs.declared.command.Change.TheVariants.{Modify, Delete, DeleteAll}
 use Rattle.bf_grammar.specs.declared.command.Command.{Command}
 use Rattle.bf_grammar.specs.declared.command.Command.TheVariants as command
+use Rattle.bf_grammar.specs.declared.command.Commit as given
 use Rattle.bf_grammar.specs.declared.command.DataRef.{DataRef}
 use Rattle.bf_grammar.specs.declared.command.DataRef.TheVariants as dataref
+use Rattle.bf_grammar.specs.declared.command.Header.{Header}
 use Rattle.bf_grammar.specs.declared.command.Target.{Target}
 use Rattle.bf_grammar.specs.declared.fault.Limit.TheVariants.{Commits, Entries}
 use Rattle.bf_grammar.specs.declared.fault.Limits.{Limits}
-use Rattle.bf_grammar.specs.declared.object.Kind.TheVariants as kind
-use Rattle.bf_grammar.specs.declared.object.Mode.{Mode}
-use Rattle.bf_grammar.specs.declared.object.Mode.TheVariants.{Plain, Exec, Link, Module}
-use Rattle.bf_grammar.specs.declared.object.Oid.{Oid}
+use Rattle.bf_oid.specs.declared.object.Kind.TheVariants as kind
+use Rattle.bf_oid.specs.declared.object.Mode.{Mode}
+use Rattle.bf_oid.specs.declared.object.Mode.TheVariants.{Plain, Exec, Link, Module}
+use Rattle.bf_oid.specs.declared.object.Oid.{Oid}
 use Rattle.bf_grammar.specs.Forms.{colon_number}
-use Rattle.bf_grammar.specs.Object.{name_of, oid_of_hex}
+use Rattle.bf_oid.specs.Object.{name_of, oid_of_hex}
 use Rattle.bf_paths.specs.Quoting.{path_value}
 use Rattle.bf_forest.specs.declared.edits.Edit.{Edit}
 use Rattle.bf_forest.specs.declared.edits.Edit.TheVariants.{Set, Remove, Clear}
@@ -26,7 +28,7 @@ use Rattle.bf_history.specs.declared.fault.ImportFault.{ImportFault}
 use Rattle.bf_history.specs.declared.fault.ImportFault.TheVariants.{BadFrom, BadMark, BadPath, Unsupported, TooLarge}
 use Rattle.bf_history.specs.declared.marked.Marked.{Marked}
 use Rattle.bf_history.specs.declared.marked.Marked.TheVariants as marked
-use Rattle.bf_history.specs.Bodies.{Saying, commit_body, subject_of}
+use Rattle.bf_history.specs.Bodies.{commit_body, subject_of}
 use Rattle.bf_history.specs.Named.{value_of, with_value, without_value}
 
 -- The refs, in the order in which they were first set; of each commit, by place, its parents in the order given, its
@@ -122,7 +124,7 @@ edit_of marks (DeleteAll line) = Ok Clear
 
 -- ---- commits
 
--- a commit as a command gives it
+-- a commit that joins a history
 pub record Commit : Type 0 where
   pub parents : List ℕ
   pub files : Files
@@ -141,12 +143,12 @@ files_from history (Some place) = slice_index_or history.files place []
 abbrev pub name_at : History → ℕ → Oid
 name_at history place = slice_index_or history.names place (record { 0 = [] })
 
-unfoldable pub commit_on : History → List ℕ → Files → Saying → Commit
-commit_on history parents files saying = record {
+unfoldable pub commit_on : History → List ℕ → Files → Header → Commit
+commit_on history parents files header = record {
   parents = parents;
   files = files;
-  subject = subject_of saying.message;
-  name = record { 0 = name_of kind.Commit (commit_body (tree_name files) (map (name_at history) parents) saying) };
+  subject = subject_of header.message;
+  name = record { 0 = name_of kind.Commit (commit_body (tree_name files) (map (name_at history) parents) header) };
 }
 
 -- The history with one more commit; one of a name that stands there already adds its directories alone.
@@ -193,15 +195,19 @@ is_no_name text = length text == 40 && list_all (λ byte. byte == 48) text
 
 -- ---- commands
 
-unfoldable pub after_commit : Limits → Loading → List ℕ → Option ℕ → Saying → Option Target → List Target → List Change → Result Loading ImportFault
-after_commit limits loading branch mark saying from merges changes = do
-  first ← begins_with loading branch from
-  others ← each_of (place_of_target BadFrom loading) merges
-  edits ← each_of (edit_of loading.marks) changes
-  let commit : Commit = commit_on loading.history (option_to_list first ++ others) (edited (files_from loading.history first) edits) saying
+unfoldable pub after_commit : Limits → Loading → given.Commit → Result Loading ImportFault
+after_commit limits loading given = do
+  first ← begins_with loading given.branch given.from
+  others ← each_of (place_of_target BadFrom loading) given.merges
+  edits ← each_of (edit_of loading.marks) given.changes
+  let files : Files = edited (files_from loading.history first) edits
+  let commit : Commit = commit_on loading.history (option_to_list first ++ others) files given.header
   history ← within_limits limits (with_commit loading.history commit)
   let place : ℕ = place_of_commit loading.history commit
-  Ok (record { history = with_ref branch place history; marks = with_mark mark (marked.Commit place) loading.marks })
+  Ok (record {
+    history = with_ref given.branch place history;
+    marks = with_mark given.mark (marked.Commit place) loading.marks;
+  })
 
 unfoldable pub after_reset : Loading → List ℕ → Option Target → Result Loading ImportFault
 after_reset loading branch None = Ok (record loading { history = without_ref branch loading.history })
@@ -216,8 +222,7 @@ after_tag loading name mark target =
 
 unfoldable pub after_command : Limits → Loading → Command → Result Loading ImportFault
 after_command limits loading (command.Blob line mark content) = Ok (record loading { marks = with_mark mark (marked.Blob (record { 0 = name_of kind.Blob content })) loading.marks })
-after_command limits loading (command.Commit line branch mark author committer encoding message from merges changes) =
-    after_commit limits loading branch mark (record { author = author; committer = committer; encoding = encoding; message = message }) from merges changes
+after_command limits loading (command.Commit given) = after_commit limits loading given
 after_command limits loading (command.Tag line name mark from) = after_tag loading name mark from
 after_command limits loading (command.Reset line branch from) = after_reset loading branch from
 after_command limits loading (command.Progress line) = Ok loading

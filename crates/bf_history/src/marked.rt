@@ -1,5 +1,5 @@
 //! What a mark of a stream stands for.
-use bf_grammar::Oid;
+use bf_oid::Oid;
 
 /// What a mark stands for (git-fast-import(1), `mark`).
 #[derive(Clone, Copy, Debug, Drop, PartialEq, Eq)]

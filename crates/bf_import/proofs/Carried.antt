@@ -2,25 +2,26 @@
 use Rattle.std.proofs.Common.{◌≡◌, ℕ, ◌<◌, true, false, List, ◌++◌, codes, Option, Some, None, IfSome, Result, Ok, Err, IfOk, refl, sym, ◌∙◌, ap, subst}
 use Rattle.std.specs.Option.{option_to_list, ok_or}
 use Rattle.std.specs.Result.{IsErrAnd}
-use Rattle.bf_grammar.specs.declared.command.Change.{Change}
 use Rattle.bf_grammar.specs.declared.command.Command.{Command}
+use Rattle.bf_grammar.specs.declared.command.Commit as given
 use Rattle.bf_grammar.specs.declared.command.Target.{Target}
 use Rattle.bf_grammar.specs.declared.fault.Limits.{Limits}
-use Rattle.bf_grammar.specs.declared.object.Oid.{Oid}
+use Rattle.bf_oid.specs.declared.object.Oid.{Oid}
 use Rattle.bf_grammar.specs.Forms.{colon_number}
-use Rattle.bf_grammar.specs.Object.{oid_of_hex}
+use Rattle.bf_oid.specs.Object.{oid_of_hex}
 use Rattle.bf_forest.specs.declared.edits.Edit.{Edit}
-use Rattle.bf_forest.specs.Files.{edited}
 use Rattle.bf_history.specs.declared.fault.ImportFault.{ImportFault}
 use Rattle.bf_history.specs.declared.fault.ImportFault.TheVariants.{BadFrom, Unsupported}
 use Rattle.bf_history.specs.declared.marked.Marked.{Marked}
 use Rattle.bf_history.specs.declared.marked.Marked.TheVariants as marked
-use Rattle.bf_history.specs.Bodies.{Saying}
 use Rattle.bf_history.specs.Imports.{Means}
-use Rattle.bf_history.specs.Meanings.{History, Loading, ◌>>=◌, each_of, mark_in, ref_in, place_named, ref_of_target, commit_marked, place_by, place_of_target, edit_of, begins_with, files_from, commit_on, with_commit, place_of_commit, within_limits, with_ref, without_ref, with_mark, is_no_name, after_command, after_commit, after_reset}
+use Rattle.bf_history.specs.Meanings.{History, Loading, ◌>>=◌, each_of, mark_in, ref_in, place_named, ref_of_target, commit_marked, place_by, place_of_target}
+use Rattle.bf_history.specs.Meanings.{edit_of, begins_with, place_of_commit, with_ref, without_ref, with_mark, is_no_name, after_command, after_commit}
+use Rattle.bf_history.specs.Meanings.{after_reset}
 use Rattle.bf_history.proofs.Meant.{means_refused, means_same, means_passed_on, means_then}
 use Rattle.bf_import.specs.declared.importer.Role.{Role}
-use Rattle.bf_import.specs.Kept.{Importing, StandsBelow, said_of, parents_given, after_parts}
+use Rattle.bf_import.specs.Growing.{Importing, StandsBelow, after_parts, commit_from, joined, mark_set, parents_given, ref_set, with_place}
+use Rattle.bf_import.specs.Roles.{said_of}
 
 -- what is meant exactly is meant
 pub means_is : {X : Type 0} (result meant : Result X ImportFault) → result ≡ meant → Means (λ x. x) result meant
@@ -28,14 +29,17 @@ means_is (Ok x) meant is = sym is
 means_is (Err fault) meant is = means_refused (λ x. x) fault meant (sym is)
 
 -- what is meant by a command is meant by one that is the same
-pub commanded : {X : Type 0} (view : X → Loading) (limits : Limits) (loading : Loading) (given command : Command) (result : Result X ImportFault) → given ≡ command
+pub commanded : {X : Type 0} (view : X → Loading) (limits : Limits) (loading : Loading) (given command : Command) (result : Result X ImportFault)
+    → given ≡ command
     → Means view result (after_command limits loading command) → Means view result (after_command limits loading given)
-commanded view limits loading given command result is means = means_same view result (after_command limits loading command) (after_command limits loading given) (sym (ap (after_command limits loading) is)) means
+commanded view limits loading given command result is means = means_same view result (after_command limits loading command) (after_command limits loading given)
+    (sym (ap (after_command limits loading) is)) means
 
 -- ---- targets
 
 module _ (loading : Loading) (target : Target) where
-  pub by_mark : (role : Role) (number : ℕ) → colon_number target.text ≡ Some number → (result : Result ℕ ImportFault) → result ≡ commit_marked (said_of role) target.line (mark_in loading.marks number)
+  pub by_mark : (role : Role) (number : ℕ) → colon_number target.text ≡ Some number → (result : Result ℕ ImportFault)
+      → result ≡ commit_marked (said_of role) target.line (mark_in loading.marks number)
       → Means (λ place. place) result (place_of_target (said_of role) loading target)
   unfolding place_of_target
   by_mark role number is result gives =
@@ -46,159 +50,177 @@ module _ (loading : Loading) (target : Target) where
   by_text_alike role None = refl
   by_text_alike role (Some name) = refl
 
-  pub by_text : (role : Role) → colon_number target.text ≡ None → (result : Result ℕ ImportFault) → Means (λ place. place) result (place_by BadFrom loading target None (oid_of_hex target.text))
+  pub by_text : (role : Role) → colon_number target.text ≡ None → (result : Result ℕ ImportFault)
+      → Means (λ place. place) result (place_by BadFrom loading target None (oid_of_hex target.text))
       → Means (λ place. place) result (place_of_target (said_of role) loading target)
   unfolding place_of_target
   by_text role is result means =
-      means_same (λ place. place) result (place_by BadFrom loading target None (oid_of_hex target.text)) (place_by (said_of role) loading target (colon_number target.text) (oid_of_hex target.text))
+      means_same (λ place. place) result (place_by BadFrom loading target None (oid_of_hex target.text))
+      (place_by (said_of role) loading target (colon_number target.text) (oid_of_hex target.text))
       (by_text_alike role (oid_of_hex target.text) ∙ sym (ap (λ (n : Option ℕ). place_by (said_of role) loading target n (oid_of_hex target.text)) is)) means
 
-  pub by_name : (name : Oid) → oid_of_hex target.text ≡ Some name → (result : Result ℕ ImportFault) → result ≡ ok_or (place_named loading.history.names name) (Unsupported target.line)
+  pub by_name : (name : Oid) → oid_of_hex target.text ≡ Some name → (result : Result ℕ ImportFault)
+      → result ≡ ok_or (place_named loading.history.names name) (Unsupported target.line)
       → Means (λ place. place) result (place_by BadFrom loading target None (oid_of_hex target.text))
   by_name name is result gives =
       means_is result (place_by BadFrom loading target None (oid_of_hex target.text)) (gives ∙ sym (ap (place_by BadFrom loading target None) is))
 
-  pub by_ref : oid_of_hex target.text ≡ None → (result : Result ℕ ImportFault) → result ≡ ok_or (ref_in loading.history.refs (ref_of_target target.text)) (BadFrom target.line)
+  pub by_ref : oid_of_hex target.text ≡ None → (result : Result ℕ ImportFault)
+      → result ≡ ok_or (ref_in loading.history.refs (ref_of_target target.text)) (BadFrom target.line)
       → Means (λ place. place) result (place_by BadFrom loading target None (oid_of_hex target.text))
   by_ref is result gives =
       means_is result (place_by BadFrom loading target None (oid_of_hex target.text)) (gives ∙ sym (ap (place_by BadFrom loading target None) is))
 
 -- the commit of a mark is there
-marked_below : (other : ℕ → ImportFault) (line count : ℕ) (found : Option Marked) → IfSome found (StandsBelow count) → IfOk (commit_marked other line found) (λ place. place < count)
+marked_below : (other : ℕ → ImportFault) (line count : ℕ) (found : Option Marked) → IfSome found (StandsBelow count)
+    → IfOk (commit_marked other line found) (λ place. place < count)
 marked_below other line count None there = tt
 marked_below other line count (Some (marked.Commit place)) there = there
 marked_below other line count (Some (marked.Blob name)) there = tt
 marked_below other line count (Some marked.Tag) there = tt
 
-pub marked_there : (other : ℕ → ImportFault) (line count : ℕ) (found : Option Marked) → IfSome found (StandsBelow count) → (result : Result ℕ ImportFault) → result ≡ commit_marked other line found → IfOk result (λ place. place < count)
-marked_there other line count found there result is = subst (λ (r : Result ℕ ImportFault). IfOk r (λ place. place < count)) (sym is) (marked_below other line count found there)
+pub marked_there : (other : ℕ → ImportFault) (line count : ℕ) (found : Option Marked) → IfSome found (StandsBelow count) → (result : Result ℕ ImportFault)
+    → result ≡ commit_marked other line found → IfOk result (λ place. place < count)
+marked_there other line count found there result is = subst (λ (r : Result ℕ ImportFault). IfOk r (λ place. place < count)) (sym is)
+    (marked_below other line count found there)
 
 -- ---- reset and tag
 
 module _ (loading : Loading) (branch : List ℕ) (target : Target) where
-  pub reset_cleared : is_no_name target.text ≡ true → after_reset loading branch (Some target) ≡ Ok (record loading { history = without_ref branch loading.history })
+  pub reset_cleared : is_no_name target.text ≡ true
+      → after_reset loading branch (Some target) ≡ Ok (record loading { history = without_ref branch loading.history })
   unfolding after_reset
   reset_cleared zeros = rw zeros refl
 
-  pub reset_on : is_no_name target.text ≡ false → (place_of_target BadFrom loading target >>= λ place. Ok (record loading { history = with_ref branch place loading.history })) ≡ after_reset loading branch (Some target)
+  pub reset_on : is_no_name target.text ≡ false → (place_of_target BadFrom loading target >>= λ place. Ok
+      (record loading { history = with_ref branch place loading.history })) ≡ after_reset loading branch (Some target)
   unfolding after_reset
   reset_on other = rw other refl
 
-pub reset_alone : (loading : Loading) (branch : List ℕ) (from : Option Target) → from ≡ None → after_reset loading branch from ≡ Ok (record loading { history = without_ref branch loading.history })
+pub reset_alone : (loading : Loading) (branch : List ℕ) (from : Option Target) → from ≡ None
+    → after_reset loading branch from ≡ Ok (record loading { history = without_ref branch loading.history })
 unfolding after_reset
 reset_alone loading branch from is = ap (after_reset loading branch) is
 
-pub reset_given : {X : Type 0} (view : X → Loading) (loading : Loading) (branch : List ℕ) (from : Option Target) (target : Target) → from ≡ Some target → (result : Result X ImportFault) → Means view result (after_reset loading branch (Some target)) → Means view result (after_reset loading branch from)
-reset_given view loading branch from target is result means = means_same view result (after_reset loading branch (Some target)) (after_reset loading branch from) (sym (ap (after_reset loading branch) is)) means
+pub reset_given : {X : Type 0} (view : X → Loading) (loading : Loading) (branch : List ℕ) (from : Option Target) (target : Target) → from ≡ Some target
+    → (result : Result X ImportFault) → Means view result (after_reset loading branch (Some target)) → Means view result (after_reset loading branch from)
+reset_given view loading branch from target is result means = means_same view result (after_reset loading branch (Some target))
+    (after_reset loading branch from) (sym (ap (after_reset loading branch) is)) means
 
 pub tag_set : (before set after : Importing) (name full : List ℕ) (place : ℕ) (mark : Option ℕ) → full ≡ codes "refs/tags/" ++ name
-    → set ≡ record before { loading = record before.loading { history = with_ref full place before.loading.history } }
-    → after ≡ record set { loading = record set.loading { marks = with_mark mark marked.Tag set.loading.marks } }
-    → after.loading ≡ record { history = with_ref (codes "refs/tags/" ++ name) place before.loading.history; marks = with_mark mark marked.Tag before.loading.marks }
+    → set ≡ ref_set full place before → after ≡ mark_set mark marked.Tag set
+    → after.loading ≡ record {
+      history = with_ref (codes "refs/tags/" ++ name) place before.loading.history;
+      marks = with_mark mark marked.Tag
+          before.loading.marks;
+    }
 tag_set before set after name full place mark full_is set_is after_is =
     ap (λ (i : Importing). i.loading) after_is
-    ∙ ap (λ (i : Importing). let l : Loading = record i.loading { marks = with_mark mark marked.Tag i.loading.marks } in l) set_is
-    ∙ ap (λ (text : List ℕ). let l : Loading = record { history = with_ref text place before.loading.history; marks = with_mark mark marked.Tag before.loading.marks } in l) full_is
+    ∙ ap (λ (i : Importing). (mark_set mark marked.Tag i).loading) set_is
+    ∙ ap (λ (text : List ℕ). (mark_set mark marked.Tag (ref_set text place before)).loading) full_is
 
 -- ---- commits
 
-joined : {X Y Z : Type 0} (first : Result X ImportFault) (make : X → Y) (next : Y → Result Z ImportFault) → (first >>= λ x. next (make x)) ≡ ((first >>= λ x. Ok (make x)) >>= next)
-joined (Ok x) make next = refl
-joined (Err fault) make next = refl
+parted : {X Y Z : Type 0} (first : Result X ImportFault) (make : X → Y) (next : Y → Result Z ImportFault)
+    → (first >>= λ x. next (make x)) ≡ ((first >>= λ x. Ok (make x)) >>= next)
+parted (Ok x) make next = refl
+parted (Err fault) make next = refl
 
-module _ (limits : Limits) (loading : Loading) (branch : List ℕ) (mark : Option ℕ) (saying : Saying) (from : Option Target) (merges : List Target) (changes : List Change) where
+module _ (limits : Limits) (loading : Loading) (given : given.Commit) where
   -- the edits, and the rest of a commit
   with_parents : Option ℕ → List ℕ → Result Loading ImportFault
-  with_parents first parents = each_of (edit_of loading.marks) changes >>= λ edits. after_parts limits loading branch mark saying first parents edits
+  with_parents first parents = each_of (edit_of loading.marks) given.changes >>= λ edits. after_parts limits loading given first parents edits
 
   with_first : Option ℕ → Result Loading ImportFault
-  with_first first = parents_given loading first merges >>= with_parents first
+  with_first first = parents_given loading first given.merges >>= with_parents first
 
-  commit_meant : (begins_with loading branch from >>= with_first) ≡ after_commit limits loading branch mark saying from merges changes
+  commit_meant : (begins_with loading given.branch given.from >>= with_first) ≡ after_commit limits loading given
   unfolding after_commit with_first with_parents
-  commit_meant = go (begins_with loading branch from)
+  commit_meant = go (begins_with loading given.branch given.from)
     where
-      go : (begun : Result (Option ℕ) ImportFault) → (begun >>= with_first) ≡ (begun >>= λ first. each_of (place_of_target BadFrom loading) merges >>= λ others. with_parents first (option_to_list first ++ others))
-      go (Ok first) = sym (joined (each_of (place_of_target BadFrom loading) merges) (λ others. option_to_list first ++ others) (with_parents first))
+      go : (begun : Result (Option ℕ) ImportFault) → (begun >>= with_first)
+          ≡ (begun >>= λ first. each_of (place_of_target BadFrom loading) given.merges >>= λ others. with_parents first (option_to_list first ++ others))
+      go (Ok first) = sym (parted (each_of (place_of_target BadFrom loading) given.merges) (λ others. option_to_list first ++ others) (with_parents first))
       go (Err fault) = refl
 
   module _ {X : Type 0} (view : X → Loading) (result : Result X ImportFault) where
-    commit_same : Means view result (begins_with loading branch from >>= with_first) → Means view result (after_commit limits loading branch mark saying from merges changes)
-    commit_same = means_same view result (begins_with loading branch from >>= with_first) (after_commit limits loading branch mark saying from merges changes) commit_meant
+    commit_same : Means view result (begins_with loading given.branch given.from >>= with_first) → Means view result (after_commit limits loading given)
+    commit_same = means_same view result (begins_with loading given.branch given.from >>= with_first) (after_commit limits loading given) commit_meant
 
-    pub first_refused : (fault : ImportFault) → IsErrAnd result (λ other. other ≡ fault) → Means (λ (place : Option ℕ). place) (Err fault) (begins_with loading branch from)
-        → Means view result (after_commit limits loading branch mark saying from merges changes)
-    first_refused fault exit means = commit_same (means_passed_on (λ (place : Option ℕ). place) view (begins_with loading branch from) with_first fault result exit means)
+    pub first_refused : (fault : ImportFault) → IsErrAnd result (λ other. other ≡ fault)
+        → Means (λ (place : Option ℕ). place) (Err fault) (begins_with loading given.branch given.from)
+        → Means view result (after_commit limits loading given)
+    first_refused fault exit means = commit_same (means_passed_on (λ (place : Option ℕ). place) view (begins_with loading given.branch given.from) with_first
+        fault result exit means)
 
-    module _ (first : Option ℕ) (first_is : begins_with loading branch from ≡ Ok first) where
-      from_first : Means view result (with_first first) → Means view result (after_commit limits loading branch mark saying from merges changes)
-      from_first means = commit_same (means_then (λ (place : Option ℕ). place) view (begins_with loading branch from) with_first first result first_is means)
+    module _ (first : Option ℕ) (first_is : begins_with loading given.branch given.from ≡ Ok first) where
+      from_first : Means view result (with_first first) → Means view result (after_commit limits loading given)
+      from_first means = commit_same (means_then (λ (place : Option ℕ). place) view (begins_with loading given.branch given.from) with_first first result
+          first_is means)
 
-      pub parents_refused : {V : Type 0} (other : V → List ℕ) (fault : ImportFault) → IsErrAnd result (λ other. other ≡ fault) → Means other (Err fault) (parents_given loading first merges)
-          → Means view result (after_commit limits loading branch mark saying from merges changes)
+      pub parents_refused : {V : Type 0} (other : V → List ℕ) (fault : ImportFault) → IsErrAnd result (λ other. other ≡ fault)
+          → Means other (Err fault) (parents_given loading first given.merges)
+          → Means view result (after_commit limits loading given)
       unfolding with_first
-      parents_refused other fault exit means = from_first (means_passed_on other view (parents_given loading first merges) (with_parents first) fault result exit means)
+      parents_refused other fault exit means = from_first
+          (means_passed_on other view (parents_given loading first given.merges) (with_parents first) fault result exit means)
 
-      module _ (parents : List ℕ) (parents_are : parents_given loading first merges ≡ Ok parents) where
-        from_parents : Means view result (with_parents first parents) → Means view result (after_commit limits loading branch mark saying from merges changes)
+      module _ (parents : List ℕ) (parents_are : parents_given loading first given.merges ≡ Ok parents) where
+        from_parents : Means view result (with_parents first parents) → Means view result (after_commit limits loading given)
         unfolding with_first
-        from_parents means = from_first (means_then (λ (places : List ℕ). places) view (parents_given loading first merges) (with_parents first) parents result parents_are means)
+        from_parents means = from_first (means_then (λ (places : List ℕ). places) view (parents_given loading first given.merges) (with_parents first) parents
+            result parents_are means)
 
-        pub edits_refused : {V : Type 0} (other : V → List Edit) (fault : ImportFault) → IsErrAnd result (λ other. other ≡ fault) → Means other (Err fault) (each_of (edit_of loading.marks) changes)
-            → Means view result (after_commit limits loading branch mark saying from merges changes)
+        pub edits_refused : {V : Type 0} (other : V → List Edit) (fault : ImportFault) → IsErrAnd result (λ other. other ≡ fault)
+            → Means other (Err fault) (each_of (edit_of loading.marks) given.changes)
+            → Means view result (after_commit limits loading given)
         unfolding with_parents
         edits_refused other fault exit means =
-            from_parents (means_passed_on other view (each_of (edit_of loading.marks) changes) (λ edits. after_parts limits loading branch mark saying first parents edits) fault result exit means)
+            from_parents (means_passed_on other view (each_of (edit_of loading.marks) given.changes)
+            (λ edits. after_parts limits loading given first parents edits) fault result exit means)
 
-        pub commit_on_parts : (edits : List Edit) → each_of (edit_of loading.marks) changes ≡ Ok edits → Means view result (after_parts limits loading branch mark saying first parents edits)
-            → Means view result (after_commit limits loading branch mark saying from merges changes)
-        unfolding with_parents
-        commit_on_parts edits edits_are means =
-            from_parents (means_then (λ (all : List Edit). all) view (each_of (edit_of loading.marks) changes) (λ edits. after_parts limits loading branch mark saying first parents edits) edits result edits_are means)
+        module _ (edits : List Edit) (edits_are : each_of (edit_of loading.marks) given.changes ≡ Ok edits) where
+          pub from_edits : Means view result (after_parts limits loading given first parents edits) → Means view result (after_commit limits loading given)
+          unfolding with_parents
+          from_edits means =
+              from_parents (means_then (λ (all : List Edit). all) view (each_of (edit_of loading.marks) given.changes)
+              (λ edits. after_parts limits loading given first parents edits) edits result edits_are means)
 
-module _ (limits : Limits) (loading : Loading) (branch : List ℕ) (mark : Option ℕ) (saying : Saying) (first : Option ℕ) (parents : List ℕ) (edits : List Edit) {X : Type 0} (view : X → Loading) (result : Result X ImportFault) where
-  -- what a commit that stands makes of its branch and mark
-  with_place : History → Result Loading ImportFault
-  with_place history = Ok (record {
-    history = with_ref branch (place_of_commit loading.history (commit_on loading.history parents (edited (files_from loading.history first) edits) saying)) history;
-    marks = with_mark mark (marked.Commit (place_of_commit loading.history (commit_on loading.history parents (edited (files_from loading.history first) edits) saying))) loading.marks;
-  })
+          -- the commit is past a limit
+          pub limits_passed : {V : Type 0} (other : V → History) (fault : ImportFault) → IsErrAnd result (λ other. other ≡ fault)
+              → Means other (Err fault) (joined limits loading.history (commit_from loading.history first parents edits given.header))
+              → Means view result (after_commit limits loading given)
+          limits_passed other fault exit means =
+              let commit = commit_from loading.history first parents edits given.header in
+              from_edits (means_passed_on other view (joined limits loading.history commit)
+              (λ (history : History). Ok (with_place loading given (place_of_commit loading.history commit) history)) fault result exit means)
 
-  pub limits_passed : {V : Type 0} (other : V → History) (fault : ImportFault) → IsErrAnd result (λ other. other ≡ fault)
-      → Means other (Err fault) (within_limits limits (with_commit loading.history (commit_on loading.history parents (edited (files_from loading.history first) edits) saying)))
-      → Means view result (after_parts limits loading branch mark saying first parents edits)
-  unfolding with_place
-  limits_passed other fault exit means =
-      means_passed_on other view (within_limits limits (with_commit loading.history (commit_on loading.history parents (edited (files_from loading.history first) edits) saying))) with_place fault result exit means
-
-pub commit_carried : (limits : Limits) (loading : Loading) (branch : List ℕ) (mark : Option ℕ) (saying : Saying) (first : Option ℕ) (parents : List ℕ) (edits : List Edit) (grown : History) (place : ℕ) (after : Loading)
-    → within_limits limits (with_commit loading.history (commit_on loading.history parents (edited (files_from loading.history first) edits) saying)) ≡ Ok grown
-    → place ≡ place_of_commit loading.history (commit_on loading.history parents (edited (files_from loading.history first) edits) saying)
-    → after ≡ record { history = with_ref branch place grown; marks = with_mark mark (marked.Commit place) loading.marks }
-    → after_parts limits loading branch mark saying first parents edits ≡ Ok after
-commit_carried limits loading branch mark saying first parents edits grown place after within there is =
-    ap (λ (m : Result History ImportFault). m >>= λ history. Ok (record {
-      history = with_ref branch (place_of_commit loading.history (commit_on loading.history parents (edited (files_from loading.history first) edits) saying)) history;
-      marks = with_mark mark (marked.Commit (place_of_commit loading.history (commit_on loading.history parents (edited (files_from loading.history first) edits) saying))) loading.marks;
-    })) within
-    ∙ ap (λ (n : ℕ). let r : Result Loading ImportFault = Ok (record { history = with_ref branch n grown; marks = with_mark mark (marked.Commit n) loading.marks }) in r) (sym there)
+-- the commit stands, with its branch and its mark
+pub commit_carried : (limits : Limits) (loading : Loading) (given : given.Commit) (first : Option ℕ) (parents : List ℕ) (edits : List Edit) (grown : History)
+    (place : ℕ) (after : Loading)
+    → joined limits loading.history (commit_from loading.history first parents edits given.header) ≡ Ok grown
+    → place ≡ place_of_commit loading.history (commit_from loading.history first parents edits given.header)
+    → after ≡ with_place loading given place grown
+    → after_parts limits loading given first parents edits ≡ Ok after
+commit_carried limits loading given first parents edits grown place after within there is =
+    ap (λ (m : Result History ImportFault). m >>= λ history. Ok
+    (with_place loading given (place_of_commit loading.history (commit_from loading.history first parents edits given.header)) history)) within
+    ∙ ap (λ (n : ℕ). let r : Result Loading ImportFault = Ok (with_place loading given n grown) in r) (sym there)
     ∙ ap (λ (l : Loading). let r : Result Loading ImportFault = Ok l in r) (sym is)
 
--- what a commit says, part by part
-pub said : (a author : Option (List ℕ)) → a ≡ author → (c committer : List ℕ) → c ≡ committer → (e encoding : Option (List ℕ)) → e ≡ encoding → (m message : List ℕ) → m ≡ message
-    → (let s : Saying = record { author = a; committer = c; encoding = e; message = m } in s) ≡ record { author = author; committer = committer; encoding = encoding; message = message }
-said a author author_is c committer committer_is e encoding encoding_is m message message_is = cc
-
-pub commit_given : {X : Type 0} (view : X → Loading) (result : Result X ImportFault) (limits : Limits) (loading : Loading) (branch : List ℕ) (mark : Option ℕ) (given saying : Saying) → given ≡ saying → (from : Option Target)
-    → (some merges : List Target) → some ≡ merges → (these changes : List Change) → these ≡ changes
-    → Means view result (after_commit limits loading branch mark given from some these) → Means view result (after_commit limits loading branch mark saying from merges changes)
-commit_given view result limits loading branch mark given saying said from some merges merged these changes changed means =
-    means_same view result (after_commit limits loading branch mark given from some these) (after_commit limits loading branch mark saying from merges changes)
-    (ap (λ (s : Saying). after_commit limits loading branch mark s from some these) said
-    ∙ ap (λ (m : List Target). after_commit limits loading branch mark saying from m these) merged
-    ∙ ap (after_commit limits loading branch mark saying from merges) changed) means
+-- an import whose ref and mark are set
+pub place_set : (before mid set after : Importing) (given : given.Commit) (place : ℕ) → mid.loading.marks ≡ before.loading.marks
+    → set ≡ ref_set given.branch place mid → after ≡ mark_set given.mark (marked.Commit place) set
+    → after.loading ≡ with_place before.loading given place mid.loading.history
+place_set before mid set after given place marks set_is after_is =
+    ap (λ (i : Importing). i.loading) after_is
+    ∙ ap (λ (i : Importing). (mark_set given.mark (marked.Commit place) i).loading) set_is
+    ∙ ap (λ (m : List (ℕ × Marked)). let l : Loading = record
+    { history = with_ref given.branch place mid.loading.history; marks = with_mark given.mark (marked.Commit place) m } in l) marks
 
 -- parents behind the first
-pub parents_joined : (loading : Loading) (first : Option ℕ) (merges : List Target) (merged parents : List ℕ) → each_of (place_of_target BadFrom loading) merges ≡ Ok merged → parents ≡ option_to_list first ++ merged → parents_given loading first merges ≡ Ok parents
+pub parents_joined : (loading : Loading) (first : Option ℕ) (merges : List Target) (merged parents : List ℕ)
+    → each_of (place_of_target BadFrom loading) merges ≡ Ok merged → parents ≡ option_to_list first ++ merged → parents_given loading first merges ≡ Ok parents
 parents_joined loading first merges merged parents are is =
-    ap (λ (m : Result (List ℕ) ImportFault). m >>= λ others. Ok (option_to_list first ++ others)) are ∙ ap (λ (all : List ℕ). let r : Result (List ℕ) ImportFault = Ok all in r) (sym is)
+    ap (λ (m : Result (List ℕ) ImportFault). m >>= λ others. Ok (option_to_list first ++ others)) are ∙ ap
+    (λ (all : List ℕ). let r : Result (List ℕ) ImportFault = Ok all in r) (sym is)

@@ -1,17 +1,21 @@
--- What values under names keep, and what an edit of files keeps of the trees before.
-use Rattle.std.proofs.Common.{◌≡◌, ℕ, ◌<◌, ◌≤◌, Bool, true, false, List, [], ◌∷◌, ◌++◌, ◌+◌, length, length-append, map, take, Option, Some, None, IfSome, All, get_or, if◌then◌else◌, ◌==◌, Result, Ok, Err, OnOk, OnErr, refl, sym, ◌∙◌, ap, ap₂, subst, arith}
+-- What values under names keep, what an edit of files keeps of the trees before, and what a history keeps that grows.
+use Rattle.std.proofs.Common.{◌≡◌, ℕ, ◌<◌, ◌≤◌, Bool, true, false, List, [], ◌∷◌, ◌++◌, ◌+◌, length, length-append, length-take, map, take, Option, Some, None}
+use Rattle.std.proofs.Common.{IfSome, All, Vec, Global, get_or, if◌then◌else◌, ◌==◌, Result, Ok, Err, OnOk, OnErr, refl, sym, ◌∙◌, ap, ap₂, subst, arith}
 use Rattle.std.proofs.lemmas.List.{get_or-map, get_or-take}
 use Rattle.std.proofs.lemmas.List.Elements.{All-cons, All-head, All-tail, All-push, All-weaker}
-use Rattle.bf_grammar.specs.declared.object.Oid.{Oid}
+use Rattle.bf_oid.specs.declared.object.Oid.{Oid}
 use Rattle.bf_forest.specs.declared.edits.Edit.{Edit}
 use Rattle.bf_forest.specs.Files.{Files, edited}
-use Rattle.bf_forest.specs.Trees.{files_at, with_directories}
-use Rattle.bf_history.specs.Named.{value_of, with_value, without_value}
+use Rattle.bf_forest.specs.Trees.{Pool, files_at, with_directories}
 use Rattle.bf_grammar.specs.declared.fault.Limits.{Limits}
+use Rattle.bf_grammar.specs.Limits.{IsWithin}
+use Rattle.bf_history.specs.Named.{value_of, with_value, without_value}
 use Rattle.bf_history.specs.declared.marked.Marked.{Marked}
 use Rattle.bf_history.specs.declared.marked.Marked.TheVariants as marked
 use Rattle.bf_history.specs.Meanings.{files_from, with_mark}
-use Rattle.bf_import.specs.Kept.{Growing, IsKept, IsSound, StandsBelow, history_of, begun_with}
+use Rattle.bf_import.specs.declared.growth.Growth.TheInside.{Inside}
+use Rattle.bf_import.specs.Growing.{MarksStand, StandsBelow, begun_with, edited_files, with_edits}
+use Rattle.bf_import.specs.Kept.{IsKept, history_of}
 
 module _ {K V : Type 0} (P : V → Type 0) (same : K → K → Bool) (name : K) where
   -- what is true of all values is true of the one that is found
@@ -23,11 +27,14 @@ module _ {K V : Type 0} (P : V → Type 0) (same : K → K → Bool) (name : K) 
       go after true = All-head (λ (e : K × V). P e.1) given rest stand
       go after false = after
 
-  pub with_value_stands : (value : V) → P value → (entries : List (K × V)) → All (λ (e : K × V). P e.1) entries → All (λ (e : K × V). P e.1) (with_value same name value entries)
+  pub with_value_stands : (value : V) → P value → (entries : List (K × V)) → All (λ (e : K × V). P e.1) entries
+      → All (λ (e : K × V). P e.1) (with_value same name value entries)
   with_value_stands value here [] stand = All-cons (λ (e : K × V). P e.1) (name, value) [] here stand
-  with_value_stands value here (given ∷ rest) stand = go (with_value_stands value here rest (All-tail (λ (e : K × V). P e.1) given rest stand)) (same name given.0)
+  with_value_stands value here (given ∷ rest) stand = go (with_value_stands value here rest (All-tail (λ (e : K × V). P e.1) given rest stand))
+      (same name given.0)
     where
-      go : All (λ (e : K × V). P e.1) (with_value same name value rest) → (b : Bool) → All (λ (e : K × V). P e.1) (if b then (given.0, value) ∷ rest else given ∷ with_value same name value rest)
+      go : All (λ (e : K × V). P e.1) (with_value same name value rest) → (b : Bool)
+          → All (λ (e : K × V). P e.1) (if b then (given.0, value) ∷ rest else given ∷ with_value same name value rest)
       go after true = All-cons (λ (e : K × V). P e.1) (given.0, value) rest here (All-tail (λ (e : K × V). P e.1) given rest stand)
       go after false = All-cons (λ (e : K × V). P e.1) given (with_value same name value rest) (All-head (λ (e : K × V). P e.1) given rest stand) after
 
@@ -35,13 +42,14 @@ module _ {K V : Type 0} (P : V → Type 0) (same : K → K → Bool) (name : K) 
   without_value_stands [] stand = stand
   without_value_stands (given ∷ rest) stand = go (without_value_stands rest (All-tail (λ (e : K × V). P e.1) given rest stand)) (same name given.0)
     where
-      go : All (λ (e : K × V). P e.1) (without_value same name rest) → (b : Bool) → All (λ (e : K × V). P e.1) (if b then rest else given ∷ without_value same name rest)
+      go : All (λ (e : K × V). P e.1) (without_value same name rest) → (b : Bool)
+          → All (λ (e : K × V). P e.1) (if b then rest else given ∷ without_value same name rest)
       go after true = All-tail (λ (e : K × V). P e.1) given rest stand
       go after false = All-cons (λ (e : K × V). P e.1) given (without_value same name rest) (All-head (λ (e : K × V). P e.1) given rest stand) after
 
-module _ (graph : List (List ℕ)) (names : List Oid) (subjects : List (List ℕ)) (refs : List (List ℕ × ℕ)) (trees : List ℕ) (directories : List Files) (kept : IsKept graph names subjects refs trees directories) where
+module _ (g : Inside) (kept : IsKept g) where
   -- other refs whose places are there
-  pub kept_with_refs : (others : List (List ℕ × ℕ)) → All (λ (ref : List ℕ × ℕ). ref.1 < length graph) others → IsKept graph names subjects others trees directories
+  pub kept_with_refs : (others : List (List ℕ × ℕ)) → All (λ (ref : List ℕ × ℕ). ref.1 < length g.graph) others → IsKept (record g { refs = others })
   kept_with_refs others stand = record {
     one_name = kept.one_name;
     one_subject = kept.one_subject;
@@ -50,50 +58,103 @@ module _ (graph : List (List ℕ)) (names : List Oid) (subjects : List (List ℕ
     trees_stand = kept.trees_stand;
     has_empty = kept.has_empty;
     empty = kept.empty;
+    within = kept.within;
+    entries = kept.entries;
+    commits = kept.commits;
   }
 
-  -- one more commit
-  pub kept_with_commit : (parents : List ℕ) (name : Oid) (subject : List ℕ) (tree : ℕ) → tree < length directories
-      → (more_graph : List (List ℕ)) → more_graph ≡ graph ++ parents ∷ [] → (more_names : List Oid) → more_names ≡ names ++ name ∷ []
-      → (more_subjects : List (List ℕ)) → more_subjects ≡ subjects ++ subject ∷ [] → (more_trees : List ℕ) → more_trees ≡ trees ++ tree ∷ []
-      → IsKept more_graph more_names more_subjects refs more_trees directories
-  kept_with_commit parents name subject tree there more_graph graph_is more_names names_are more_subjects subjects_are more_trees trees_are =
-      let long : length more_graph ≡ length graph + 1 = ap length graph_is ∙ length-append graph (parents ∷ []) in
+  -- the same in other memory
+  pub kept_again : (subjects : Vec (List ℕ) Global) → subjects.items ≡ g.subjects.items → (trees : Vec ℕ Global) → trees.items ≡ g.trees.items
+      → IsKept (record g { subjects = subjects; trees = trees })
+  kept_again subjects subjects_same trees trees_same = record {
+    one_name = kept.one_name;
+    one_subject = ap length subjects_same ∙ kept.one_subject;
+    one_tree = ap length trees_same ∙ kept.one_tree;
+    refs_stand = kept.refs_stand;
+    trees_stand = subst (All (λ tree. tree < length g.forest.trees)) (sym trees_same) kept.trees_stand;
+    has_empty = kept.has_empty;
+    empty = kept.empty;
+    within = kept.within;
+    entries = kept.entries;
+    commits = kept.commits;
+  }
+
+  -- more trees in the pool
+  pub kept_with_forest : (forest : Pool) → forest.limit ≡ g.forest.limit → take (length g.forest.trees) forest.trees ≡ g.forest.trees
+      → IsKept (record g { forest = forest })
+  kept_with_forest forest limit front =
+      let more : length g.forest.trees ≤ length forest.trees = omega (arith, length-take (length g.forest.trees) forest.trees, ap length front) in
       record {
-        one_name = ap length names_are ∙ length-append names (name ∷ []) ∙ ap (λ (n : ℕ). n + 1) kept.one_name ∙ sym long;
-        one_subject = ap length subjects_are ∙ length-append subjects (subject ∷ []) ∙ ap (λ (n : ℕ). n + 1) kept.one_subject ∙ sym long;
-        one_tree = ap length trees_are ∙ length-append trees (tree ∷ []) ∙ ap (λ (n : ℕ). n + 1) kept.one_tree ∙ sym long;
-        refs_stand = All-weaker (λ (ref : List ℕ × ℕ). ref.1 < length graph) (λ (ref : List ℕ × ℕ). ref.1 < length more_graph) (λ ref h. omega arith) refs kept.refs_stand;
-        trees_stand = subst (All (λ t. t < length directories)) (sym trees_are) (All-push (λ t. t < length directories) trees tree kept.trees_stand there);
-        has_empty = kept.has_empty;
-        empty = kept.empty;
+        one_name = kept.one_name;
+        one_subject = kept.one_subject;
+        one_tree = kept.one_tree;
+        refs_stand = kept.refs_stand;
+        trees_stand = All-weaker (λ tree. tree < length g.forest.trees) (λ tree. tree < length forest.trees) (λ tree h. omega arith) g.trees.items
+            kept.trees_stand;
+        has_empty = omega (arith, more, kept.has_empty);
+        empty = sym (get_or-take (length g.forest.trees) forest.trees 0 [] kept.has_empty) ∙ ap (λ (l : List Files). get_or l 0 []) front ∙ kept.empty;
+        within = kept.within;
+        entries = limit ∙ kept.entries;
+        commits = kept.commits;
+      }
+
+  -- one more commit
+  pub kept_with_commit : (h : Inside) (parents : List ℕ) (name : Oid) (subject : List ℕ) (tree : ℕ) → tree < length g.forest.trees
+      → length g.graph < g.limits.commits
+      → h.graph ≡ g.graph ++ parents ∷ [] → h.names ≡ g.names ++ name ∷ []
+      → h.subjects.items ≡ g.subjects.items ++ subject ∷ [] → h.trees.items ≡ g.trees.items ++ tree ∷ []
+      → h.refs ≡ g.refs → h.forest ≡ g.forest → h.limits ≡ g.limits
+      → IsKept h
+  kept_with_commit h parents name subject tree there room graph_is names_are subjects_are trees_are refs_same forest_same limits_same =
+      let long : length h.graph ≡ length g.graph + 1 = ap length graph_is ∙ length-append g.graph (parents ∷ []) in
+      record {
+        one_name = ap length names_are ∙ length-append g.names (name ∷ []) ∙ ap (λ (n : ℕ). n + 1) kept.one_name ∙ sym long;
+        one_subject = ap length subjects_are ∙ length-append g.subjects.items (subject ∷ []) ∙ ap (λ (n : ℕ). n + 1) kept.one_subject ∙ sym long;
+        one_tree = ap length trees_are ∙ length-append g.trees.items (tree ∷ []) ∙ ap (λ (n : ℕ). n + 1) kept.one_tree ∙ sym long;
+        refs_stand = subst (All (λ (ref : List ℕ × ℕ). ref.1 < length h.graph)) (sym refs_same)
+            (All-weaker (λ (ref : List ℕ × ℕ). ref.1 < length g.graph) (λ (ref : List ℕ × ℕ). ref.1 < length h.graph) (λ ref h. omega arith) g.refs
+            kept.refs_stand);
+        trees_stand = subst (λ (pool : Pool). All (λ t. t < length pool.trees) h.trees.items) (sym forest_same)
+            (subst (All (λ t. t < length g.forest.trees)) (sym trees_are)
+            (All-push (λ t. t < length g.forest.trees) g.trees.items tree kept.trees_stand there));
+        has_empty = subst (λ (pool : Pool). 0 < length pool.trees) (sym forest_same) kept.has_empty;
+        empty = subst (λ (pool : Pool). files_at pool.trees 0 ≡ []) (sym forest_same) kept.empty;
+        within = subst IsWithin (sym limits_same) kept.within;
+        entries = ap (λ (pool : Pool). pool.limit) forest_same ∙ kept.entries ∙ ap (λ (l : Limits). l.entries) (sym limits_same);
+        commits = subst (λ (l : Limits). length h.graph ≤ l.commits) (sym limits_same) (omega (arith, long, room));
       }
 
   -- the files that edits begin with
-  pub begun_files : (place : Option ℕ) → IfSome place (λ p. p < length graph) → files_at directories (begun_with trees place) ≡ files_from (history_of graph names subjects refs trees directories) place
+  begun_files : (place : Option ℕ) → IfSome place (λ p. p < length g.graph)
+      → files_at g.forest.trees (begun_with g.trees.items place) ≡ files_from (history_of g) place
   begun_files None there = kept.empty
-  begun_files (Some place) there = sym (get_or-map (files_at directories) trees place 0 [] (rw kept.one_tree there))
+  begun_files (Some place) there = sym (get_or-map (files_at g.forest.trees) g.trees.items place 0 [] (rw kept.one_tree there))
 
   -- trees that join the pool leave the files of the commits as they were
-  pub same_files : (more : List Files) → take (length directories) more ≡ directories → (numbers : List ℕ) → All (λ tree. tree < length directories) numbers → map (files_at more) numbers ≡ map (files_at directories) numbers
+  same_files : (more : List Files) → take (length g.forest.trees) more ≡ g.forest.trees → (numbers : List ℕ)
+      → All (λ tree. tree < length g.forest.trees) numbers → map (files_at more) numbers ≡ map (files_at g.forest.trees) numbers
   same_files more front [] stand = refl
   same_files more front (number ∷ numbers) stand =
       ap₂ ◌∷◌
-      (sym (get_or-take (length directories) more number [] (All-head (λ tree. tree < length directories) number numbers stand)) ∙ ap (λ (l : List Files). get_or l number []) front)
-      (same_files more front numbers (All-tail (λ tree. tree < length directories) number numbers stand))
+      (sym (get_or-take (length g.forest.trees) more number [] (All-head (λ tree. tree < length g.forest.trees) number numbers stand)) ∙ ap
+      (λ (l : List Files). get_or l number []) front)
+      (same_files more front numbers (All-tail (λ tree. tree < length g.forest.trees) number numbers stand))
 
-  pub edited_alike : (place : Option ℕ) → IfSome place (λ p. p < length graph) → (tree : ℕ) → tree ≡ begun_with trees place → (edits : List Edit) → edited (files_at directories tree) edits ≡ edited (files_from (history_of graph names subjects refs trees directories) place) edits
-  edited_alike place there tree begun edits = ap (λ (files : Files). edited files edits) (ap (files_at directories) begun ∙ begun_files place there)
+  module _ (place : Option ℕ) (there : IfSome place (λ p. p < length g.graph)) (tree : ℕ) (begun : tree ≡ begun_with g.trees.items place) (edits : List Edit)
+    where
+      pub edited_alike : edited (files_at g.forest.trees tree) edits ≡ edited_files (history_of g) place edits
+      edited_alike = ap (λ (files : Files). edited files edits) (ap (files_at g.forest.trees) begun ∙ begun_files place there)
 
-  -- the history after an edit of files
-  pub applied : (place : Option ℕ) → IfSome place (λ p. p < length graph) → (tree : ℕ) → tree ≡ begun_with trees place → (edits : List Edit) → (more : List Files) → take (length directories) more ≡ directories → more ≡ with_directories directories (edited (files_at directories tree) edits)
-      → history_of graph names subjects refs trees more
-      ≡ record (history_of graph names subjects refs trees directories) { directories = with_directories directories (edited (files_from (history_of graph names subjects refs trees directories) place) edits) }
-  applied place there tree begun edits more front joined =
-      let same : map (files_at more) trees ≡ map (files_at directories) trees = same_files more front trees kept.trees_stand in
-      let pool : more ≡ with_directories directories (edited (files_from (history_of graph names subjects refs trees directories) place) edits) =
-      joined ∙ ap (with_directories directories) (edited_alike place there tree begun edits) in
-      cc
+      -- the history after an edit of files
+      pub applied : (forest : Pool) → take (length g.forest.trees) forest.trees ≡ g.forest.trees
+          → forest.trees ≡ with_directories g.forest.trees (edited (files_at g.forest.trees tree) edits)
+          → history_of (record g { forest = forest }) ≡ with_edits (history_of g) place edits
+      applied forest front joined =
+          let same : map (files_at forest.trees) g.trees.items ≡ map (files_at g.forest.trees) g.trees.items = same_files forest.trees front g.trees.items
+          kept.trees_stand in
+          let pool : forest.trees ≡ with_directories g.forest.trees (edited_files (history_of g) place edits) = joined ∙ ap (with_directories g.forest.trees)
+          edited_alike in
+          cc
 
 pub both_ok : {T E A B C : Type 0} (result : Result T E) → (A → B → C) → OnOk result A → OnOk result B → OnOk result C
 both_ok (Ok x) make a b = make a b
@@ -104,29 +165,18 @@ either_way (Ok x) make other a b = make a
 either_way (Err e) make other a b = other b
 
 -- what a mark stands for is there
-pub sound_with_mark : (growth : Growing) (marks : List (ℕ × Marked)) (limits : Limits) → IsSound growth marks limits → (mark : Option ℕ) (what : Marked) → StandsBelow (length growth.history.parents) what
-    → (more : List (ℕ × Marked)) → more ≡ with_mark mark what marks → IsSound growth more limits
-sound_with_mark growth marks limits sound None what there more is = subst (λ (m : List (ℕ × Marked)). IsSound growth m limits) (sym is) sound
-sound_with_mark growth marks limits sound (Some number) what there more is = record {
-  limit = sound.limit;
-  within = sound.within;
-  few = sound.few;
-  marks_stand = subst (All (λ (mark : ℕ × Marked). StandsBelow (length growth.history.parents) mark.1)) (sym is)
-      (with_value_stands (StandsBelow (length growth.history.parents)) ◌==◌ number what there marks sound.marks_stand);
-}
+pub marks_with : (count : ℕ) (marks : List (ℕ × Marked)) → MarksStand count marks → (mark : Option ℕ) (what : Marked) → StandsBelow count what
+    → (more : List (ℕ × Marked)) → more ≡ with_mark mark what marks → MarksStand count more
+marks_with count marks stand None what there more is = subst (MarksStand count) (sym is) stand
+marks_with count marks stand (Some number) what there more is = subst (MarksStand count) (sym is)
+    (with_value_stands (StandsBelow count) ◌==◌ number what there marks stand)
 
--- a longer history is within the limits as the one before
-pub sound_after : (growth grown : Growing) (marks : List (ℕ × Marked)) (limits : Limits) → IsSound growth marks limits → grown.limit ≡ growth.limit → length grown.history.names ≤ limits.commits
-    → length growth.history.parents ≤ length grown.history.parents → IsSound grown marks limits
-sound_after growth grown marks limits sound limit few longer = record {
-  limit = limit ∙ sound.limit;
-  within = sound.within;
-  few = few;
-  marks_stand = All-weaker (λ (mark : ℕ × Marked). StandsBelow (length growth.history.parents) mark.1) (λ (mark : ℕ × Marked). StandsBelow (length grown.history.parents) mark.1)
-      (λ mark. stands_longer (length growth.history.parents) (length grown.history.parents) longer mark.1) marks sound.marks_stand;
-}
+-- marks that stand still do where there are more commits
+pub marks_longer : (few more : ℕ) (marks : List (ℕ × Marked)) → few ≤ more → MarksStand few marks → MarksStand more marks
+marks_longer few more marks longer stand =
+    All-weaker (λ (mark : ℕ × Marked). StandsBelow few mark.1) (λ (mark : ℕ × Marked). StandsBelow more mark.1) (λ mark. stands_longer mark.1) marks stand
   where
-    stands_longer : (few more : ℕ) → few ≤ more → (what : Marked) → StandsBelow few what → StandsBelow more what
-    stands_longer few more longer (marked.Commit place) there = omega arith
-    stands_longer few more longer (marked.Blob name) there = tt
-    stands_longer few more longer marked.Tag there = tt
+    stands_longer : (what : Marked) → StandsBelow few what → StandsBelow more what
+    stands_longer (marked.Commit place) there = omega arith
+    stands_longer (marked.Blob name) there = tt
+    stands_longer marked.Tag there = tt

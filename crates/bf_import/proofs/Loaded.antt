@@ -1,7 +1,7 @@
 -- What an import has loaded so far, and how it ends.
 use Rattle.std.proofs.Common.{◌≡◌, ℕ, suc, ◌<◌, ◌≤◌, List, [], ◌∷◌, length, Option, Some, None, Result, Ok, Err, refl, sym, ◌∙◌, ap, subst, arith}
 use Rattle.std.specs.Result.{IsErrAnd, IfErr}
-use Rattle.std.specs.Option.{OnSome}
+use Rattle.std.specs.Option.{OnSome, option_map}
 use Rattle.std.proofs.lemmas.Result.{err_from_is_err_and}
 use Rattle.bf_grammar.specs.declared.command.Command.{Command}
 use Rattle.bf_grammar.specs.declared.fault.Limits.{Limits}
@@ -15,42 +15,39 @@ use Rattle.bf_history.specs.declared.fault.ImportFault.TheVariants as faults
 use Rattle.bf_history.specs.Imports.{loaded, LoadsFrom, Loads, MayImport, Means}
 use Rattle.bf_history.specs.Meanings.{◌>>=◌, History, Loading, nothing_loaded, after_command}
 use Rattle.bf_import.specs.Faults.{IsOfMeaning, IsImportFault, refusal_of_stream}
-use Rattle.bf_import.specs.Kept.{Importing}
+use Rattle.bf_import.specs.Growing.{Importing, nothing_imported}
+use Rattle.bf_import.specs.Loading.{LoadsOn, ended}
 use Rattle.bf_import.proofs.Refusals.{meaning_refuses}
 use Rattle.bf_io.specs.Causes.{Rose, FailsOnlyAt}
-use Rattle.bf_lines.specs.Held.{Held, nothing_held, place_of}
 
--- what loads from here on, with what is loaded so far, loads from the start on
-abbrev pub LoadsOn : Limits → Option (List ℕ) → Option Place → Loading → Type 0
-LoadsOn limits None here loading = here ≡ None
-LoadsOn limits (Some bytes) here loading =
-    (p : Place) × (here ≡ Some p) × ((result : Result History ImportFault) → LoadsFrom limits loading p result → Loads bytes limits result)
-
-nothing_yet : (limits : Limits) (left : Option (List ℕ)) → LoadsOn limits left (place_of (nothing_held limits.stream) left) nothing_loaded
+nothing_yet : (limits : Limits) (left : Option (List ℕ)) → LoadsOn limits left (option_map (start_of limits.stream) left) nothing_loaded
 nothing_yet limits None = refl
 nothing_yet limits (Some bytes) = (start_of limits.stream bytes, refl, λ result from. from)
 
-pub loads_here : (limits : Limits) (left : Option (List ℕ)) (window : Held) (importer : Importing) → window ≡ nothing_held limits.stream → importer ≡ record { loading = nothing_loaded; limits = limits }
-    → LoadsOn limits left (place_of window left) importer.loading
-loads_here limits left window importer fresh begun =
-    subst (λ (w : Held). LoadsOn limits left (place_of w left) importer.loading) (sym fresh)
-    (subst (λ (i : Importing). LoadsOn limits left (place_of (nothing_held limits.stream) left) i.loading) (sym begun) (nothing_yet limits left))
+-- before the first command
+pub loads_here : (limits : Limits) (left : Option (List ℕ)) (here : Option Place) (importer : Importing) → here ≡ option_map (start_of limits.stream) left
+    → importer ≡ nothing_imported limits
+    → LoadsOn limits left here importer.loading
+loads_here limits left here importer fresh begun =
+    subst (λ (h : Option Place). LoadsOn limits left h importer.loading) (sym fresh)
+    (subst (λ (i : Importing). LoadsOn limits left (option_map (start_of limits.stream) left) i.loading) (sym begun) (nothing_yet limits left))
 
 module _ (limits : Limits) (before after : Option Place) (loading : Loading) where
   abbrev Gave : Option Place → Result (Option Command) StreamFault → Type 0
   Gave here result = Gives (λ (c : Option Command). c) here after result (command_at limits)
 
   -- behind a command
-  pub loads_more : (left : Option (List ℕ)) (next : Loading) (command : Command) → LoadsOn limits left before loading → Gave before (Ok (Some command)) → after_command limits loading command ≡ Ok next → LoadsOn limits left after next
+  pub loads_more : (left : Option (List ℕ)) (next : Loading) (command : Command) → LoadsOn limits left before loading → Gave before (Ok (Some command))
+      → after_command limits loading command ≡ Ok next → LoadsOn limits left after next
   unfolding loaded
   loads_more None next command here gives meant = subst (λ (m : Option Place). Gave m (Ok (Some command))) here gives
   loads_more (Some bytes) next command (p, here, on) gives meant =
-      let (q, read, there) = subst (λ (m : Option Place). Gave m (Ok (Some command))) here gives in
-      (q, there, λ result (commands, end, goes, is). on result (command ∷ commands, end, (q, read, goes), is ∙ ap (λ (r : Result Loading ImportFault). r >>= λ n. loaded limits n commands end) (sym meant)))
-
-  -- what was read is a command
-  pub gave_so : (given next : Option Command) → given ≡ next → Gave before (Ok given) → Gave before (Ok next)
-  gave_so given next is gives = subst (λ (c : Option Command). Gave before (Ok c)) is gives
+      let (q, read, there) = subst (λ (m : Option Place). Gave m (Ok (Some command))) here gives in (
+        q,
+        there,
+        λ result (commands, end, goes, is). on result
+            (command ∷ commands, end, (q, read, goes), is ∙ ap (λ (r : Result Loading ImportFault). r >>= λ n. loaded limits n commands end) (sym meant)),
+      )
 
   -- at the end of the stream
   pub loads_all : (left : Option (List ℕ)) → LoadsOn limits left before loading → Gave before (Ok None) → MayImport left limits (Ok loading.history)
@@ -61,11 +58,15 @@ module _ (limits : Limits) (before after : Option Place) (loading : Loading) whe
       on (Ok loading.history) ([], None, (q, read), refl)
 
   -- at a refusal of the stream
-  stream_refused : (bytes : List ℕ) (fault : StreamFault) (p : Place) → ((result : Result History ImportFault) → LoadsFrom limits loading p result → Loads bytes limits result) → command_at limits p ≡ Err fault → Loads bytes limits (Err (faults.Stream fault))
+  stream_refused : (bytes : List ℕ) (fault : StreamFault) (p : Place)
+      → ((result : Result History ImportFault) → LoadsFrom limits loading p result → Loads bytes limits result) → command_at limits p ≡ Err fault
+      → Loads bytes limits (Err (faults.Stream fault))
   unfolding loaded
   stream_refused bytes fault p on is = on (Err (faults.Stream fault)) ([], Some fault, is, refl)
 
-  told_refused : (bytes : List ℕ) (fault : StreamFault) (p : Place) → ((result : Result History ImportFault) → LoadsFrom limits loading p result → Loads bytes limits result) → Gave (Some p) (Err fault) → MayImport (Some bytes) limits (Err (refusal_of_stream fault))
+  told_refused : (bytes : List ℕ) (fault : StreamFault) (p : Place)
+      → ((result : Result History ImportFault) → LoadsFrom limits loading p result → Loads bytes limits result) → Gave (Some p) (Err fault)
+      → MayImport (Some bytes) limits (Err (refusal_of_stream fault))
   told_refused bytes (stream.Syntax line) p on is = stream_refused bytes (stream.Syntax line) p on is
   told_refused bytes (stream.Unsupported line) p on is = stream_refused bytes (stream.Unsupported line) p on is
   told_refused bytes (stream.Truncated line) p on is = stream_refused bytes (stream.Truncated line) p on is
@@ -74,42 +75,70 @@ module _ (limits : Limits) (before after : Option Place) (loading : Loading) whe
   told_refused bytes (stream.TooLarge what) p on is = stream_refused bytes (stream.TooLarge what) p on is
   told_refused bytes stream.NoMemory p on is = tt
 
-  pub loads_refused : (left : Option (List ℕ)) (fault : StreamFault) → LoadsOn limits left before loading → Gave before (Err fault) → MayImport left limits (Err (refusal_of_stream fault))
+  pub loads_refused : (left : Option (List ℕ)) (fault : StreamFault) → LoadsOn limits left before loading → Gave before (Err fault)
+      → MayImport left limits (Err (refusal_of_stream fault))
   loads_refused None fault here gives = tt
   loads_refused (Some bytes) fault (p, here, on) gives = told_refused bytes fault p on (subst (λ (m : Option Place). Gave m (Err fault)) here gives)
 
   -- at a command without a meaning
-  command_refused : (bytes : List ℕ) (command : Command) (fault : ImportFault) (p : Place) → ((result : Result History ImportFault) → LoadsFrom limits loading p result → Loads bytes limits result) → Gave (Some p) (Ok (Some command)) → after_command limits loading command ≡ Err fault → Loads bytes limits (Err fault)
+  command_refused : (bytes : List ℕ) (command : Command) (fault : ImportFault) (p : Place)
+      → ((result : Result History ImportFault) → LoadsFrom limits loading p result → Loads bytes limits result) → Gave (Some p) (Ok (Some command))
+      → after_command limits loading command ≡ Err fault → Loads bytes limits (Err fault)
   unfolding loaded
   command_refused bytes command fault p on (q, read, there) meant =
       let (commands, end, goes) = some_continuation limits (suc (length q.rest)) q (omega arith) in
       on (Err fault) (command ∷ commands, end, (q, read, goes), ap (λ (r : Result Loading ImportFault). r >>= λ n. loaded limits n commands end) (sym meant))
 
-  told_meant : (bytes : List ℕ) (command : Command) (fault : ImportFault) (p : Place) → ((result : Result History ImportFault) → LoadsFrom limits loading p result → Loads bytes limits result) → Gave (Some p) (Ok (Some command)) → IsOfMeaning fault → Means (λ (i : Importing). i.loading) (Err fault) (after_command limits loading command) → MayImport (Some bytes) limits (Err fault)
-  told_meant bytes command (faults.Stream fault) p on gives own is = absurd own
-  told_meant bytes command (faults.BadFrom line) p on gives own is = command_refused bytes command (faults.BadFrom line) p on gives is
-  told_meant bytes command (faults.BadMark line) p on gives own is = command_refused bytes command (faults.BadMark line) p on gives is
-  told_meant bytes command (faults.BadPath line) p on gives own is = command_refused bytes command (faults.BadPath line) p on gives is
-  told_meant bytes command (faults.Unsupported line) p on gives own is = command_refused bytes command (faults.Unsupported line) p on gives is
-  told_meant bytes command (faults.TooLarge what) p on gives own is = command_refused bytes command (faults.TooLarge what) p on gives is
-  told_meant bytes command faults.NoMemory p on gives own is = tt
+  told_meant : {X : Type 0} (view : X → Loading) (bytes : List ℕ) (command : Command) (fault : ImportFault) (p : Place)
+      → ((result : Result History ImportFault) → LoadsFrom limits loading p result → Loads bytes limits result) → Gave (Some p) (Ok (Some command))
+      → IsOfMeaning fault → Means view (Err fault) (after_command limits loading command) → MayImport (Some bytes) limits (Err fault)
+  told_meant view bytes command (faults.Stream fault) p on gives own is = absurd own
+  told_meant view bytes command (faults.BadFrom line) p on gives own is = command_refused bytes command (faults.BadFrom line) p on gives is
+  told_meant view bytes command (faults.BadMark line) p on gives own is = command_refused bytes command (faults.BadMark line) p on gives is
+  told_meant view bytes command (faults.BadPath line) p on gives own is = command_refused bytes command (faults.BadPath line) p on gives is
+  told_meant view bytes command (faults.Unsupported line) p on gives own is = command_refused bytes command (faults.Unsupported line) p on gives is
+  told_meant view bytes command (faults.TooLarge what) p on gives own is = command_refused bytes command (faults.TooLarge what) p on gives is
+  told_meant view bytes command faults.NoMemory p on gives own is = tt
 
-  loads_meant : (left : Option (List ℕ)) (command : Command) (fault : ImportFault) → LoadsOn limits left before loading → Gave before (Ok (Some command)) → Means (λ (i : Importing). i.loading) (Err fault) (after_command limits loading command) → MayImport left limits (Err fault)
-  loads_meant None command fault here gives means = tt
-  loads_meant (Some bytes) command fault (p, here, on) gives means =
-      told_meant bytes command fault p on (subst (λ (m : Option Place). Gave m (Ok (Some command))) here gives) (meaning_refuses (λ (i : Importing). i.loading) limits loading command fault means) means
+  loads_meant : {X : Type 0} (view : X → Loading) (left : Option (List ℕ)) (command : Command) (fault : ImportFault) → LoadsOn limits left before loading
+      → Gave before (Ok (Some command)) → Means view (Err fault) (after_command limits loading command) → MayImport left limits (Err fault)
+  loads_meant view None command fault here gives means = tt
+  loads_meant view (Some bytes) command fault (p, here, on) gives means =
+      told_meant view bytes command fault p on (subst (λ (m : Option Place). Gave m (Ok (Some command))) here gives)
+      (meaning_refuses view limits loading command fault means) means
 
   -- the same at the exit of a `?`
-  pub loads_stopped : (left : Option (List ℕ)) (command : Command) (fault : ImportFault) (result : Result History ImportFault) → IsErrAnd result (λ other. other ≡ fault)
-      → LoadsOn limits left before loading → Gave before (Ok (Some command)) → Means (λ (i : Importing). i.loading) (Err fault) (after_command limits loading command) → MayImport left limits result
-  loads_stopped left command fault result exit here gives means =
+  pub loads_stopped : {X : Type 0} (view : X → Loading) (left : Option (List ℕ)) (command : Command) (fault : ImportFault)
+      (result : Result (Unit {0}) ImportFault) (last : Importing)
+      → IsErrAnd result (λ other. other ≡ fault)
+      → LoadsOn limits left before loading → Gave before (Ok (Some command)) → Means view (Err fault) (after_command limits loading command)
+      → MayImport left limits (ended result last)
+  loads_stopped view left command fault result last exit here gives means =
       let found = err_from_is_err_and result exit in
-      subst (λ (r : Result History ImportFault). MayImport left limits r) (sym (found.1 ∙ ap (λ (f : ImportFault). Err f) found.2)) (loads_meant left command fault here gives means)
+      subst (λ (r : Result (Unit {0}) ImportFault). MayImport left limits (ended r last)) (sym (found.1 ∙ ap (λ (f : ImportFault). Err f) found.2))
+      (loads_meant view left command fault here gives means)
+
+-- what a reader gave is read under the limits of the import
+pub gave_under : (limits own : Limits) → own ≡ limits → (before after : Option Place) (given next : Option Command) → given ≡ next
+    → Gives (λ (c : Option Command). c) before after (Ok given) (command_at own) → Gives (λ (c : Option Command). c) before after (Ok next) (command_at limits)
+gave_under limits own same before after given next is gives =
+    subst (λ (c : Option Command). Gives (λ (c : Option Command). c) before after (Ok c) (command_at limits)) is
+    (subst (λ (l : Limits). Gives (λ (c : Option Command). c) before after (Ok given) (command_at l)) same gives)
+
+-- an import that came to its end loads its bytes
+pub loads_ended : (limits : Limits) (left : Option (List ℕ)) (here : Option Place) (importer last : Importing) (result : Result (Unit {0}) ImportFault)
+    → here ≡ option_map (start_of limits.stream) left → importer ≡ nothing_imported limits
+    → ((bytes : Option (List ℕ)) → LoadsOn importer.limits bytes here importer.loading → MayImport bytes importer.limits (ended result last))
+    → MayImport left limits (ended result last)
+loads_ended limits left here importer last result fresh begun loads =
+    let same : importer.limits ≡ limits = ap (λ (i : Importing). i.limits) begun in
+    subst (λ (l : Limits). MayImport left l (ended result last)) same
+    (loads left (subst (λ (l : Limits). LoadsOn l left here importer.loading) (sym same) (loads_here limits left here importer fresh begun)))
 
 -- the limits of an import are those that it was given
-pub meant_under : (limits own : Limits) (loading : Loading) (command : Command) (result : Result Importing ImportFault) → own ≡ limits
-    → Means (λ (i : Importing). i.loading) result (after_command own loading command) → Means (λ (i : Importing). i.loading) result (after_command limits loading command)
-meant_under limits own loading command result same means = subst (λ (m : Limits). Means (λ (i : Importing). i.loading) result (after_command m loading command)) same means
+pub meant_under : {X : Type 0} (view : X → Loading) (limits own : Limits) (loading : Loading) (command : Command) (result : Result X ImportFault) → own ≡ limits
+    → Means view result (after_command own loading command) → Means view result (after_command limits loading command)
+meant_under view limits own loading command result same means = subst (λ (m : Limits). Means view result (after_command m loading command)) same means
 
 -- ---- causes
 
@@ -126,12 +155,13 @@ of_import faults.NoMemory own = own
 pub own_from_known : (result : Result History ImportFault) → IfErr result IsImportFault → result ≡ Err (faults.Stream stream.NoMemory) → ⊥
 own_from_known result known is = subst (λ (r : Result History ImportFault). IfErr r IsImportFault) is known
 
-pub own_stopped : (limits : Limits) (loading : Loading) (command : Command) (fault : ImportFault) (result : Result History ImportFault) → IsErrAnd result (λ other. other ≡ fault)
-    → Means (λ (i : Importing). i.loading) (Err fault) (after_command limits loading command) → IfErr result (λ other. IsImportFault other)
-own_stopped limits loading command fault result exit means =
+pub own_stopped : {X : Type 0} (view : X → Loading) (limits : Limits) (loading : Loading) (command : Command) (fault : ImportFault)
+    (result : Result (Unit {0}) ImportFault) → IsErrAnd result (λ other. other ≡ fault)
+    → Means view (Err fault) (after_command limits loading command) → IfErr result (λ other. IsImportFault other)
+own_stopped view limits loading command fault result exit means =
     let found = err_from_is_err_and result exit in
-    subst (λ (r : Result History ImportFault). IfErr r (λ other. IsImportFault other)) (sym (found.1 ∙ ap (λ (f : ImportFault). Err f) found.2))
-    (of_import fault (meaning_refuses (λ (i : Importing). i.loading) limits loading command fault means))
+    subst (λ (r : Result (Unit {0}) ImportFault). IfErr r (λ other. IsImportFault other)) (sym (found.1 ∙ ap (λ (f : ImportFault). Err f) found.2))
+    (of_import fault (meaning_refuses view limits loading command fault means))
 
 pub own_refused : (fault : StreamFault) → IsImportFault (refusal_of_stream fault)
 own_refused (stream.Syntax line) = tt
@@ -143,22 +173,25 @@ own_refused (stream.TooLarge what) = tt
 own_refused stream.NoMemory = tt
 
 -- a meaning is never refused for a source that fails
-abbrev fault_in : Result History ImportFault → ImportFault
-fault_in (Ok history) = faults.NoMemory
+abbrev fault_in : Result (Unit {0}) ImportFault → ImportFault
+fault_in (Ok done) = faults.NoMemory
 fault_in (Err fault) = fault
 
-no_read : (fault : ImportFault) → IsOfMeaning fault → (let r : Result History ImportFault = Err fault in r) ≡ Err (faults.Stream stream.Read) → ⊥
+no_read : (fault : ImportFault) → IsOfMeaning fault → (let r : Result (Unit {0}) ImportFault = Err fault in r) ≡ Err (faults.Stream stream.Read) → ⊥
 no_read fault own is = subst IsOfMeaning (ap fault_in is) own
 
-pub cause_stopped : (limits : Limits) (loading : Loading) (command : Command) (fault : ImportFault) (result : Result History ImportFault) (before now : ℕ) → before ≤ now → IsErrAnd result (λ other. other ≡ fault)
-    → Means (λ (i : Importing). i.loading) (Err fault) (after_command limits loading command) → FailsOnlyAt (faults.Stream stream.Read) before now result
-cause_stopped limits loading command fault result before now later exit means =
+pub cause_stopped : {X : Type 0} (view : X → Loading) (limits : Limits) (loading : Loading) (command : Command) (fault : ImportFault)
+    (result : Result (Unit {0}) ImportFault) (before now : ℕ) → before ≤ now → IsErrAnd result (λ other. other ≡ fault)
+    → Means view (Err fault) (after_command limits loading command) → FailsOnlyAt (faults.Stream stream.Read) before now result
+cause_stopped view limits loading command fault result before now later exit means =
     let found = err_from_is_err_and result exit in
-    subst (λ (r : Result History ImportFault). FailsOnlyAt (faults.Stream stream.Read) before now r) (sym (found.1 ∙ ap (λ (f : ImportFault). Err f) found.2))
-    (record { later = later; failed = λ is. absurd (no_read fault (meaning_refuses (λ (i : Importing). i.loading) limits loading command fault means) is) })
+    subst (λ (r : Result (Unit {0}) ImportFault). FailsOnlyAt (faults.Stream stream.Read) before now r)
+    (sym (found.1 ∙ ap (λ (f : ImportFault). Err f) found.2))
+    (record { later = later; failed = λ is. absurd (no_read fault (meaning_refuses view limits loading command fault means) is) })
 
-pub cause_refused : (fault : StreamFault) (answered : ImportFault) (before mid now : ℕ) → before ≤ mid → answered ≡ refusal_of_stream fault → FailsOnlyAt {T = Option Command} stream.Read mid now (Err fault)
-    → FailsOnlyAt {T = History} (faults.Stream stream.Read) before now (Err answered)
+pub cause_refused : (fault : StreamFault) (answered : ImportFault) (before mid now : ℕ) → before ≤ mid → answered ≡ refusal_of_stream fault
+    → FailsOnlyAt {T = Option Command} stream.Read mid now (Err fault)
+    → FailsOnlyAt {T = Unit {0}} (faults.Stream stream.Read) before now (Err answered)
 cause_refused fault answered before mid now later so cause = record {
   later = omega (arith, cause.later, later);
   failed = λ is. rose_before before mid now later (cause.failed (ap (λ (f : StreamFault). Err f) (is_read fault (sym so ∙ ap fault_in is))));
@@ -175,6 +208,17 @@ cause_refused fault answered before mid now later so cause = record {
     is_read stream.Read is = refl
     is_read (stream.TooLarge what) is = absurd (cc)
     is_read stream.NoMemory is = absurd (cc)
+
+-- an import is refused as the loading of its commands was
+pub cause_kept : (fault : ImportFault) (before now : ℕ) (result : Result (Unit {0}) ImportFault) → result ≡ Err fault
+    → FailsOnlyAt (faults.Stream stream.Read) before now result → FailsOnlyAt {T = History} (faults.Stream stream.Read) before now (Err fault)
+cause_kept fault before now result is cause = record {
+  later = cause.later;
+  failed = λ so. cause.failed (is ∙ ap (λ (f : ImportFault). Err f) (same so));
+}
+  where
+    same : (let r : Result History ImportFault = Err fault in r) ≡ Err (faults.Stream stream.Read) → fault ≡ faults.Stream stream.Read
+    same so = cc
 
 -- a command takes bytes
 pub fewer_left : (given : Option Command) (command : Command) (now before : ℕ) → given ≡ Some command → OnSome given (now < before) → now < before

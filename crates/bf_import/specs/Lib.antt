@@ -1,2 +1,5 @@
 pub mod Faults
+pub mod Growing
 pub mod Kept
+pub mod Loading
+pub mod Roles

@@ -3,47 +3,50 @@ ghost use Rattle.std.specs.Prelude.{◌≡◌, ◌≤◌, ◌<◌, [], ◌∷◌
 ghost use Rattle.std.specs.List.{slice_index_or};
 ghost use Rattle.bf_forest.specs.declared.trees.ForestFault.TheVariants as faults;
 ghost use Rattle.bf_forest.specs.Files.{edited};
-ghost use Rattle.bf_forest.specs.Trees.{tree_name, with_directories, entries_of, files_at};
+ghost use Rattle.bf_forest.specs.Trees.{tree_name, entries_of, files_at};
+ghost use Rattle.bf_grammar.specs.Limits.{IsWithin};
 ghost use Rattle.bf_history.specs.Meanings.{nothing_loaded, files_from, place_named, ref_in, with_ref, without_ref};
-ghost use Rattle.bf_import.specs.Kept.{begun_with};
+ghost use Rattle.bf_import.specs.Growing.{HasPlace, begun_with, edited_files, nothing_grown, with_edits, with_new};
 
-use crate::history::History;
 use bf_forest::{Edit, Forest, ForestFault};
-use bf_grammar::Oid;
+use bf_grammar::Limits;
 use bf_graph::Graph;
 use bf_io::Bytes;
+use bf_oid::Oid;
 use bf_tables::{Names, Refs};
 use std::alloc::{AllocError, Global};
 use std::marker::Model;
 
-/// The commits so far, by place, the refs, and the trees of the commits. What fails for want of memory
-/// gives it up.
+/// The commits so far, by place, the refs, the trees of the commits, and the limits.
 #[derive(Drop)]
 pub(crate) struct Growth {
-    graph: Graph,
-    names: Names,
-    subjects: Vec<Bytes>,
-    refs: Refs,
+    pub(crate) graph: Graph,
+    pub(crate) names: Names,
+    pub(crate) subjects: Vec<Bytes>,
+    pub(crate) refs: Refs,
     /// For each place, the number of its tree in the forest.
-    trees: Vec<u32>,
-    forest: Forest,
+    pub(crate) trees: Vec<u32>,
+    pub(crate) forest: Forest,
+    pub(crate) limits: Limits,
 }
 
 impl Model for Growth {
-    ghost use Rattle.bf_import.specs.Kept.{Growing, IsKept, history_of};
+    ghost use Rattle.bf_import.specs.Growing.{Growing};
 
     ghost Value = { Growing };
 
-    ghost view = { λ g. record { history = history_of g.graph g.names g.subjects.items g.refs g.trees.items g.forest.trees; limit = g.forest.limit } };
+    ghost use Rattle.bf_import.specs.Kept.{IsKept, growing_of};
 
-    ghost invariant = { λ g. IsKept g.graph g.names g.subjects.items g.refs g.trees.items g.forest.trees };
+    ghost view = { growing_of };
+
+    ghost invariant = { IsKept };
 }
 
 impl Growth {
-    /// No commit and no ref. The trees may have so many entries together.
-    pub(crate) fn new(alloc: Global, limit: u32) -> Result<Growth, AllocError>
-        requires { limit ≤ 40000000 }
-        ensures { IfOk result (λ growth. growth ≡ record { history = nothing_loaded.history; limit = limit }) }
+    /// No commit and no ref.
+    pub(crate) fn new(alloc: Global, limits: Limits) -> Result<Growth, AllocError>
+        requires { IsWithin limits }
+        ensures { IfOk result (λ growth. growth ≡ nothing_grown limits) }
     {
         Ok(Growth {
             graph: Graph::new(alloc),
@@ -51,7 +54,8 @@ impl Growth {
             subjects: Vec::new(alloc),
             refs: Refs::new(alloc),
             trees: Vec::new(alloc),
-            forest: Forest::new(alloc, limit)?,
+            forest: Forest::new(alloc, limits.entries)?,
+            limits,
         })
     }
 
@@ -66,7 +70,7 @@ impl Growth {
     /// The place that a ref is set to.
     pub(crate) fn place_of_ref(&self, name: &Bytes) -> Option<u32>
         ensures value { result ≡ ref_in self.now.history.refs name.now }
-        ensures within { IfSome result (λ place. place < length self.now.history.parents) }
+        ensures within { IfSome result (HasPlace self.now.history) }
     {
         self.refs.get(name)
     }
@@ -74,7 +78,7 @@ impl Growth {
     /// The place of the commit with a name.
     pub(crate) fn place_named(&self, name: Oid) -> Option<u32>
         ensures value { result ≡ place_named self.now.history.names name }
-        ensures within { IfSome result (λ place. place < length self.now.history.parents) }
+        ensures within { IfSome result (HasPlace self.now.history) }
     {
         self.names.place_of(name)
     }
@@ -83,16 +87,19 @@ impl Growth {
     /// tree and those of its directories join the pool. `TooMany` comes exactly where the trees would
     /// then have more entries together than the limit.
     pub(crate) fn apply(&mut self, place: Option<u32>, edits: &[Edit]) -> Result<u32, ForestFault>
-        requires { IfSome place (λ place. place < length self.old.history.parents) }
+        requires { IfSome place (HasPlace self.old.history) }
         ensures number { IfOk result (λ tree. tree < length self.new.history.directories) }
-        ensures files { IfOk result
-            (λ tree. files_at self.new.history.directories tree ≡ edited (files_from self.old.history place) edits.now) }
-        ensures pool { OnOk result (self.new.history
-            ≡ record self.old.history { directories = with_directories self.old.history.directories (edited (files_from self.old.history place) edits.now) }) }
-        ensures limit { self.new.limit ≡ self.old.limit }
-        ensures within { OnOk result (entries_of self.new.history.directories ≤ self.old.limit) }
-        ensures too_many { IsErrOf result ForestFault.TooMany
-            → self.old.limit < entries_of (with_directories self.old.history.directories (edited (files_from self.old.history place) edits.now)) }
+        ensures files { IfOk result (λ tree. files_at self.new.history.directories tree
+            ≡ edited_files self.old.history place edits.now) }
+        ensures pool { let edited = with_edits self.old.history place edits.now in
+            OnOk result (self.new.history ≡ edited) }
+        ensures within { let most = self.old.limits.entries in
+            OnOk result (entries_of self.new.history.directories ≤ most) }
+        ensures too_many { let edited = with_edits self.old.history place edits.now in
+            IsErrOf result ForestFault.TooMany
+            → self.old.limits.entries < entries_of edited.directories }
+        ensures parents { self.new.history.parents ≡ self.old.history.parents }
+        ensures limits { self.new.limits ≡ self.old.limits }
     {
         let tree = tree_at(self.trees.as_slice(), place);
         self.forest.apply(tree, edits)
@@ -110,82 +117,90 @@ impl Growth {
     pub(crate) fn names(&self) -> &[Oid]
         ensures names { result.now ≡ self.now.history.names }
         ensures len { length result.now ≡ length self.now.history.parents }
+        ensures few { length result.now ≤ self.now.limits.commits }
     {
         self.names.as_slice()
     }
 
-    /// Adds a commit, whose place is the number of commits before.
+    /// The most commits that there may be.
+    pub(crate) fn most(&self) -> u32
+        ensures { result ≡ self.now.limits.commits }
+    {
+        self.limits.commits
+    }
+
+    /// Adds a commit, whose place is the number of commits before. After an error all is as before.
     pub(crate) fn add(
-        self,
+        &mut self,
         parents: &[u32],
         tree: u32,
         subject: Bytes,
         name: Oid,
-    ) -> Result<Growth, AllocError>
-        requires parents { All (λ parent. parent < length self.history.parents) parents.now }
-        requires tree { tree < length self.history.directories }
-        requires new { place_named self.history.names name ≡ None }
-        requires room { length self.history.parents < 4294967295 }
-        ensures history { IfOk result (λ growth. growth.history ≡ record {
-          refs = self.history.refs;
-          parents = self.history.parents ++ parents.now ∷ [];
-          files = self.history.files ++ files_at self.history.directories tree ∷ [];
-          subjects = self.history.subjects ++ subject ∷ [];
-          names = self.history.names ++ name ∷ [];
-          directories = self.history.directories;
-        }) }
-        ensures limit { IfOk result (λ growth. growth.limit ≡ self.limit) }
+    ) -> Result<(), AllocError>
+        requires parents { All (HasPlace self.old.history) parents.now }
+        requires tree { tree < length self.old.history.directories }
+        requires new { place_named self.old.history.names name ≡ None }
+        requires room { length self.old.history.parents < self.old.limits.commits }
+        ensures ok { OnOk result (self.new.history ≡ with_new self.old.history (record {
+          parents = parents.now;
+          files = files_at self.old.history.directories tree;
+          subject = subject;
+          name = name;
+        })) }
+        ensures limits { self.new.limits ≡ self.old.limits }
+        ensures err { OnErr result (self.new ≡ self.old) }
     {
-        let Growth {
-            mut graph,
-            mut names,
-            mut subjects,
-            refs,
-            mut trees,
-            forest,
-        } = self;
-        graph.push(parents)?;
-        names.push(name)?;
-        subjects.push(subject)?;
-        trees.push(tree)?;
-        Ok(Growth {
-            graph,
-            names,
-            subjects,
-            refs,
-            trees,
-            forest,
-        })
+        // Room first, so that a commit is added as a whole or not at all.
+        self.subjects.reserve(1)?;
+        self.trees.reserve(1)?;
+        add_named(&mut self.graph, &mut self.names, parents, name)?;
+        self.subjects.push_reserved(subject);
+        self.trees.push_reserved(tree);
+        Ok(())
     }
 
     /// Sets a ref to a place. After an error all is as before.
     pub(crate) fn set_ref(&mut self, name: Bytes, place: u32) -> Result<(), AllocError>
         requires { place < length self.old.history.parents }
-        ensures ok { OnOk result (self.new ≡ record self.old { history = with_ref name place self.old.history }) }
+        ensures ok { OnOk result (self.new.history ≡ with_ref name place self.old.history) }
         ensures err { OnErr result (self.new ≡ self.old) }
+        ensures limits { self.new.limits ≡ self.old.limits }
     {
         self.refs.set(name, place)
     }
 
     /// Removes a ref.
     pub(crate) fn remove_ref(&mut self, name: &Bytes)
-        ensures { self.new ≡ record self.old { history = without_ref name.now self.old.history } }
+        ensures history { self.new.history ≡ without_ref name.now self.old.history }
+        ensures limits { self.new.limits ≡ self.old.limits }
     {
         self.refs.remove(name);
     }
+}
 
-    /// The history, which grows no more.
-    pub(crate) fn into_history(self) -> History
-        ensures { result ≡ self.history }
-    {
-        History::from_parts(
-            self.graph,
-            self.names,
-            self.subjects,
-            self.refs,
-            self.trees,
-            self.forest,
-        )
+/// Adds a commit's parents and its name. After an error both are as before.
+fn add_named(
+    graph: &mut Graph,
+    names: &mut Names,
+    parents: &[u32],
+    name: Oid,
+) -> Result<(), AllocError>
+    requires len { length names.old ≡ length graph.old }
+    requires parents { All (λ parent. parent < length graph.old) parents.now }
+    requires new { place_named names.old name ≡ None }
+    requires room { length graph.old < 4294967295 }
+    ensures graph { OnOk result (graph.new ≡ graph.old ++ parents.now ∷ []) }
+    ensures names { OnOk result (names.new ≡ names.old ++ name ∷ []) }
+    ensures same_graph { OnErr result (graph.new ≡ graph.old) }
+    ensures same_names { OnErr result (names.new ≡ names.old) }
+{
+    names.push(name)?;
+    match graph.push(parents) {
+        Ok(_) => Ok(()),
+        Err(error) => {
+            names.truncate(graph.len());
+            Err(error)
+        }
     }
 }
 

@@ -3,14 +3,14 @@ ghost use Rattle.std.specs.Prelude.{◌≡◌, ◌<◌, [], length, All, IsTrue,
 ghost use Rattle.std.specs.List.{slice_index_or};
 ghost use Rattle.bf_forest.specs.Files.{is_tree};
 ghost use Rattle.bf_forest.specs.Trees.{tree_name};
-ghost use Rattle.bf_history.specs.Meanings.{files_from, place_named};
-ghost use Rattle.bf_import.specs.Kept.{IsKept, history_of};
+ghost use Rattle.bf_history.specs.Meanings.{place_named};
 
-use bf_forest::{FileEntry, Forest};
-use bf_grammar::Oid;
+use crate::growth::Growth;
+use bf_forest::FileEntry;
 use bf_graph::Graph;
 use bf_io::Bytes;
-use bf_tables::{Names, Refs};
+use bf_oid::Oid;
+use bf_tables::Refs;
 use std::alloc::AllocError;
 use std::marker::Model;
 
@@ -18,61 +18,38 @@ use std::marker::Model;
 /// order of the stream, from 0; commits of one name are one, at the place of the first.
 #[derive(Drop)]
 pub struct History {
-    graph: Graph,
-    names: Names,
-    subjects: Vec<Bytes>,
-    refs: Refs,
-    /// For each place, the number of its tree in the forest.
-    trees: Vec<u32>,
-    forest: Forest,
+    growth: Growth,
 }
 
 impl Model for History {
     ghost use Rattle.bf_history.specs.Meanings.{History};
-    ghost use Rattle.bf_import.specs.Kept.{IsKept, history_of};
 
     ghost Value = { History };
 
-    ghost view = { λ h. history_of h.graph h.names h.subjects.items h.refs h.trees.items h.forest.trees };
-
-    ghost invariant = { λ h. IsKept h.graph h.names h.subjects.items h.refs h.trees.items h.forest.trees };
+    ghost view = { λ h. h.growth.history };
 }
 
 impl History {
-    /// The history of these parts.
-    pub(crate) fn from_parts(
-        graph: Graph,
-        names: Names,
-        subjects: Vec<Bytes>,
-        refs: Refs,
-        trees: Vec<u32>,
-        forest: Forest,
-    ) -> History
-        requires { IsKept graph names subjects.items refs trees.items forest.trees }
-        ensures { result ≡ history_of graph names subjects.items refs trees.items forest.trees }
+    /// A history that grows no more.
+    pub(crate) fn of(growth: Growth) -> History
+        ensures { result ≡ growth.history }
     {
-        History {
-            graph,
-            names,
-            subjects,
-            refs,
-            trees,
-            forest,
-        }
+        History { growth }
     }
 
     /// The parents of each commit, by place, in the order in which the stream gave them.
     pub fn graph(&self) -> &Graph
         ensures { result.now ≡ self.now.parents }
     {
-        &self.graph
+        let growth = &self.growth;
+        &growth.graph
     }
 
     /// The number of commits.
     pub fn len(&self) -> u32
         ensures { result ≡ length self.now.parents }
     {
-        self.graph.len()
+        self.growth.len()
     }
 
     /// The names of the commits, by place. No two are the same.
@@ -80,7 +57,7 @@ impl History {
         ensures value { result.now ≡ self.now.names }
         ensures len { length result.now ≡ length self.now.parents }
     {
-        self.names.as_slice()
+        self.growth.names()
     }
 
     /// The subjects of the commits, by place: the first line of a message that has a byte, without its LF.
@@ -88,7 +65,8 @@ impl History {
         ensures value { result.now ≡ self.now.subjects }
         ensures len { length result.now ≡ length self.now.parents }
     {
-        self.subjects.as_slice()
+        let growth = &self.growth;
+        growth.subjects.as_slice()
     }
 
     /// The refs, in the order in which they were first set, each with the place of its commit.
@@ -96,7 +74,8 @@ impl History {
         ensures value { result.now ≡ self.now.refs }
         ensures places { All (λ ref. ref.1 < length self.now.parents) result.now }
     {
-        &self.refs
+        let growth = &self.growth;
+        &growth.refs
     }
 
     /// The place of the commit with a name.
@@ -104,7 +83,7 @@ impl History {
         ensures value { result ≡ place_named self.now.names name }
         ensures within { IfSome result (λ place. place < length self.now.parents) }
     {
-        self.names.place_of(name)
+        self.growth.place_named(name)
     }
 
     /// The name of the tree of a commit, as git names it.
@@ -112,15 +91,18 @@ impl History {
         requires { place < length self.now.parents }
         ensures { result.0 ≡ tree_name (slice_index_or self.now.files place []) }
     {
-        self.forest.name(self.trees[place as usize])
+        let growth = &self.growth;
+        growth.forest.name(growth.trees[place as usize])
     }
 
     /// The files of a commit, in order of their paths' bytes. No path is another one, nor leads to it.
     pub fn files(&self, place: u32) -> Result<Vec<FileEntry>, AllocError>
         requires { place < length self.now.parents }
-        ensures value { IfOk result (λ files. files.items ≡ slice_index_or self.now.files place []) }
+        ensures value { IfOk result
+            (λ files. files.items ≡ slice_index_or self.now.files place []) }
         ensures ordered { IfOk result (λ files. IsTrue (is_tree files.items)) }
     {
-        self.forest.files(self.trees[place as usize])
+        let growth = &self.growth;
+        growth.forest.files(growth.trees[place as usize])
     }
 }

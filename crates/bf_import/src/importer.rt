@@ -1,25 +1,22 @@
 //! An import under way.
-ghost use Rattle.std.specs.Prelude.{◌≡◌, ◌==◌, ◌<◌, ◌++◌, codes, length, All, IfOk, IfSome, OnErr, OnOk};
+ghost use Rattle.std.specs.Prelude.{◌≡◌, ◌==◌, ◌≤◌, ◌<◌, ◌++◌, codes, length, All, IfOk, IfSome, OnErr, OnOk};
 ghost use Rattle.std.specs.List.{list_all};
-ghost use Rattle.std.specs.Option.{option_map};
-ghost use Rattle.bf_commits.specs.Said.{saying_of};
-ghost use Rattle.bf_grammar.specs.declared.object.Kind.TheVariants as kind;
+ghost use Rattle.bf_oid.specs.declared.object.Kind.TheVariants as kind;
 ghost use Rattle.bf_grammar.specs.Limits.{IsWithin};
-ghost use Rattle.bf_grammar.specs.Object.{name_of};
+ghost use Rattle.bf_oid.specs.Object.{name_of};
 ghost use Rattle.bf_history.specs.declared.marked.Marked.TheVariants as marked;
 ghost use Rattle.bf_history.specs.Imports.{Means};
-ghost use Rattle.bf_history.specs.Meanings.{nothing_loaded, after_command, after_commit, after_reset, after_tag, each_of, edit_of, is_no_name, with_mark, with_ref, without_ref};
-ghost use Rattle.bf_import.specs.Kept.{IsSound, StandsBelow, after_parts};
+ghost use Rattle.bf_history.specs.Meanings.{nothing_loaded, after_command, after_commit, after_reset, after_tag, each_of, edit_of, is_no_name, place_of_commit, with_mark};
+ghost use Rattle.bf_import.specs.Growing.{HasPlace, Leaves, StandsBelow, commit_from, committed, joined, mark_set, meant_by, nothing_imported, ref_removed, ref_set};
 
-use crate::commit::{Grown, with_commit};
 use crate::growth::Growth;
 use crate::history::History;
-use bf_commits::{Saying, edits_of};
+use bf_commits::edits_of;
 use bf_forest::Edit;
-use bf_grammar::{Change, Command, Kind, Limits, Target};
+use bf_grammar::{Change, Command, Commit, Header, Limits, Target};
 use bf_history::{ImportFault, Marked};
 use bf_io::Bytes;
-use bf_oid::object_name;
+use bf_oid::{Kind, object_name};
 use bf_tables::Marks;
 use std::alloc::{AllocError, Global};
 use std::marker::Model;
@@ -33,34 +30,36 @@ pub(crate) enum Role {
     Tagged,
 }
 
-/// The history so far, what the marks stand for, and the limits. A command that is refused gives it up.
+/// The history so far, and what the marks stand for. A command that is refused may leave a part of its
+/// work behind.
 #[derive(Drop)]
 pub(crate) struct Importer {
+    pub(crate) alloc: Global,
     pub(crate) growth: Growth,
     pub(crate) marks: Marks,
-    pub(crate) limits: Limits,
 }
 
 impl Model for Importer {
-    ghost use Rattle.bf_import.specs.Kept.{Importing, IsSound};
+    ghost use Rattle.std.specs.Prelude.{length};
+    ghost use Rattle.bf_import.specs.Growing.{Importing, MarksStand, import_of};
 
     ghost Value = { Importing };
 
-    ghost view = { λ i. record { loading = record { history = i.growth.history; marks = i.marks }; limits = i.limits } };
+    ghost view = { λ i. import_of i.growth i.marks };
 
-    ghost invariant = { λ i. IsSound i.growth i.marks i.limits };
+    ghost invariant = { λ i. MarksStand (length i.growth.history.parents) i.marks };
 }
 
 impl Importer {
     /// Before the first command.
     pub(crate) fn new(alloc: Global, limits: Limits) -> Result<Importer, AllocError>
         requires { IsWithin limits }
-        ensures { IfOk result (λ importer. importer ≡ record { loading = nothing_loaded; limits = limits }) }
+        ensures { IfOk result (λ importer. importer ≡ nothing_imported limits) }
     {
         Ok(Importer {
-            growth: Growth::new(alloc, limits.entries)?,
+            alloc,
+            growth: Growth::new(alloc, limits)?,
             marks: Marks::new(alloc),
-            limits,
         })
     }
 
@@ -68,181 +67,150 @@ impl Importer {
     pub(crate) fn into_history(self) -> History
         ensures { result ≡ self.loading.history }
     {
-        self.growth.into_history()
+        History::of(self.growth)
+    }
+
+    /// The allocator that the import grows by.
+    pub(crate) fn allocator(&self) -> Global {
+        self.alloc
     }
 
     /// Carries out a command, or refuses it.
-    pub(crate) fn take(self, alloc: Global, command: Command) -> Result<Importer, ImportFault>
-        ensures loading { Means (λ importer. importer.loading) result (after_command self.limits self.loading command) }
-        ensures limits { IfOk result (λ importer. importer.limits ≡ self.limits) }
+    pub(crate) fn take(&mut self, command: Command) -> Result<(), ImportFault>
+        ensures loading { Leaves self.new result (meant_by self.old command) }
+        ensures limits { OnOk result (self.new.limits ≡ self.old.limits) }
     {
         match command {
             Command::Blob { mark, content, .. } => self.take_blob(mark, content.as_slice()),
-            Command::Commit {
-                branch,
-                mark,
-                author,
-                committer,
-                encoding,
-                message,
-                from,
-                merges,
-                changes,
-                ..
-            } => {
-                let saying = Saying {
-                    author: slice_of(&author),
-                    committer: committer.as_slice(),
-                    encoding: slice_of(&encoding),
-                    message: message.as_slice(),
-                };
-                self.take_commit(
-                    alloc,
-                    branch,
-                    mark,
-                    saying,
-                    from,
-                    merges.as_slice(),
-                    changes.as_slice(),
-                )
-            }
+            Command::Commit(commit) => self.take_commit(commit),
             Command::Tag {
                 name,
                 mark,
                 from,
                 ..
-            } => self.take_tag(alloc, name.as_slice(), mark, &from),
+            } => self.take_tag(&name, mark, &from),
             Command::Reset { branch, from, .. } => self.take_reset(branch, from),
-            Command::Progress { .. } => Ok(self),
-            Command::Feature { .. } => Ok(self),
+            Command::Progress { .. } => Ok(()),
+            Command::Feature { .. } => Ok(()),
         }
     }
 
-    fn take_blob(self, mark: Option<u64>, content: &[u8]) -> Result<Importer, ImportFault>
-        ensures loading { Means (λ importer. importer.loading) result
-            (Ok (record self.loading { marks = with_mark mark (marked.Blob (record { 0 = name_of kind.Blob content.now })) self.loading.marks })) }
-        ensures limits { IfOk result (λ importer. importer.limits ≡ self.limits) }
+    fn take_blob(&mut self, mark: Option<u64>, content: &[u8]) -> Result<(), ImportFault>
+        ensures loading { let blob = marked.Blob (record { 0 = name_of kind.Blob content.now }) in
+            let meant = record self.old.loading { marks = with_mark mark blob self.old.loading.marks } in
+            Leaves self.new result (Ok meant) }
+        ensures limits { OnOk result (self.new.limits ≡ self.old.limits) }
     {
-        let mut importer = self;
-        importer.set_mark(mark, Marked::Blob(object_name(Kind::Blob, content)))?;
-        Ok(importer)
+        self.set_mark(mark, Marked::Blob(object_name(Kind::Blob, content)))?;
+        Ok(())
     }
 
-    #[expect(clippy::too_many_arguments)]
-    fn take_commit(
-        self,
-        alloc: Global,
-        branch: Bytes,
-        mark: Option<u64>,
-        saying: Saying<'_>,
-        from: Option<Target>,
-        merges: &[Target],
-        changes: &[Change],
-    ) -> Result<Importer, ImportFault>
-        ensures loading { Means (λ importer. importer.loading) result
-            (after_commit self.limits self.loading branch mark (saying_of saying.entry) from merges.now changes.now) }
-        ensures limits { IfOk result (λ importer. importer.limits ≡ self.limits) }
+    fn take_commit(&mut self, commit: Commit) -> Result<(), ImportFault>
+        ensures loading { Leaves self.new result (committed self.old commit) }
+        ensures limits { OnOk result (self.new.limits ≡ self.old.limits) }
     {
-        let first = self.first_parent(&branch, from)?;
-        let parents = self.parents(alloc, first, merges)?;
-        let edits = self.edits(alloc, changes)?;
-        self.add_commit(
-            alloc,
+        let Commit {
             branch,
             mark,
-            saying,
-            first,
-            parents.as_slice(),
-            edits.as_slice(),
-        )
+            header,
+            from,
+            merges,
+            changes,
+            ..
+        } = commit;
+        let first = self.first_parent(&branch, from)?;
+        let parents = self.parents(first, merges.as_slice())?;
+        let edits = self.edits(changes.as_slice())?;
+        let place = self.add_commit(first, parents.as_slice(), edits.as_slice(), &header)?;
+        self.set_ref(branch, place)?;
+        self.set_mark(mark, Marked::Commit(place))?;
+        Ok(())
     }
 
-    fn edits(&self, alloc: Global, changes: &[Change]) -> Result<Vec<Edit>, ImportFault>
-        ensures { Means (λ edits. edits.items) result (each_of (edit_of self.now.loading.marks) changes.now) }
+    fn edits(&self, changes: &[Change]) -> Result<Vec<Edit>, ImportFault>
+        ensures { let marks = self.now.loading.marks in
+            Means (λ edits. edits.items) result (each_of (edit_of marks) changes.now) }
     {
-        edits_of(alloc, &self.marks, changes)
+        edits_of(self.alloc, &self.marks, changes)
     }
 
-    /// Adds a commit with these parents and edits, and sets its branch and its mark to its place.
-    #[expect(clippy::too_many_arguments)]
+    /// Adds a commit with these parents and edits, and gives its place.
     fn add_commit(
-        self,
-        alloc: Global,
-        branch: Bytes,
-        mark: Option<u64>,
-        saying: Saying<'_>,
+        &mut self,
         first: Option<u32>,
         parents: &[u32],
         edits: &[Edit],
-    ) -> Result<Importer, ImportFault>
-        requires first { IfSome first (λ place. place < length self.loading.history.parents) }
-        requires parents { All (λ parent. parent < length self.loading.history.parents) parents.now }
-        ensures loading { Means (λ importer. importer.loading) result
-            (after_parts self.limits self.loading branch mark (saying_of saying.entry) first parents.now edits.now) }
-        ensures limits { IfOk result (λ importer. importer.limits ≡ self.limits) }
+        header: &Header,
+    ) -> Result<u32, ImportFault>
+        requires first { IfSome first (HasPlace self.old.loading.history) }
+        requires parents { All (HasPlace self.old.loading.history) parents.now }
+        ensures history { let history = self.old.loading.history in
+            let commit = commit_from history first parents.now edits.now header.now in
+            Means (λ _. self.new.loading.history) result (joined self.old.limits history commit) }
+        ensures place { let history = self.old.loading.history in
+            let commit = commit_from history first parents.now edits.now header.now in
+            IfOk result (λ place. place ≡ place_of_commit history commit) }
+        ensures there { IfOk result (HasPlace self.new.loading.history) }
+        ensures marks { self.new.loading.marks ≡ self.old.loading.marks }
+        ensures limits { self.new.limits ≡ self.old.limits }
     {
-        let Importer {
-            growth,
-            marks,
-            limits,
-        } = self;
-        let grown = with_commit(alloc, growth, limits, first, parents, edits, saying)?;
-        Ok(after_growth(grown, marks, limits, branch, mark)?)
+        self.growth.commit(first, parents, edits, header)
     }
 
     fn take_tag(
-        self,
-        alloc: Global,
-        name: &[u8],
+        &mut self,
+        name: &Bytes,
         mark: Option<u64>,
         from: &Target,
-    ) -> Result<Importer, ImportFault>
-        ensures loading { Means (λ importer. importer.loading) result (after_tag self.loading name.now mark from.now) }
-        ensures limits { IfOk result (λ importer. importer.limits ≡ self.limits) }
+    ) -> Result<(), ImportFault>
+        ensures loading { let loading = self.old.loading in
+            Leaves self.new result (after_tag loading name.now mark from.now) }
+        ensures limits { OnOk result (self.new.limits ≡ self.old.limits) }
     {
         let place = self.place_of_target(Role::Tagged, from)?;
-        let name = tag_ref(alloc, name)?;
-        let mut importer = self;
-        importer.set_ref(name, place)?;
-        importer.set_mark(mark, Marked::Tag)?;
-        Ok(importer)
+        let full = tag_ref(name)?;
+        self.set_ref(full, place)?;
+        self.set_mark(mark, Marked::Tag)?;
+        Ok(())
     }
 
-    fn take_reset(self, branch: Bytes, from: Option<Target>) -> Result<Importer, ImportFault>
-        ensures loading { Means (λ importer. importer.loading) result (after_reset self.loading branch from) }
-        ensures limits { IfOk result (λ importer. importer.limits ≡ self.limits) }
+    fn take_reset(&mut self, branch: Bytes, from: Option<Target>) -> Result<(), ImportFault>
+        ensures loading { Leaves self.new result (after_reset self.old.loading branch from) }
+        ensures limits { OnOk result (self.new.limits ≡ self.old.limits) }
     {
         match from {
-            None => Ok(self.without_ref(&branch)),
+            None => {
+                self.remove_ref(&branch);
+                Ok(())
+            }
             Some(target) => self.reset_to(branch, &target),
         }
     }
 
-    fn reset_to(self, branch: Bytes, target: &Target) -> Result<Importer, ImportFault>
-        ensures loading { Means (λ importer. importer.loading) result (after_reset self.loading branch (Some target.now)) }
-        ensures limits { IfOk result (λ importer. importer.limits ≡ self.limits) }
+    fn reset_to(&mut self, branch: Bytes, target: &Target) -> Result<(), ImportFault>
+        ensures loading { let from = Some target.now in
+            Leaves self.new result (after_reset self.old.loading branch from) }
+        ensures limits { OnOk result (self.new.limits ≡ self.old.limits) }
     {
         if is_no_name(target.text.as_slice()) {
-            return Ok(self.without_ref(&branch));
+            self.remove_ref(&branch);
+            return Ok(());
         }
         let place = self.place_of_target(Role::Parent, target)?;
-        let mut importer = self;
-        importer.set_ref(branch, place)?;
-        Ok(importer)
+        self.set_ref(branch, place)?;
+        Ok(())
     }
 
-    fn without_ref(self, name: &Bytes) -> Importer
-        ensures { result ≡ record self { loading = record self.loading { history = without_ref name.now self.loading.history } } }
+    fn remove_ref(&mut self, name: &Bytes)
+        ensures { self.new ≡ ref_removed name.now self.old }
     {
-        let mut importer = self;
-        importer.growth.remove_ref(name);
-        importer
+        self.growth.remove_ref(name);
     }
 
     /// Sets a ref to a place.
     fn set_ref(&mut self, name: Bytes, place: u32) -> Result<(), AllocError>
         requires { place < length self.old.loading.history.parents }
-        ensures { OnOk result (self.new ≡ record self.old { loading = record self.old.loading { history = with_ref name place self.old.loading.history } }) }
+        ensures { OnOk result (self.new ≡ ref_set name place self.old) }
     {
         self.growth.set_ref(name, place)
     }
@@ -250,36 +218,10 @@ impl Importer {
     /// Lets a mark, where one is given, stand for something.
     fn set_mark(&mut self, mark: Option<u64>, what: Marked) -> Result<(), AllocError>
         requires { StandsBelow (length self.old.loading.history.parents) what }
-        ensures { OnOk result (self.new ≡ record self.old { loading = record self.old.loading { marks = with_mark mark what self.old.loading.marks } }) }
+        ensures { OnOk result (self.new ≡ mark_set mark what self.old) }
     {
         mark_as(&mut self.marks, mark, what)
     }
-}
-
-/// The import after a commit, whose branch and mark are set to its place.
-fn after_growth(
-    grown: Grown,
-    marks: Marks,
-    limits: Limits,
-    branch: Bytes,
-    mark: Option<u64>,
-) -> Result<Importer, AllocError>
-    requires there { grown.place < length grown.growth.history.parents }
-    requires sound { IsSound grown.growth marks limits }
-    ensures { IfOk result (λ importer. importer ≡ record {
-      loading = record { history = with_ref branch grown.place grown.growth.history; marks = with_mark mark (marked.Commit grown.place) marks };
-      limits = limits;
-    }) }
-{
-    let Grown { growth, place } = grown;
-    let mut importer = Importer {
-        growth,
-        marks,
-        limits,
-    };
-    importer.set_ref(branch, place)?;
-    importer.set_mark(mark, Marked::Commit(place))?;
-    Ok(importer)
 }
 
 fn mark_as(marks: &mut Marks, mark: Option<u64>, what: Marked) -> Result<(), AllocError>
@@ -293,11 +235,11 @@ fn mark_as(marks: &mut Marks, mark: Option<u64>, what: Marked) -> Result<(), All
 }
 
 /// The ref of a tag.
-fn tag_ref(alloc: Global, name: &[u8]) -> Result<Bytes, AllocError>
+fn tag_ref(name: &Bytes) -> Result<Bytes, AllocError>
     ensures { IfOk result (λ text. text ≡ codes "refs/tags/" ++ name.now) }
 {
-    let mut text = Bytes::from_slice(alloc, b"refs/tags/")?;
-    text.append(name)?;
+    let mut text = Bytes::from_slice(name.allocator(), b"refs/tags/")?;
+    text.append(name.as_slice())?;
     Ok(text)
 }
 
@@ -312,14 +254,4 @@ fn are_zeros(text: &[u8]) -> bool
     ensures { result ≡ list_all (λ byte. byte == 48) text.now }
 {
     text.iter().all(|byte| *byte == b'0')
-}
-
-/// The bytes of a part that may be missing.
-fn slice_of(part: &Option<Bytes>) -> Option<&[u8]>
-    ensures { option_map (λ text. text.now) result ≡ part.now }
-{
-    match part {
-        Some(text) => Some(text.as_slice()),
-        None => None,
-    }
 }

@@ -2,14 +2,15 @@
 //! here a stream is read and its commands are carried out, one after the other.
 #![tactic(auto)]
 
-mod commit;
+mod adding;
 mod growth;
 mod history;
 mod importer;
 mod loading;
 mod targets;
 
-pub use bf_grammar::{Limit, Limits, Oid, StreamFault};
+pub use bf_grammar::{Limit, Limits, StreamFault};
 pub use bf_history::ImportFault;
+pub use bf_oid::Oid;
 pub use history::History;
 pub use loading::import;

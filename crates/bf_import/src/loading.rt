@@ -1,17 +1,18 @@
 //! From a stream to its history.
-ghost use Rattle.std.specs.Prelude.{◌≡◌, IfErr, IsErrOf};
+ghost use Rattle.std.specs.Prelude.{◌≡◌, false, IfErr, IsErrOf};
 ghost use Rattle.bf_grammar.specs.Limits.{IsWithin};
 ghost use Rattle.bf_history.specs.Imports.{MayImport};
 ghost use Rattle.bf_import.specs.Faults.{IsImportFault, refusal_of_stream};
+ghost use Rattle.bf_import.specs.Loading.{LoadsRest};
 ghost use Rattle.bf_io.specs.Causes.{FailsOnlyAt};
+ghost use Rattle.bf_stream.specs.Standing.{is_over, limits_of, reader_faults, source_of};
 
 use crate::history::History;
 use crate::importer::Importer;
 use bf_grammar::{Limits, StreamFault};
 use bf_history::ImportFault;
 use bf_io::Source;
-use bf_lines::Window;
-use bf_stream::take_command;
+use bf_stream::{Reader, Window};
 use std::alloc::Global;
 
 /// The history that the commands of a stream make (git-fast-import(1)). The source is read to its end, or to the
@@ -26,20 +27,40 @@ pub fn import<S: Source>(
 ) -> Result<History, ImportFault>
     requires { IsWithin limits }
     ensures history { MayImport (S.left source.old) limits result }
-    ensures cause { FailsOnlyAt (ImportFault.Stream StreamFault.Read) (S.faults source.old) (S.faults source.new) result }
+    ensures cause { FailsOnlyAt (ImportFault.Stream StreamFault.Read)
+        (S.faults source.old) (S.faults source.new) result }
     ensures own { IsErrOf result (ImportFault.Stream StreamFault.NoMemory) → ⊥ }
     ensures known { IfErr result (λ fault. IsImportFault fault) }
 {
-    let mut window = Window::new(alloc, limits.stream)?;
+    let window = Window::new(alloc, limits.stream)?;
     let mut importer = Importer::new(alloc, limits)?;
+    let mut reader = Reader::with_window(alloc, window, source, limits);
+    let loaded = load(&mut reader, &mut importer);
+    let _ = reader.close();
+    match loaded {
+        Ok(()) => Ok(importer.into_history()),
+        Err(fault) => Err(fault),
+    }
+}
+
+/// Carries out the commands that are left.
+fn load<S: Source>(reader: &mut Reader<'_, S>, importer: &mut Importer) -> Result<(), ImportFault>
+    requires going_on { is_over reader.old ≡ false }
+    requires limits { limits_of reader.old ≡ importer.old.limits }
+    ensures loads { LoadsRest S.left reader.old importer.old importer.new result }
+    ensures cause { FailsOnlyAt (ImportFault.Stream StreamFault.Read)
+        (reader_faults S.faults reader.old) (reader_faults S.faults reader.new) result }
+    ensures known { IfErr result (λ fault. IsImportFault fault) }
+    ensures source { source_of reader.new ≡ source_of reader.old }
+{
     'commands: loop {
-        let next = match take_command(alloc, &mut window, source, limits) {
+        let next = match reader.next() {
             Ok(next) => next,
             Err(fault) => return Err(refused(fault)),
         };
         match next {
-            Some(command) => importer = importer.take(alloc, command)?,
-            None => return Ok(importer.into_history()),
+            Some(command) => importer.take(command)?,
+            None => return Ok(()),
         }
     }
 }

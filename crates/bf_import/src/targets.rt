@@ -1,12 +1,13 @@
 //! The commits that targets name.
-ghost use Rattle.std.specs.Prelude.{◌≡◌, ◌<◌, ◌++◌, length, All, IfOk, IfSome, MatchOption};
+ghost use Rattle.std.specs.Prelude.{◌≡◌, ◌++◌, All, IfOk, IfSome, MatchOption};
 ghost use Rattle.std.specs.Option.{ok_or, option_to_list};
 ghost use Rattle.std.specs.Prelude.{None};
-ghost use Rattle.bf_grammar.specs.Object.{oid_of_hex};
+ghost use Rattle.bf_oid.specs.Object.{oid_of_hex};
 ghost use Rattle.bf_history.specs.declared.fault.ImportFault.TheVariants.{BadFrom};
 ghost use Rattle.bf_history.specs.Imports.{Means};
 ghost use Rattle.bf_history.specs.Meanings.{begins_with, commit_marked, each_of, place_by, place_of_target, ref_in, ref_of_target};
-ghost use Rattle.bf_import.specs.Kept.{parents_given, said_of};
+ghost use Rattle.bf_import.specs.Growing.{HasPlace, parents_given};
+ghost use Rattle.bf_import.specs.Roles.{said_of};
 
 use crate::importer::{Importer, Role};
 use bf_forms::colon_number;
@@ -14,13 +15,14 @@ use bf_grammar::Target;
 use bf_history::{ImportFault, Marked};
 use bf_io::Bytes;
 use bf_oid::oid_from_hex;
-use std::alloc::{AllocError, Global};
+use std::alloc::AllocError;
 
 impl Importer {
     /// The place of the commit that a target names: by its mark, by its name or by a ref.
     pub(crate) fn place_of_target(&self, role: Role, target: &Target) -> Result<u32, ImportFault>
-        ensures place { Means (λ place. place) result (place_of_target (said_of role) self.now.loading target.now) }
-        ensures there { IfOk result (λ place. place < length self.now.loading.history.parents) }
+        ensures place { let loading = self.now.loading in
+            Means (λ place. place) result (place_of_target (said_of role) loading target.now) }
+        ensures there { IfOk result (HasPlace self.now.loading.history) }
     {
         match colon_number(target.text.as_slice()) {
             Some(number) => commit_marked(self.marks.get(number), role, target.line),
@@ -30,8 +32,10 @@ impl Importer {
 
     /// The place of the commit that a target names by its name or by a ref.
     fn place_by_text(&self, target: &Target) -> Result<u32, ImportFault>
-        ensures place { Means (λ place. place) result (place_by BadFrom self.now.loading target.now None (oid_of_hex target.now.text)) }
-        ensures there { IfOk result (λ place. place < length self.now.loading.history.parents) }
+        ensures place { let name = oid_of_hex target.now.text in
+            let meant = place_by BadFrom self.now.loading target.now None name in
+            Means (λ place. place) result meant }
+        ensures there { IfOk result (HasPlace self.now.loading.history) }
     {
         match oid_from_hex(target.text.as_slice()) {
             Some(name) => found_or(
@@ -47,8 +51,9 @@ impl Importer {
 
     /// The place of the ref that a target's text names, itself or what stands before `^0`.
     fn place_of_ref(&self, text: &Bytes) -> Result<Option<u32>, AllocError>
-        ensures place { IfOk result (λ place. place ≡ ref_in self.now.loading.history.refs (ref_of_target text.now)) }
-        ensures there { IfOk result (λ place. IfSome place (λ p. p < length self.now.loading.history.parents)) }
+        ensures place { let refs = self.now.loading.history.refs in
+            IfOk result (λ place. place ≡ ref_in refs (ref_of_target text.now)) }
+        ensures there { IfOk result (λ place. IfSome place (HasPlace self.now.loading.history)) }
     {
         match before_caret(text.as_slice()) {
             Some(name) => {
@@ -65,8 +70,9 @@ impl Importer {
         branch: &Bytes,
         from: Option<Target>,
     ) -> Result<Option<u32>, ImportFault>
-        ensures place { Means (λ place. place) result (begins_with self.now.loading branch.now from) }
-        ensures there { IfOk result (λ place. IfSome place (λ p. p < length self.now.loading.history.parents)) }
+        ensures place { let loading = self.now.loading in
+            Means (λ place. place) result (begins_with loading branch.now from) }
+        ensures there { IfOk result (λ place. IfSome place (HasPlace self.now.loading.history)) }
     {
         match from {
             Some(target) => Ok(Some(self.place_of_target(Role::Parent, &target)?)),
@@ -77,24 +83,28 @@ impl Importer {
     /// The parents of a commit: the first, where there is one, and those that are merged.
     pub(crate) fn parents(
         &self,
-        alloc: Global,
         first: Option<u32>,
         merges: &[Target],
     ) -> Result<Vec<u32>, ImportFault>
-        requires { IfSome first (λ place. place < length self.now.loading.history.parents) }
-        ensures parents { Means (λ parents. parents.items) result (parents_given self.now.loading first merges.now) }
-        ensures there { IfOk result (λ parents. All (λ place. place < length self.now.loading.history.parents) parents.items) }
+        requires { IfSome first (HasPlace self.now.loading.history) }
+        ensures parents { let loading = self.now.loading in
+            Means (λ parents. parents.items) result (parents_given loading first merges.now) }
+        ensures there { let history = self.now.loading.history in
+            IfOk result (λ parents. All (HasPlace history) parents.items) }
     {
-        let merged = self.merged(alloc, merges)?;
+        let merged = self.merged(merges)?;
         Ok(with_first(first, merged)?)
     }
 
     /// The commits that are merged.
-    fn merged(&self, alloc: Global, merges: &[Target]) -> Result<Vec<u32>, ImportFault>
-        ensures places { Means (λ places. places.items) result (each_of (place_of_target BadFrom self.now.loading) merges.now) }
-        ensures there { IfOk result (λ places. All (λ place. place < length self.now.loading.history.parents) places.items) }
+    fn merged(&self, merges: &[Target]) -> Result<Vec<u32>, ImportFault>
+        ensures places { let loading = self.now.loading in
+            let meant = each_of (place_of_target BadFrom loading) merges.now in
+            Means (λ places. places.items) result meant }
+        ensures there { let history = self.now.loading.history in
+            IfOk result (λ places. All (HasPlace history) places.items) }
     {
-        let mut places = Vec::new(alloc);
+        let mut places = Vec::new(self.allocator());
         for target in merges {
             places.push(self.place_of_target(Role::Parent, target)?)?;
         }
@@ -142,7 +152,8 @@ fn found_or(place: Option<u32>, fault: ImportFault) -> Result<u32, ImportFault>
 /// What stands before `^0` at the end of a text.
 #[tactic(auto, unfolding(bf_history::specs::Meanings::ref_of_target))]
 fn before_caret(text: &[u8]) -> Option<&[u8]>
-    ensures { MatchOption result (ref_of_target text.now ≡ text.now) (λ name. name.now ≡ ref_of_target text.now) }
+    ensures { let name = ref_of_target text.now in
+        MatchOption result (name ≡ text.now) (λ before. before.now ≡ name) }
 {
     if text.ends_with(b"^0") {
         Some(&text[..text.len() - 2])

@@ -1,5 +1,6 @@
 -- What digits write, digit by digit, and that `decimal_value` reads back what a number is written as.
-use Rattle.std.proofs.Common.{◌≡◌, ℕ, ◌+◌, ◌-◌, ◌*◌, ◌^◌, ◌<◌, ◌≤◌, true, false, List, [], ◌∷◌, ◌++◌, length, take, drop, get_or, Some, None, refl, sym, ap, ◌∙◌, arith, rules, ◌⊎◌, lit<}
+use Rattle.std.proofs.Common.{◌≡◌, ℕ, ◌+◌, ◌-◌, ◌*◌, ◌^◌, ◌<◌, ◌≤◌, true, false, List, [], ◌∷◌, ◌++◌, length, take, drop, get_or, Some, None, refl, sym, ap}
+use Rattle.std.proofs.Common.{◌∙◌, arith, rules, ◌⊎◌, lit<}
 use Rattle.std.specs.Char.{is_ascii_digit}
 use Rattle.std.specs.List.{list_all}
 use Rattle.std.specs.Fmt.{decimal}
@@ -46,7 +47,8 @@ pub decimal_value-too_large : (xs : List ℕ) → 2 ^ 64 ≤ number_after 0 xs �
 unfolding decimal_value
 decimal_value-too_large xs h = grind (arith, nat_tests)
 
-pub decimal_value-is : (xs : List ℕ) (n : ℕ) → 0 < length xs → length xs ≤ 20 → list_all is_ascii_digit xs ≡ true → number_after 0 xs ≡ n → n < 2 ^ 64 → decimal_value xs ≡ Some n
+pub decimal_value-is : (xs : List ℕ) (n : ℕ) → 0 < length xs → length xs ≤ 20 → list_all is_ascii_digit xs ≡ true → number_after 0 xs ≡ n → n < 2 ^ 64
+    → decimal_value xs ≡ Some n
 unfolding decimal_value
 decimal_value-is xs n nonempty short digits value small = grind (arith, nat_tests)
 

@@ -3,6 +3,7 @@
 use Rattle.std.specs.Prelude.{◌≡◌, ℕ, List, ◌++◌, take, Option, Some, None, Result, MatchResult}
 use Rattle.std.specs.Option.{option_map}
 use Rattle.std.specs.Io.KnownBytes.{IsAtEnd}
+use Rattle.std.specs.Io.KnownBytes as known
 
 -- ---- a source, by the bytes that it has left
 
@@ -40,3 +41,13 @@ AppendsFront old new bytes = (n : ℕ) × Appends old new (take n bytes)
 abbrev pub WriteAppends : {E : Type 0} → Option (List ℕ) → Option (List ℕ) → Result ℕ E → List ℕ → Type 0
 WriteAppends old new result piece =
     MatchResult result (λ n. Appends old new (take n piece)) (λ _. Keeps old new)
+
+-- ---- a reader and a writer of the system, by what they tell
+
+-- the reader lost the bytes that the read gave
+abbrev pub Consumes : {R E : Type 0} → (R → Option (List ℕ)) → R → R → Result ℕ E → List ℕ → Type 0
+Consumes remaining old new result buf = known.ReadConsumes (remaining old) (remaining new) result buf
+
+-- the writer gained the bytes that the write took
+abbrev pub Gains : {W E : Type 0} → (W → Option (List ℕ)) → W → W → Result ℕ E → List ℕ → Type 0
+Gains contents old new result piece = known.WriteAppends (contents old) (contents new) result piece

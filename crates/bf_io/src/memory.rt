@@ -4,7 +4,7 @@ ghost use Rattle.std.specs.Prelude.{◌≡◌, ◌≢◌, ℕ, ◌<◌, ◌≤�
 ghost use Rattle.std.specs.Io.{ReadsAtMost};
 ghost use Rattle.bf_io.specs.Causes.{HasCause, FailsOnlyAt, raised};
 ghost use Rattle.bf_io.specs.Told.{ReadTakes, WriteAppends, Keeps};
-ghost use Rattle.bf_io.specs.Scripted.{is_among, fails_next, after_fault, after_call};
+ghost use Rattle.bf_io.specs.Scripted.{new_device, is_among, fails_next, after_fault, after_call, given_into, after_taking};
 
 use crate::{Bytes, Failed, Sink, SinkFault, Source};
 use std::alloc::Global;
@@ -87,11 +87,11 @@ pub struct MemSource {
 
 impl Model for MemSource {
     ghost use Rattle.std.specs.Prelude.{length, ◌≤◌, ◌<◌, drop};
-    ghost use Rattle.bf_io.specs.Scripted.{Scripted};
+    ghost use Rattle.bf_io.specs.Scripted.{Scripted, device};
 
     ghost Value = { Scripted };
 
-    ghost view = { λ s. record { bytes = drop s.at s.bytes; piece = s.piece; fails = s.fails.items; calls = s.calls; faults = s.faults } };
+    ghost view = { λ s. device (drop s.at s.bytes) s.piece s.fails.items s.calls s.faults };
 
     ghost invariant = { λ s. (s.at ≤ length s.bytes) × (0 < s.piece) };
 }
@@ -101,7 +101,7 @@ impl MemSource {
     /// `fails` fail, counted from 1.
     pub fn new(bytes: Bytes, piece: usize, fails: Vec<u64>) -> MemSource
         requires { 0 < piece }
-        ensures { result ≡ record { bytes = bytes; piece = piece; fails = fails.items; calls = 0; faults = 0 } }
+        ensures { result ≡ new_device bytes piece fails.items }
     {
         MemSource {
             bytes,
@@ -135,7 +135,7 @@ impl Source for MemSource {
         ensures cause { HasCause self.old.faults self.new.faults result }
         ensures fails { IsErr result ↔ IsTrue (fails_next self.old) }
         ensures fault { OnErr result (self.new ≡ after_fault self.old) }
-        ensures count { IfOk result (λ n. n ≡ min self.old.piece (min (length buf.old) (length self.old.bytes))) }
+        ensures count { IfOk result (λ n. n ≡ given_into (length buf.old) self.old) }
         ensures gives { IfOk result (λ n. self.new ≡ after_call self.old (drop n self.old.bytes)) }
     {
         let fails = call_fails(&self.fails, self.calls);
@@ -230,11 +230,11 @@ pub struct MemSink {
 
 impl Model for MemSink {
     ghost use Rattle.std.specs.Prelude.{◌<◌};
-    ghost use Rattle.bf_io.specs.Scripted.{Scripted};
+    ghost use Rattle.bf_io.specs.Scripted.{Scripted, device};
 
     ghost Value = { Scripted };
 
-    ghost view = { λ s. record { bytes = s.bytes; piece = s.piece; fails = s.fails.items; calls = s.calls; faults = s.faults } };
+    ghost view = { λ s. device s.bytes s.piece s.fails.items s.calls s.faults };
 
     ghost invariant = { λ s. 0 < s.piece };
 }
@@ -245,7 +245,7 @@ impl MemSink {
     /// counted. It takes no memory.
     pub fn new(alloc: Global, piece: usize, fails: Vec<u64>) -> MemSink
         requires { 0 < piece }
-        ensures { result ≡ record { bytes = []; piece = piece; fails = fails.items; calls = 0; faults = 0 } }
+        ensures { result ≡ new_device [] piece fails.items }
     {
         MemSink {
             bytes: Bytes::new(alloc),
@@ -293,7 +293,7 @@ impl Sink for MemSink {
         ensures fails { IsErrOf result SinkFault.Failed ↔ IsTrue (fails_next self.old) }
         ensures fault { IsErrOf result SinkFault.Failed → self.new ≡ after_fault self.old }
         ensures count { IfOk result (λ n. n ≡ min self.old.piece (length piece.now)) }
-        ensures takes { IfOk result (λ n. self.new ≡ after_call self.old (self.old.bytes ++ take n piece.now)) }
+        ensures takes { IfOk result (λ n. self.new ≡ after_taking self.old n piece.now) }
     {
         if call_fails(&self.fails, self.calls) {
             self.calls = self.calls.saturating_add(1);

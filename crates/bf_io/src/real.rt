@@ -2,9 +2,8 @@
 //! hand on what the reader or writer does.
 ghost use Rattle.std.specs.Prelude.{◌≡◌, ◌<◌, ◌≤◌, length, None, IfOk, IsErrOf};
 ghost use Rattle.std.specs.Io.{ReadsAtMost};
-ghost use Rattle.std.specs.Io.KnownBytes as known;
 ghost use Rattle.bf_io.specs.Causes.{HasCause, FailsOnlyAt};
-ghost use Rattle.bf_io.specs.Told.{ReadTakes, WriteAppends, Keeps};
+ghost use Rattle.bf_io.specs.Told.{ReadTakes, WriteAppends, Keeps, Consumes, Gains};
 
 use crate::{Failed, Sink, SinkFault, Source};
 use std::io::{Read, Write};
@@ -36,7 +35,7 @@ impl<R: Read + Drop> Source for StdSource<R> {
         ensures bound { ReadsAtMost result buf.new }
         ensures bytes { ReadTakes None None result buf.new }
         ensures cause { HasCause self.old.faults self.new.faults result }
-        ensures reader { known.ReadConsumes (R.remaining self.old.reader) (R.remaining self.new.reader) result buf.new }
+        ensures reader { Consumes R.remaining self.old.reader self.new.reader result buf.new }
     {
         match self.reader.read(buf) {
             Ok(count) => Ok(count),
@@ -77,7 +76,7 @@ impl<W: Write + Drop> Sink for StdSink<W> {
         ensures bytes { WriteAppends None None result piece.now }
         ensures cause { FailsOnlyAt SinkFault.Failed self.old.faults self.new.faults result }
         ensures memory { IsErrOf result SinkFault.NoMemory → self.new.faults ≡ self.old.faults }
-        ensures writer { known.WriteAppends (W.contents self.old.writer) (W.contents self.new.writer) result piece.now }
+        ensures writer { Gains W.contents self.old.writer self.new.writer result piece.now }
     {
         match self.writer.write(piece) {
             Ok(count) if count > 0 => Ok(count),

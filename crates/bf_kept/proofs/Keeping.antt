@@ -1,29 +1,32 @@
 -- What each command of a stream keeps.
-use Rattle.std.proofs.Common.{◌≡◌, ℕ, zero, suc, ◌+◌, ◌<◌, ◌≤◌, ◌==◌, Bool, true, false, not, cond, nat_lt, List, [], ◌∷◌, ◌++◌, length, map, codes, get_or, Option, Some, None, Result, Ok, Err, IfOk, refl, sym, ap, subst, ◌∙◌, arith, ⊎_elim, length-append}
+use Rattle.std.proofs.Common.{◌≡◌, ℕ, zero, suc, ◌+◌, ◌<◌, ◌≤◌, ◌==◌, Bool, true, false, not, cond, nat_lt, List, [], ◌∷◌, ◌++◌, length, map, codes, get_or}
+use Rattle.std.proofs.Common.{Option, Some, None, Result, Ok, Err, IfOk, refl, sym, ap, subst, ◌∙◌, arith, ⊎_elim, length-append}
 use Rattle.std.proofs.lemmas.Bool.{cases_lt}
 use Rattle.std.proofs.lemmas.List.Elements.{All-nil, All-push}
 use Rattle.std.proofs.lemmas.Slice.Eq.{bytes_eq-Decides}
-use Rattle.std.specs.List.{All, position}
+use Rattle.std.specs.List.{position}
 use Rattle.std.specs.Option.{option_map, option_to_list}
-use Rattle.bf_grammar.specs.declared.command.Change.{Change}
 use Rattle.bf_grammar.specs.declared.command.Command.{Command}
 use Rattle.bf_grammar.specs.declared.command.Command.TheVariants as command
+use Rattle.bf_grammar.specs.declared.command.Commit as given
+use Rattle.bf_grammar.specs.declared.command.Header.{Header}
 use Rattle.bf_grammar.specs.declared.command.Target.{Target}
 use Rattle.bf_grammar.specs.declared.fault.Limits.{Limits}
 use Rattle.bf_grammar.specs.declared.fault.StreamFault.{StreamFault}
-use Rattle.bf_grammar.specs.declared.object.Kind.TheVariants as kind
-use Rattle.bf_grammar.specs.declared.object.Oid.{Oid}
-use Rattle.bf_grammar.specs.Object.{object_header}
-use Rattle.bf_grammar.specs.Place.{is_end_of_line}
+use Rattle.bf_oid.specs.declared.object.Kind.TheVariants as kind
+use Rattle.bf_oid.specs.declared.object.Oid.{Oid}
+use Rattle.bf_oid.specs.Object.{object_header}
 use Rattle.bf_forest.specs.declared.edits.Edit.{Edit}
 use Rattle.bf_forest.specs.Files.{Files, edited, is_same}
 use Rattle.bf_forest.specs.Trees.{tree_name, with_directories, entries_of}
 use Rattle.bf_history.specs.declared.fault.ImportFault.{ImportFault}
 use Rattle.bf_history.specs.declared.fault.ImportFault.TheVariants.{BadFrom, Unsupported}
 use Rattle.bf_history.specs.declared.marked.Marked.TheVariants as marked
-use Rattle.bf_history.specs.Bodies.{Saying, commit_body, without_empty_lines}
+use Rattle.bf_history.specs.Bodies.{commit_body, without_empty_lines}
 use Rattle.bf_history.specs.Imports.{loaded}
-use Rattle.bf_history.specs.Meanings.{History, Loading, Commit, nothing_loaded, ◌>>=◌, each_of, place_named, place_of_target, edit_of, begins_with, files_from, name_at, commit_on, stood, with_commit, place_of_commit, within_limits, with_ref, without_ref, with_mark, after_commit, after_reset, after_tag, after_command, is_no_name}
+use Rattle.bf_history.specs.Meanings.{History, Loading, Commit, nothing_loaded, ◌>>=◌, each_of, place_named, place_of_target, edit_of, begins_with, files_from}
+use Rattle.bf_history.specs.Meanings.{name_at, commit_on, stood, with_commit, place_of_commit, within_limits, with_ref, without_ref, with_mark, after_commit}
+use Rattle.bf_history.specs.Meanings.{after_reset, after_tag, after_command, is_no_name}
 use Rattle.bf_tables.proofs.Positions.{position_more}
 use Rattle.bf_kept.specs.Kept.{IsOneLine, IsWholeName, IsKept}
 use Rattle.bf_kept.proofs.Digests.{sha1_long, sha1_bytes, front_passes}
@@ -106,14 +109,14 @@ unfolding with_commit
 commit_kept history commit k line whole =
     stood_kept history (with_directories history.directories commit.files) commit k line whole (place_named history.names commit.name) refl
 
-one_line : (history : History) (parents : List ℕ) (files : Files) (saying : Saying) → IsOneLine (commit_on history parents files saying).subject
+one_line : (history : History) (parents : List ℕ) (files : Files) (header : Header) → IsOneLine (commit_on history parents files header).subject
 unfolding commit_on
-one_line history parents files saying = front_passes (λ b. not (b == 10)) (without_empty_lines saying.message)
+one_line history parents files header = front_passes (λ b. not (b == 10)) (without_empty_lines header.message)
 
-whole_name : (history : History) (parents : List ℕ) (files : Files) (saying : Saying) → IsWholeName (commit_on history parents files saying).name
+whole_name : (history : History) (parents : List ℕ) (files : Files) (header : Header) → IsWholeName (commit_on history parents files header).name
 unfolding commit_on
-whole_name history parents files saying =
-    let body : List ℕ = commit_body (tree_name files) (map (name_at history) parents) saying in
+whole_name history parents files header =
+    let body : List ℕ = commit_body (tree_name files) (map (name_at history) parents) header in
     record {
       long = sha1_long (object_header kind.Commit (length body) ++ body);
       bytes = sha1_bytes (object_header kind.Commit (length body) ++ body);
@@ -151,27 +154,28 @@ within_same limits history after h =
     limited (nat_lt limits.entries (entries_of history.directories)) (nat_lt limits.commits (length history.names)) _ _ history after h
 
 -- the commit that a command makes
-abbrev made : Loading → Saying → Option ℕ → List ℕ → List Edit → Commit
-made loading saying first others edits = commit_on loading.history (option_to_list first ++ others) (edited (files_from loading.history first) edits) saying
+abbrev made : Loading → Header → Option ℕ → List ℕ → List Edit → Commit
+made loading header first others edits = commit_on loading.history (option_to_list first ++ others) (edited (files_from loading.history first) edits) header
 
-after_commit_kept : (limits : Limits) (loading : Loading) (branch : List ℕ) (mark : Option ℕ) (saying : Saying) (from : Option Target)
-    (merges : List Target) (changes : List Change) → IsKept loading.history
-    → AfterIsKept (after_commit limits loading branch mark saying from merges changes)
+after_commit_kept : (limits : Limits) (loading : Loading) (given : given.Commit) → IsKept loading.history
+    → AfterIsKept (after_commit limits loading given)
 unfolding after_commit
-after_commit_kept limits loading branch mark saying from merges changes k =
-    four_steps (begins_with loading branch from) (each_of (place_of_target BadFrom loading) merges) (each_of (edit_of loading.marks) changes)
-    (λ first others edits. within_limits limits (with_commit loading.history (made loading saying first others edits)))
+after_commit_kept limits loading given k =
+    four_steps (begins_with loading given.branch given.from) (each_of (place_of_target BadFrom loading) given.merges)
+    (each_of (edit_of loading.marks) given.changes)
+    (λ first others edits. within_limits limits (with_commit loading.history (made loading given.header first others edits)))
     (λ first others edits history. record {
-      history = with_ref branch (place_of_commit loading.history (made loading saying first others edits)) history;
-      marks = with_mark mark (marked.Commit (place_of_commit loading.history (made loading saying first others edits))) loading.marks;
+      history = with_ref given.branch (place_of_commit loading.history (made loading given.header first others edits)) history;
+      marks = with_mark given.mark (marked.Commit (place_of_commit loading.history (made loading given.header first others edits))) loading.marks;
     })
     (λ after. IsKept after.history)
     (λ first others edits history is.
-    let before : IsKept (with_commit loading.history (made loading saying first others edits)) =
-    commit_kept loading.history (made loading saying first others edits) k
-    (one_line loading.history (option_to_list first ++ others) (edited (files_from loading.history first) edits) saying)
-    (whole_name loading.history (option_to_list first ++ others) (edited (files_from loading.history first) edits) saying) in
-    let kept : IsKept history = subst IsKept (within_same limits (with_commit loading.history (made loading saying first others edits)) history is) before in
+    let before : IsKept (with_commit loading.history (made loading given.header first others edits)) =
+    commit_kept loading.history (made loading given.header first others edits) k
+    (one_line loading.history (option_to_list first ++ others) (edited (files_from loading.history first) edits) given.header)
+    (whole_name loading.history (option_to_list first ++ others) (edited (files_from loading.history first) edits) given.header) in
+    let kept : IsKept history = subst IsKept (within_same limits (with_commit loading.history (made loading given.header first others edits)) history is)
+    before in
     record { counted = kept.counted; one_line = kept.one_line; whole = kept.whole; found = kept.found })
 
 ref_kept : (name : List ℕ) (place : ℕ) (history : History) → IsKept history → IsKept (with_ref name place history)
@@ -206,8 +210,7 @@ after_tag_kept loading name mark target k =
 command_kept : (limits : Limits) (loading : Loading) (c : Command) → IsKept loading.history → AfterIsKept (after_command limits loading c)
 unfolding after_command
 command_kept limits loading (command.Blob line mark content) k = k
-command_kept limits loading (command.Commit line branch mark author committer encoding message from merges changes) k =
-    after_commit_kept limits loading branch mark (record { author = author; committer = committer; encoding = encoding; message = message }) from merges changes k
+command_kept limits loading (command.Commit given) k = after_commit_kept limits loading given k
 command_kept limits loading (command.Tag line name mark from) k = after_tag_kept loading name mark from k
 command_kept limits loading (command.Reset line branch from) k = after_reset_kept loading branch from k
 command_kept limits loading (command.Progress line) k = k

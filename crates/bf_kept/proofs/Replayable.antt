@@ -4,13 +4,13 @@ use Rattle.std.proofs.Math.ListN.{get_or-eq_default}
 use Rattle.std.proofs.lemmas.Bool.{cases_lt}
 use Rattle.std.specs.List.{All}
 use Rattle.hex.specs.Hex.{encode_lower}
-use Rattle.bf_grammar.specs.declared.object.Oid.{Oid}
+use Rattle.bf_oid.specs.declared.object.Oid.{Oid}
 use Rattle.bf_history.specs.declared.fault.ImportFault.{ImportFault}
 use Rattle.bf_history.specs.Meanings.{History, nothing_loaded, name_at}
 use Rattle.bf_graph.specs.Graph.{IsGraph}
 use Rattle.bf_logs.specs.Back.{Begin, IsReplayable, LeadsTo, GivesBack}
 use Rattle.bf_logs.specs.Resolved.{AreResolved, AreRunEntries}
-use Rattle.bf_logs.specs.Told.{Told, retold}
+use Rattle.bf_logs.specs.LogState.{LogState, retold}
 use Rattle.bf_logs.specs.Written.{has_no_end, AreNamed}
 use Rattle.bf_logs.proofs.Joined.{file_gives_back}
 use Rattle.bf_logs.proofs.Whole.{are_append, run_are}
@@ -84,7 +84,7 @@ run_resolved n history (SkippedBase p ∷ es) are placed = run_resolved n histor
 run_resolved n history (FirstBadFound p ∷ es) are placed = run_resolved n history es are placed
 run_resolved n history (OnlySkippedLeft ps ∷ es) are placed = run_resolved n history es are placed
 
-pub file_of_history : (history : History) (sides : Sides) (now : Known) (file : List ℕ) (told : Told) (known : Outcomes)
+pub file_of_history : (history : History) (sides : Sides) (now : Known) (file : List ℕ) (told : LogState) (known : Outcomes)
     (left : Option ℕ) (s : Search) (later before : List Entry) → IsLoaded history → IsGraph history.parents
     → term_fault sides.new sides.old ≡ None → AreRunEntries (length history.parents) later
     → LeadsTo (setting_of history) sides (file ++ 10 ∷ []) told

@@ -1,7 +1,7 @@
 -- What the commits of a history keep, whatever the stream says.
 use Rattle.std.specs.Prelude.{◌≡◌, ℕ, ◌<◌, true, List, length, map, All, Some}
 use Rattle.hex.specs.Hex.{IsBytes}
-use Rattle.bf_grammar.specs.declared.object.Oid.{Oid}
+use Rattle.bf_oid.specs.declared.object.Oid.{Oid}
 use Rattle.bf_history.specs.Meanings.{History, name_at, place_named}
 use Rattle.bf_logs.specs.Written.{has_no_end}
 use Rattle.bf_texts.specs.Texts.{Commits}

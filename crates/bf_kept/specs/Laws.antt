@@ -10,7 +10,7 @@ use Rattle.bf_kept.specs.Kept.{IsKept, commits_of}
 use Rattle.bf_logs.specs.Back.{Begin, start_of, told_of, IsReplayable, LeadsTo, GivesBack}
 use Rattle.bf_logs.specs.Cut.{ends_with_command, AreKnown, GoesOnText}
 use Rattle.bf_logs.specs.Resolved.{AreRunEntries, FitsStart}
-use Rattle.bf_logs.specs.Told.{Told, retold}
+use Rattle.bf_logs.specs.LogState.{LogState, retold}
 use Rattle.bf_logs.specs.Written.{known_after_all}
 use Rattle.bf_reading.specs.Reading.{lines_of}
 use Rattle.bf_replay.specs.Meaning.{setting_of}
@@ -62,7 +62,7 @@ LogsGiveTheStateBack =
 -- The same of a file, with an LF at its end, and the lines that a run prints behind it.
 abbrev pub FilesGiveTheStateBack : Type 0
 FilesGiveTheStateBack =
-    (history : History) (sides : Sides) (now : Known) (file : List ℕ) (told : Told) (known : Outcomes) (left : Option ℕ)
+    (history : History) (sides : Sides) (now : Known) (file : List ℕ) (told : LogState) (known : Outcomes) (left : Option ℕ)
     (s : Search) (later before : List Entry)
     → IsLoaded history
     → IsGraph history.parents

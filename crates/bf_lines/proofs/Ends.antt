@@ -1,5 +1,6 @@
 -- Where a line ends in a list of bytes.
-use Rattle.std.proofs.Common.{◌≡◌, ℕ, suc, ◌+◌, ◌-◌, ◌<◌, ◌≤◌, true, false, List, [], ◌∷◌, ◌++◌, length, take, drop, get_or, count_by, Option, Some, None, MatchOption, refl, sym, ap, ◌∙◌, arith, cond, inl, inr, length-drop, not}
+use Rattle.std.proofs.Common.{◌≡◌, ℕ, suc, ◌+◌, ◌-◌, ◌<◌, ◌≤◌, true, false, List, [], ◌∷◌, ◌++◌, length, take, drop, get_or, count_by, Option, Some, None}
+use Rattle.std.proofs.Common.{MatchOption, refl, sym, ap, ◌∙◌, arith, cond, inl, inr, length-drop, not}
 use Rattle.std.specs.List.{position_or_len}
 use Rattle.std.proofs.lemmas.Bool.{cases_lt, false_from_ne_true, cases_Bool, false≢true, cond-true, cond-false, ne_eqb, eq-eqb, not_from_true, not_from_false}
 use Rattle.std.proofs.lemmas.List.{take_rest, get_or-drop, length-take, length-take-le, take-append-le, drop-take, drop-drop, drop_all}
@@ -17,7 +18,8 @@ pub end_at-le : (bytes : List ℕ) → end_at bytes ≤ length bytes
 end_at-le bytes = prefix_len-le-length (λ x. not (is_end_of_line x)) bytes
 
 -- a place where the end of the line is
-pub end_at-here : (bytes : List ℕ) (known : ℕ) → known ≤ end_at bytes → known < length bytes → is_end_of_line (get_or bytes known 0) ≡ true → known ≡ end_at bytes
+pub end_at-here : (bytes : List ℕ) (known : ℕ) → known ≤ end_at bytes → known < length bytes → is_end_of_line (get_or bytes known 0) ≡ true
+    → known ≡ end_at bytes
 end_at-here bytes known le lt is =
     sym (position_or_len_is is_end_of_line bytes known 0 (omega arith) (λ k below. fails_before_first is_end_of_line bytes k 0 (omega arith)) (λ lt. is))
 
@@ -62,7 +64,8 @@ end_at-lt bytes has =
     ]
   where
     lacks-none : (xs : List ℕ) → length xs ≤ end_at xs → has_end_of_line xs ≡ false
-    lacks-none xs le = list_any_none is_end_of_line xs (All-from_get_or (λ x. is_end_of_line x ≡ false) xs 0 (λ k lt. fails_before_first is_end_of_line xs k 0 (omega arith)))
+    lacks-none xs le = list_any_none is_end_of_line xs
+        (All-from_get_or (λ x. is_end_of_line x ≡ false) xs 0 (λ k lt. fails_before_first is_end_of_line xs k 0 (omega arith)))
 
 pub has-from_lt : (bytes : List ℕ) → end_at bytes < length bytes → has_end_of_line bytes ≡ true
 has-from_lt bytes lt = list_any_at is_end_of_line bytes (end_at bytes) 0 lt (passes_at_first is_end_of_line bytes 0 lt)
@@ -102,7 +105,8 @@ count-front_line (x ∷ xs) =
     ]
 
 pub count-line : (bytes : List ℕ) → end_at bytes < length bytes → count_by is_end_of_line (take (end_at bytes + 1) bytes) ≡ 1
-count-line bytes lt = count_by_more_yes is_end_of_line bytes (end_at bytes) 0 lt (passes_at_first is_end_of_line bytes 0 lt) ∙ ap (λ n. n + 1) (count-front_line bytes)
+count-line bytes lt = count_by_more_yes is_end_of_line bytes (end_at bytes) 0 lt (passes_at_first is_end_of_line bytes 0 lt) ∙ ap (λ n. n + 1)
+    (count-front_line bytes)
 
 -- a part of a part
 pub drop-part : (n m s : ℕ) (xs : List ℕ) → drop n (take m (drop s xs)) ≡ take (m - n) (drop (s + n) xs)

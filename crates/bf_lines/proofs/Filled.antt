@@ -1,5 +1,6 @@
 -- What a window holds after one more read.
-use Rattle.std.proofs.Common.{◌≡◌, ℕ, ◌+◌, ◌-◌, ◌<◌, ◌≤◌, Bool, ◌||◌, ltb, List, [], ◌++◌, length, take, drop, Option, Some, None, Result, Ok, Err, refl, sym, ap, ◌∙◌, arith, inl, inr, length-drop, length-append, append_assoc}
+use Rattle.std.proofs.Common.{◌≡◌, ℕ, ◌+◌, ◌-◌, ◌<◌, ◌≤◌, Bool, ◌||◌, ltb, List, [], ◌++◌, length, take, drop, Option, Some, None, Result, Ok, Err, refl, sym}
+use Rattle.std.proofs.Common.{ap, ◌∙◌, arith, inl, inr, length-drop, length-append, append_assoc}
 use Rattle.std.specs.Result.{IsErr}
 use Rattle.std.proofs.lemmas.Bool.{cases_lt, lt-ltb, le-ltb, false≢true}
 use Rattle.std.proofs.lemmas.List.{drop-take, drop-drop, length-take-le}
@@ -32,7 +33,8 @@ ltb-less a n b le =
     ]
 
 -- the place stays, where the window gains what the source loses
-pub Gains-place : (old new : Held) (left left' : Option (List ℕ)) (bytes : List ℕ) → Gains old new bytes → Takes left left' bytes → place_of new left' ≡ place_of old left
+pub Gains-place : (old new : Held) (left left' : Option (List ℕ)) (bytes : List ℕ) → Gains old new bytes → Takes left left' bytes
+    → place_of new left' ≡ place_of old left
 Gains-place old new None left' bytes gains took = rw took refl
 Gains-place old new (Some left) None bytes gains took = absurd took
 Gains-place old new (Some left) (Some left') bytes gains took =
@@ -47,7 +49,12 @@ Gains-place old new (Some left) (Some left') bytes gains took =
     ap (λ (l : List ℕ). ltb old.quota (length l)) took ∙ ap (ltb old.quota) (length-append bytes left') ∙ ltb-less old.quota n (length left') gains.fits in
     let line = old.line in
     ap (λ (h : Held). place_of h (Some left')) gains.held
-    ∙ sym (ap (λ (b : Bool). Some (record { line = line; rest = old.bytes ++ bytes ++ take (old.quota - n) left'; more = old.past || b; done_due = old.done_due })) more)
+    ∙ sym (ap (λ (b : Bool). Some (record {
+      line = line;
+      rest = old.bytes ++ bytes ++ take (old.quota - n) left';
+      more = old.past || b;
+      done_due = old.done_due;
+    })) more)
     ∙ sym (ap (λ (l : List ℕ). Some (record { line = line; rest = l; more = old.past || ltb old.quota (length left); done_due = old.done_due })) rest)
 
 part-kept : (old new : List ℕ) (start size : ℕ) → take (start + size) new ≡ take (start + size) old → take size (drop start new) ≡ take size (drop start old)

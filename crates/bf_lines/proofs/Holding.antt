@@ -1,10 +1,11 @@
 -- What a window holds, against the place where a reading stands.
-use Rattle.std.proofs.Common.{◌≡◌, ℕ, ◌+◌, ◌-◌, ◌<◌, ◌≤◌, ◌||◌, nat_lt, List, [], ◌++◌, length, take, drop, count_by, Option, Some, None, refl, sym, ap, ◌∙◌, arith, inl, inr, ◌⊎◌, IsTrue}
+use Rattle.std.proofs.Common.{◌≡◌, ℕ, ◌+◌, ◌-◌, ◌<◌, ◌≤◌, List, [], ◌++◌, length, take, drop, count_by, Option, Some, None, refl, sym, ap, ◌∙◌}
+use Rattle.std.proofs.Common.{arith, inl, inr, ◌⊎◌, IsTrue}
 use Rattle.std.specs.Option.{option_map, IfSome}
 use Rattle.std.proofs.lemmas.List.{take_all, drop_all, append-nil, drop-append-le, take-append-le}
 use Rattle.bf_grammar.specs.Place.{Place, is_end_of_line, moved}
 use Rattle.bf_grammar.specs.Lines.{front_line, has_end_of_line, past_line}
-use Rattle.bf_lines.specs.Held.{Held, HasLine, IsAll, place_of, moved_held, past_held_line}
+use Rattle.bf_lines.specs.Held.{Held, HasLine, IsAll, place_in, place_of, moved_held, past_held_line}
 use Rattle.bf_lines.proofs.Ends.{end_at, end_at-le, end_at-lt, front_line-append, length-front_line, count-line, count-front_line, drop-part}
 
 -- ---- parts of what is held
@@ -12,7 +13,8 @@ use Rattle.bf_lines.proofs.Ends.{end_at, end_at-le, end_at-lt, front_line-append
 held_is : (held : Held) (a b : ℕ) (x y : List ℕ) → a ≡ b → x ≡ y → ◌≡◌ {A = Held} (record held { line = a; bytes = x }) (record held { line = b; bytes = y })
 held_is held a b x y p q = ap (λ n. record held { line = n; bytes = x }) p ∙ ap (λ l. record held { line = b; bytes = l }) q
 
-pub part-advanced : (items : List ℕ) (start end count : ℕ) → take (end - (start + count)) (drop (start + count) items) ≡ drop count (take (end - start) (drop start items))
+pub part-advanced : (items : List ℕ) (start end count : ℕ)
+    → take (end - (start + count)) (drop (start + count) items) ≡ drop count (take (end - start) (drop start items))
 part-advanced items start end count =
     let size : end - (start + count) ≡ end - start - count = omega arith in
     ap (λ n. take n (drop (start + count) items)) size ∙ sym (drop-part count (end - start) start items)
@@ -39,7 +41,8 @@ past_held_line-open held end e le =
 
 -- ---- the place
 
-place_is : (p : Place) (a b : ℕ) (x y : List ℕ) → a ≡ b → x ≡ y → ◌≡◌ {A = Option Place} (Some (record p { line = a; rest = x })) (Some (record p { line = b; rest = y }))
+place_is : (p : Place) (a b : ℕ) (x y : List ℕ) → a ≡ b → x ≡ y
+    → ◌≡◌ {A = Option Place} (Some (record p { line = a; rest = x })) (Some (record p { line = b; rest = y }))
 place_is p a b x y e f = ap (λ n. Some (record p { line = n; rest = x })) e ∙ ap (λ l. Some (record p { line = b; rest = l })) f
 
 -- the place, some held bytes further on
@@ -48,7 +51,7 @@ pub place_of-moved : (n : ℕ) (held : Held) (left : Option (List ℕ)) → n �
 place_of-moved n held None le = refl
 place_of-moved n held (Some left) le =
     let behind = take held.quota left in
-    place_is (record { line = held.line; rest = held.bytes; more = held.past || nat_lt held.quota (length left); done_due = held.done_due }) _ _ _ _
+    place_is (place_in held left) _ _ _ _
     (ap (λ l. held.line + count_by is_end_of_line l) (sym (take-append-le n held.bytes behind le)))
     (sym (drop-append-le n held.bytes behind le))
 
@@ -60,12 +63,13 @@ place_of-moved_all n held (Some left) all =
     let behind = take held.quota left in
     let none : behind ≡ [] = all in
     let whole : held.bytes ++ behind ≡ held.bytes = ap (λ l. held.bytes ++ l) none ∙ append-nil held.bytes in
-    place_is (record { line = held.line; rest = held.bytes; more = held.past || nat_lt held.quota (length left); done_due = held.done_due }) _ _ _ _
+    place_is (place_in held left) _ _ _ _
     (ap (λ l. held.line + count_by is_end_of_line (take n l)) (sym whole))
     (ap (λ l. drop n held.bytes ++ l) none ∙ append-nil (drop n held.bytes) ∙ ap (drop n) (sym whole))
 
 -- the line in front of the window is that of the place
-pub whole-line : (held : Held) (left : Option (List ℕ)) → IsTrue (has_end_of_line held.bytes) ⊎ IsAll held left → IfSome (place_of held left) (λ p. front_line held.bytes ≡ front_line p.rest)
+pub whole-line : (held : Held) (left : Option (List ℕ)) → IsTrue (has_end_of_line held.bytes) ⊎ IsAll held left
+    → IfSome (place_of held left) (λ p. front_line held.bytes ≡ front_line p.rest)
 whole-line held None whole = tt
 whole-line held (Some left) whole =
     elim whole [
@@ -83,12 +87,13 @@ HasLine-text held bytes text end b e t None has = tt
 HasLine-text held bytes text end b e t (Some left) has =
     t ∙ ap (λ n. take n bytes) e ∙ ap front_line b ∙ HasLine-line held (Some left) has
 
-pub whole-past : (held : Held) (left : Option (List ℕ)) → IsTrue (has_end_of_line held.bytes) ⊎ IsAll held left → place_of (past_held_line held) left ≡ option_map past_line (place_of held left)
+pub whole-past : (held : Held) (left : Option (List ℕ)) → IsTrue (has_end_of_line held.bytes) ⊎ IsAll held left
+    → place_of (past_held_line held) left ≡ option_map past_line (place_of held left)
 whole-past held None whole = refl
 whole-past held (Some left) whole =
     let n = length (front_line held.bytes) + 1 in
     let same : front_line held.bytes ≡ front_line (held.bytes ++ take held.quota left) = whole-line held (Some left) whole in
-    let p : Place = record { line = held.line; rest = held.bytes ++ take held.quota left; more = held.past || nat_lt held.quota (length left); done_due = held.done_due } in
+    let p : Place = place_in held left in
     let here : place_of (past_held_line held) (Some left) ≡ option_map (moved n) (place_of held (Some left)) =
     elim whole [
       | inl ends ↦
@@ -103,12 +108,14 @@ HasLine-past held left has = whole-past held left has.whole
 
 -- the view of a window whose start moved on
 pub view-advanced : (w : Held) (items : List ℕ) (start end count lines : ℕ) → w.bytes ≡ take (end - start) (drop start items)
-    → ◌≡◌ {A = Held} (record w { line = w.line + lines; bytes = take (end - (start + count)) (drop (start + count) items) }) (record w { line = w.line + lines; bytes = drop count w.bytes })
+    → ◌≡◌ {A = Held} (record w { line = w.line + lines; bytes = take (end - (start + count)) (drop (start + count) items) })
+    (record w { line = w.line + lines; bytes = drop count w.bytes })
 view-advanced w items start end count lines e =
     held_is w _ _ _ _ refl (part-advanced items start end count ∙ ap (drop count) (sym e))
 
 -- the place, where the window went behind the line in front
-pub past_held_line-place : (old new : Held) → new ≡ past_held_line old → (left : Option (List ℕ)) → HasLine old left → place_of new left ≡ option_map past_line (place_of old left)
+pub past_held_line-place : (old new : Held) → new ≡ past_held_line old → (left : Option (List ℕ)) → HasLine old left
+    → place_of new left ≡ option_map past_line (place_of old left)
 past_held_line-place old new e left has = ap (λ (h : Held). place_of h left) e ∙ HasLine-past old left has
 
 pub past_held_line-then : (old new : Held) (bytes : List ℕ) (end : ℕ) → bytes ≡ old.bytes → end ≡ end_at bytes → end < length bytes
@@ -119,4 +126,5 @@ past_held_line-then old new bytes end b e lt n =
 pub past_held_line-else : (old new : Held) (bytes : List ℕ) (end : ℕ) → bytes ≡ old.bytes → end ≡ end_at bytes → length bytes ≤ end
     → new ≡ record old { line = old.line + 0; bytes = drop (length bytes) old.bytes } → new ≡ past_held_line old
 past_held_line-else old new bytes end b e le n =
-    n ∙ ap (λ (l : List ℕ). record old { line = old.line + 0; bytes = drop (length l) old.bytes }) b ∙ past_held_line-open old end (e ∙ ap end_at b) (omega (arith, ap length b))
+    n ∙ ap (λ (l : List ℕ). record old { line = old.line + 0; bytes = drop (length l) old.bytes }) b ∙ past_held_line-open old end (e ∙ ap end_at b)
+    (omega (arith, ap length b))

@@ -1,23 +1,26 @@
 -- What a look at the next line tells.
-use Rattle.std.proofs.Common.{◌≡◌, ℕ, ◌≤◌, Bool, true, false, cond, List, length, take, Option, Some, None, Result, Ok, Err, refl, sym, ap, subst, ◌∙◌, if◌then◌else◌}
+use Rattle.std.proofs.Common.{◌≡◌, ℕ, ◌≤◌, Bool, true, false, cond, List, length, take, Option, Some, None, Result, Ok, Err, refl, sym, ap, subst, ◌∙◌}
+use Rattle.std.proofs.Common.{if◌then◌else◌}
 use Rattle.std.specs.Bool.{OnTrue}
-use Rattle.std.specs.Result.{IfOk, IsErrAnd}
+use Rattle.std.specs.Result.{IfOk}
 use Rattle.bf_grammar.specs.declared.fault.Limit.TheVariants.{Line}
 use Rattle.bf_grammar.specs.declared.fault.Limits.{Limits}
 use Rattle.bf_grammar.specs.declared.fault.StreamFault.{StreamFault}
 use Rattle.bf_grammar.specs.declared.fault.StreamFault.TheVariants.{TooLarge}
 use Rattle.bf_grammar.specs.Place.{Place, Reading, and_then, pure, lifted, ◌>>=◌, Gives}
-use Rattle.bf_grammar.specs.Lines.{Front, Nothing, Whole, Long, text_of, front_line, has_word, next_front, is_at, at_word, missing, must_be_at, is_line, at_command}
-use Rattle.bf_grammar.proofs.Composing.{fails_here, fails_alike, gives_pure, gives_stopped, gives_then}
+use Rattle.bf_grammar.specs.Lines.{Front, Nothing, Whole, Long, text_of, front_line, has_word, next_front, is_at, at_word, missing, is_line, at_command}
+use Rattle.bf_grammar.proofs.Composing.{fails_here, fails_alike}
 use Rattle.bf_lines.specs.declared.front.Ahead.{Ahead}
 use Rattle.bf_lines.specs.declared.front.Ahead.TheVariants as ahead
 use Rattle.bf_lines.specs.Fronts.{cut, seen, Finds, FindsNext, told_word, told_line, told_missing}
 use Rattle.bf_lines.specs.Held.{Held, HasLine, place_of}
-use Rattle.bf_lines.proofs.Passing.{Read, found_as, cut_err}
+use Rattle.bf_lines.proofs.Going.{Read}
+use Rattle.bf_lines.proofs.Passing.{found_as, cut_err}
 use Rattle.bf_lines.proofs.Words.{has_word-cut}
 
 -- a reading that is a told answer behind the one that found something
-gives_told : {X : Type 0} (before after : Option Place) (told : Result X StreamFault) (held : Held) (left : Option (List ℕ)) (a : Ahead) (read : Reading Front) (next : Front → Reading X)
+gives_told : {X : Type 0} (before after : Option Place) (told : Result X StreamFault) (held : Held) (left : Option (List ℕ)) (a : Ahead) (read : Reading Front)
+    (next : Front → Reading X)
     → Finds read before held left (Ok a) → ((f : Front) (q : Place) → cut f ≡ seen held a → place_of held left ≡ Some q → next f q ≡ lifted told q)
     → Gives (λ x. x) before (place_of held left) told (read >>= next)
 gives_told {X} None after (Ok x) held left a read next found tells = found.gives
@@ -34,17 +37,13 @@ gives_told {X} (Some p) after told held left a read next found tells = go told t
         fails_here fault _ (ap (λ (g : Read Front). and_then g next) f.1 ∙ tells f.0 q f.2 goes)
 
 -- a reading that failed at the look ahead
-pub gives_look_failed : {X : Type 0} (before after : Option Place) (fault : StreamFault) (held : Held) (left : Option (List ℕ)) (read : Reading Front) (next : Front → Reading X)
+pub gives_look_failed : {X : Type 0} (before after : Option Place) (fault : StreamFault) (held : Held) (left : Option (List ℕ)) (read : Reading Front)
+    (next : Front → Reading X)
     → Finds read before held left (Err fault) → Gives (λ x. x) before after (Err fault) (read >>= next)
 gives_look_failed None after fault held left read next found = tt
 gives_look_failed {X} (Some p) after fault held left read next found =
-    fails_alike fault ((read >>= λ f. pure (cut f)) p) ((read >>= next) p) (λ is. ap (λ (g : Read Front). and_then g next) (cut_err (read p) fault is)) found.gives
-
-pub gives_look_failed_on : {X : Type 0} (before after : Option Place) (fault : StreamFault) (r : Result X StreamFault) (held : Held) (left : Option (List ℕ)) (read : Reading Front) (next : Front → Reading X)
-    → IsErrAnd r (λ other. other ≡ fault) → Finds read before held left (Err fault) → Gives (λ x. x) before after r (read >>= next)
-gives_look_failed_on before after fault (Ok x) held left read next err found = absurd err
-gives_look_failed_on before after fault (Err other) held left read next err found =
-    subst (λ (f : StreamFault). Gives (λ x. x) before after (Err f) (read >>= next)) (sym err) (gives_look_failed before after fault held left read next found)
+    fails_alike fault ((read >>= λ f. pure (cut f)) p) ((read >>= next) p) (λ is. ap (λ (g : Read Front). and_then g next) (cut_err (read p) fault is))
+    found.gives
 
 -- ---- the first word
 
@@ -62,12 +61,14 @@ is_at_is word Nothing q = refl
 is_at_is word (Whole text) q = refl
 is_at_is word (Long text) q = long_word (has_word word text) q
 
-told_word_is : (word : List ℕ) (held : Held) (f : Front) (a : Ahead) → length word ≤ 14 → cut f ≡ seen held a → told_word word (front_line held.bytes) a ≡ decide_word word f
+told_word_is : (word : List ℕ) (held : Held) (f : Front) (a : Ahead) → length word ≤ 14 → cut f ≡ seen held a
+    → told_word word (front_line held.bytes) a ≡ decide_word word f
 told_word_is word held Nothing ahead.Nothing short same = refl
 told_word_is word held Nothing ahead.Whole short same = absurd (cc)
 told_word_is word held Nothing ahead.Long short same = absurd (cc)
 told_word_is word held (Whole text) ahead.Nothing short same = absurd (cc)
-told_word_is word held (Whole text) ahead.Whole short same = ap (λ (t : List ℕ). let r : Result Bool StreamFault = Ok (has_word word t) in r) (sym (ap text_of same))
+told_word_is word held (Whole text) ahead.Whole short same = ap (λ (t : List ℕ). let r : Result Bool StreamFault = Ok (has_word word t) in r)
+    (sym (ap text_of same))
 told_word_is word held (Whole text) ahead.Long short same = absurd (cc)
 told_word_is word held (Long text) ahead.Nothing short same = absurd (cc)
 told_word_is word held (Long text) ahead.Whole short same = absurd (cc)
@@ -76,15 +77,19 @@ told_word_is word held (Long text) ahead.Long short same =
     ap (λ (b : Bool). cond {A = Result Bool StreamFault} b (Err (TooLarge Line)) (Ok false))
     (sym (has_word-cut word (front_line held.bytes) short) ∙ ap (has_word word) (sym first) ∙ has_word-cut word text short)
 
-pub word_given : (limits : Limits) (word : List ℕ) (before : Option Place) (held : Held) (left : Option (List ℕ)) (a : Ahead) (text : List ℕ) (r : Result Bool StreamFault) → length word ≤ 14
-    → FindsNext false limits before held left (Ok a) → text ≡ front_line held.bytes → r ≡ told_word word text a → Gives (λ there. there) before (place_of held left) r (at_word limits word)
+pub word_given : (limits : Limits) (word : List ℕ) (before : Option Place) (held : Held) (left : Option (List ℕ)) (a : Ahead) (text : List ℕ)
+    (r : Result Bool StreamFault) → length word ≤ 14
+    → FindsNext false limits before held left (Ok a) → text ≡ front_line held.bytes → r ≡ told_word word text a
+    → Gives (λ there. there) before (place_of held left) r (at_word limits word)
 unfolding at_word
 word_given limits word before held left a text r short found t is =
-    subst (λ (s : Result Bool StreamFault). Gives (λ there. there) before (place_of held left) s (at_word limits word)) (sym (is ∙ ap (λ (l : List ℕ). told_word word l a) t))
+    subst (λ (s : Result Bool StreamFault). Gives (λ there. there) before (place_of held left) s (at_word limits word))
+    (sym (is ∙ ap (λ (l : List ℕ). told_word word l a) t))
     (gives_told before (place_of held left) (told_word word (front_line held.bytes) a) held left a (next_front false limits) (is_at word) found
     (λ f q same goes. is_at_is word f q ∙ ap (λ (s : Result Bool StreamFault). lifted s q) (sym (told_word_is word held f a short same))))
 
-pub word_line : (word text : List ℕ) (held : Held) (left : Option (List ℕ)) (a : Ahead) (r : Result Bool StreamFault) → (a ≡ ahead.Whole → HasLine held left) → r ≡ told_word word text a → IfOk r (λ there. OnTrue there (HasLine held left))
+pub word_line : (word text : List ℕ) (held : Held) (left : Option (List ℕ)) (a : Ahead) (r : Result Bool StreamFault) → (a ≡ ahead.Whole → HasLine held left)
+    → r ≡ told_word word text a → IfOk r (λ there. OnTrue there (HasLine held left))
 word_line word text held left a r whole is =
     subst (λ (s : Result Bool StreamFault). IfOk s (λ there. OnTrue there (HasLine held left))) (sym is) (go a whole)
   where
@@ -101,10 +106,10 @@ word_line word text held left a r whole is =
     go ahead.Whole whole = where_line (has_word word text) (whole refl)
     go ahead.Long whole = never (has_word word text)
 
-pub word_failed_on : (limits : Limits) (word : List ℕ) (before after : Option Place) (fault : StreamFault) (r : Result Bool StreamFault) (held : Held) (left : Option (List ℕ))
-    → IsErrAnd r (λ other. other ≡ fault) → FindsNext false limits before held left (Err fault) → Gives (λ there. there) before after r (at_word limits word)
+pub word_failed : (limits : Limits) (word : List ℕ) (before after : Option Place) (fault : StreamFault) (held : Held) (left : Option (List ℕ))
+    → FindsNext false limits before held left (Err fault) → Gives (λ there. there) before after (Err fault) (at_word limits word)
 unfolding at_word
-word_failed_on limits word before after fault r held left err found = gives_look_failed_on before after fault r held left (next_front false limits) (is_at word) err found
+word_failed limits word before after fault held left found = gives_look_failed before after fault held left (next_front false limits) (is_at word) found
 
 -- ---- where a command may stand
 
@@ -126,7 +131,8 @@ line_given limits before held left a r found is =
     subst (λ (s : Result Bool StreamFault). Gives (λ there. there) before (place_of held left) s (at_command limits)) (sym is)
     (gives_told before (place_of held left) (told_line a) held left a (next_front true limits) is_line found (λ f q same goes. line_is held f a q same))
 
-pub line_line : (held : Held) (left : Option (List ℕ)) (a : Ahead) (r : Result Bool StreamFault) → (a ≡ ahead.Whole → HasLine held left) → r ≡ told_line a → IfOk r (λ there. OnTrue there (HasLine held left))
+pub line_line : (held : Held) (left : Option (List ℕ)) (a : Ahead) (r : Result Bool StreamFault) → (a ≡ ahead.Whole → HasLine held left) → r ≡ told_line a
+    → IfOk r (λ there. OnTrue there (HasLine held left))
 line_line held left a r whole is =
     subst (λ (s : Result Bool StreamFault). IfOk s (λ there. OnTrue there (HasLine held left))) (sym is) (go a whole)
   where
@@ -135,10 +141,10 @@ line_line held left a r whole is =
     go ahead.Whole whole = whole refl
     go ahead.Long whole = tt
 
-pub line_failed_on : (limits : Limits) (before after : Option Place) (fault : StreamFault) (r : Result Bool StreamFault) (held : Held) (left : Option (List ℕ))
-    → IsErrAnd r (λ other. other ≡ fault) → FindsNext true limits before held left (Err fault) → Gives (λ there. there) before after r (at_command limits)
+pub line_failed : (limits : Limits) (before after : Option Place) (fault : StreamFault) (held : Held) (left : Option (List ℕ))
+    → FindsNext true limits before held left (Err fault) → Gives (λ there. there) before after (Err fault) (at_command limits)
 unfolding at_command
-line_failed_on limits before after fault r held left err found = gives_look_failed_on before after fault r held left (next_front true limits) is_line err found
+line_failed limits before after fault held left found = gives_look_failed before after fault held left (next_front true limits) is_line found
 
 -- ---- a part that must stand
 
@@ -161,37 +167,14 @@ line_at held (Some left) q is = ap (line_or 0) is
     line_or d None = d
     line_or d (Some p) = p.line
 
-pub must_be_there : (limits : Limits) (word : List ℕ) (before after : Option Place) → Gives (λ there. there) before after (Ok true) (at_word limits word) → Gives (λ done. done) before after (Ok tt) (must_be_at limits word)
-unfolding must_be_at
-must_be_there limits word before after there =
-    gives_then (λ b. b) (λ done. done) before after after (at_word limits word) _ true (Ok tt) there (gives_pure (λ done. done) after tt tt refl)
+pub missing_given : (limits : Limits) (before : Option Place) (held : Held) (left : Option (List ℕ)) (a : Ahead) (line : ℕ) (fault : StreamFault)
+    → FindsNext false limits before held left (Ok a) → line ≡ held.line → fault ≡ told_missing line a
+    → Gives (λ done. done) before (place_of held left) (Err fault) (next_front false limits >>= missing {X = Unit {0}})
+missing_given limits before held left a line fault found at is =
+    gives_told before (place_of held left) (Err fault) held left a (next_front false limits) missing found
+    (λ f q same goes. missing_is held f a q same ∙ ap (λ (x : StreamFault). let r : Read (Unit {0}) = Err x in r)
+    (ap (λ n. told_missing n a) (sym (at ∙ line_at held left q goes)) ∙ sym is))
 
-pub must_be_failed_on : (limits : Limits) (word : List ℕ) (before mid after : Option Place) (fault : StreamFault) (r : Result (Unit {0}) StreamFault) → IsErrAnd r (λ other. other ≡ fault)
-    → Gives (λ there. there) before mid (Err fault) (at_word limits word) → Gives (λ done. done) before after r (must_be_at limits word)
-unfolding must_be_at
-must_be_failed_on limits word before mid after fault (Ok x) err there = absurd err
-must_be_failed_on limits word before mid after fault (Err other) err there =
-    subst (λ (f : StreamFault). Gives (λ done. done) before after (Err f) (must_be_at limits word)) (sym err)
-    (gives_stopped (λ b. b) (λ done. done) before mid after (at_word limits word) _ fault there)
-
-pub must_be_missing : (limits : Limits) (word : List ℕ) (before mid after : Option Place) (held : Held) (left : Option (List ℕ)) (a : Ahead) (line : ℕ) (fault : StreamFault)
-    → Gives (λ there. there) before mid (Ok false) (at_word limits word) → FindsNext false limits mid held left (Ok a) → line ≡ held.line → fault ≡ told_missing line a → Gives (λ done. done) before after (Err fault) (must_be_at limits word)
-unfolding must_be_at
-must_be_missing limits word before mid after held left a line fault there found at is =
-    gives_then (λ b. b) (λ done. done) before mid after (at_word limits word) _ false (Err fault) there
-    (stays_failed after (gives_told mid (place_of held left) (Err fault) held left a (next_front false limits) missing found
-    (λ f q same goes. missing_is held f a q same ∙ ap (λ (x : StreamFault). let r : Read (Unit {0}) = Err x in r) (ap (λ n. told_missing n a) (sym (at ∙ line_at held left q goes)) ∙ sym is))))
-  where
-    stays_failed : (after : Option Place) → Gives (λ done. done) mid (place_of held left) (Err fault) (next_front false limits >>= missing {X = Unit {0}}) → Gives (λ done. done) mid after (Err fault) (next_front false limits >>= missing {X = Unit {0}})
-    stays_failed after gives = go mid gives
-      where
-        go : (m : Option Place) → Gives (λ done. done) m (place_of held left) (Err fault) (next_front false limits >>= missing {X = Unit {0}}) → Gives (λ done. done) m after (Err fault) (next_front false limits >>= missing {X = Unit {0}})
-        go None gives = tt
-        go (Some p) gives = gives
-
-pub must_be_look_failed_on : (limits : Limits) (word : List ℕ) (before mid after : Option Place) (fault : StreamFault) (r : Result (Unit {0}) StreamFault) (held : Held) (left : Option (List ℕ)) → IsErrAnd r (λ other. other ≡ fault)
-    → Gives (λ there. there) before mid (Ok false) (at_word limits word) → FindsNext false limits mid held left (Err fault) → Gives (λ done. done) before after r (must_be_at limits word)
-unfolding must_be_at
-must_be_look_failed_on limits word before mid after fault r held left err there found =
-    gives_then (λ b. b) (λ done. done) before mid after (at_word limits word) _ false r there
-    (gives_look_failed_on mid after fault r held left (next_front false limits) missing err found)
+pub missing_failed : (limits : Limits) (before after : Option Place) (fault : StreamFault) (held : Held) (left : Option (List ℕ))
+    → FindsNext false limits before held left (Err fault) → Gives (λ done. done) before after (Err fault) (next_front false limits >>= missing {X = Unit {0}})
+missing_failed limits before after fault held left found = gives_look_failed before after fault held left (next_front false limits) missing found

@@ -1,5 +1,7 @@
 -- Data parts that are taken piece by piece.
-use Rattle.std.proofs.Common.{◌≡◌, ℕ, ◌+◌, ◌-◌, ◌<◌, ◌≤◌, Bool, true, false, ◌||◌, cond, nat_lt, List, [], ◌∷◌, ◌++◌, length, take, drop, get_or, count_by, Option, Some, None, Result, Ok, Err, refl, sym, ap, subst, ◌∙◌, arith, inl, inr, append_assoc, length-drop, length-append, if◌then◌else◌}
+use Rattle.std.proofs.Common.{◌≡◌, ℕ, ◌+◌, ◌-◌, ◌<◌, ◌≤◌, Bool, true, false, cond, List, [], ◌∷◌, ◌++◌, length, take, drop, get_or, count_by}
+use Rattle.std.proofs.Common.{Option, Some, None, Ok, Err, refl, sym, ap, subst, ◌∙◌, arith, inl, inr, append_assoc, length-drop, length-append}
+use Rattle.std.proofs.Common.{if◌then◌else◌}
 use Rattle.std.specs.Option.{option_map}
 use Rattle.std.specs.Io.KnownBytes.{IsAtEnd}
 use Rattle.std.proofs.lemmas.Bool.{cases_lt, cond-true, cond-false, le-leb, lt-leb, le-ltb, or_from, or_left}
@@ -8,34 +10,32 @@ use Rattle.std.proofs.lemmas.List.Sums.{sum_by-append}
 use Rattle.std.proofs.lemmas.Option.{same_Some, none-some}
 use Rattle.std.proofs.Math.Seq.{take-add}
 use Rattle.bf_grammar.specs.declared.fault.Limit.TheVariants.{Stream}
-use Rattle.bf_grammar.specs.declared.fault.StreamFault.{StreamFault}
 use Rattle.bf_grammar.specs.declared.fault.StreamFault.TheVariants.{Truncated, TooLarge}
-use Rattle.bf_grammar.specs.Place.{Place, Reading, is_end_of_line, moved, and_then, pure, Gives}
+use Rattle.bf_grammar.specs.Place.{Place, is_end_of_line, moved, and_then, pure, Gives}
 use Rattle.bf_grammar.specs.Lines.{bytes_at, skip_end_of_line}
-use Rattle.bf_grammar.proofs.Composing.{fails_here, gives_unknown, gives_moved}
-use Rattle.bf_lines.specs.Data.{GoesOnAs, bytes_from}
-use Rattle.bf_lines.specs.Held.{Held, place_of, moved_held}
+use Rattle.bf_lines.specs.Data.{bytes_from}
+use Rattle.bf_lines.specs.Going.{GoesOnAs}
+use Rattle.bf_lines.specs.Held.{Held, place_in, place_of, moved_held}
 use Rattle.bf_lines.proofs.Fronts.{nothing_left}
+use Rattle.bf_lines.proofs.Going.{Read, same_option, gives_fault_where, gives_value_where, goes_on_where, gives_going_on}
 use Rattle.bf_lines.proofs.Holding.{place_of-moved}
-use Rattle.bf_lines.proofs.Passing.{Read}
 
 -- ---- a place, by what is held
 
-abbrev place : Held → List ℕ → Place
-place held left = record { line = held.line; rest = held.bytes ++ take held.quota left; more = held.past || nat_lt held.quota (length left); done_due = held.done_due }
-
-pub rest_at_end : (held : Held) (left : Option (List ℕ)) → held.past ≡ false → IsAtEnd left → (q : Place) → place_of held left ≡ Some q → (q.rest ≡ held.bytes) × (q.more ≡ false)
+pub rest_at_end : (held : Held) (left : Option (List ℕ)) → held.past ≡ false → IsAtEnd left → (q : Place) → place_of held left ≡ Some q
+    → (q.rest ≡ held.bytes) × (q.more ≡ false)
 rest_at_end held None within at q is = absurd (none-some q is)
 rest_at_end held (Some left) within at q is =
-    let e : place held left ≡ q = same_Some _ _ is in (
+    let e : place_in held left ≡ q = same_Some _ _ is in (
       sym (ap (λ (r : Place). r.rest) e) ∙ nothing_left held left at,
       sym (ap (λ (r : Place). r.more) e) ∙ or_from _ _ within (le-ltb held.quota (length left) (omega (arith, ap length at))),
     )
 
-pub rest_at_past : (held : Held) (left : Option (List ℕ)) → held.past ≡ true → held.quota ≡ 0 → (q : Place) → place_of held left ≡ Some q → (q.rest ≡ held.bytes) × (q.more ≡ true)
+pub rest_at_past : (held : Held) (left : Option (List ℕ)) → held.past ≡ true → held.quota ≡ 0 → (q : Place) → place_of held left ≡ Some q
+    → (q.rest ≡ held.bytes) × (q.more ≡ true)
 rest_at_past held None past spent q is = absurd (none-some q is)
 rest_at_past held (Some left) past spent q is =
-    let e : place held left ≡ q = same_Some _ _ is in (
+    let e : place_in held left ≡ q = same_Some _ _ is in (
       sym (ap (λ (r : Place). r.rest) e) ∙ ap (λ n. held.bytes ++ take n left) spent ∙ append-nil held.bytes,
       sym (ap (λ (r : Place). r.more) e) ∙ or_left _ _ past,
     )
@@ -43,37 +43,13 @@ rest_at_past held (Some left) past spent q is =
 -- what is held is the front of what is left
 pub held_front : (held : Held) (left : Option (List ℕ)) (q : Place) → place_of held left ≡ Some q → (behind : List ℕ) × (q.rest ≡ held.bytes ++ behind)
 held_front held None q is = absurd (none-some q is)
-held_front held (Some left) q is = (take held.quota left, sym (ap (λ (r : Place). r.rest) (let e : place held left ≡ q = same_Some _ _ is in e)))
+held_front held (Some left) q is = (take held.quota left, sym (ap (λ (r : Place). r.rest) (let e : place_in held left ≡ q = same_Some _ _ is in e)))
 
-pub front_taken : (held : Held) (left : Option (List ℕ)) (q : Place) (k : ℕ) → place_of held left ≡ Some q → k ≤ length held.bytes → (take k q.rest ≡ take k held.bytes) × (k ≤ length q.rest)
+pub front_taken : (held : Held) (left : Option (List ℕ)) (q : Place) (k : ℕ) → place_of held left ≡ Some q → k ≤ length held.bytes
+    → (take k q.rest ≡ take k held.bytes) × (k ≤ length q.rest)
 front_taken held left q k is le =
     let front = held_front held left q is in
     (ap (take k) front.1 ∙ take-append-le k held.bytes front.0 le, omega (arith, ap length front.1, length-append held.bytes front.0))
-
--- ---- readings, place by place
-
-pub gives_fault_where : {X Z : Type 0} (view : Z → X) (before after : Option Place) (fault : StreamFault) (read : Reading X) → ((q : Place) → before ≡ Some q → read q ≡ Err fault) → Gives view before after (Err fault) read
-gives_fault_where view None after fault read fails = tt
-gives_fault_where view (Some p) after fault read fails = fails_here fault (read p) (fails p refl)
-
-pub gives_value_where : {X Z : Type 0} (view : Z → X) (before after : Option Place) (x : Z) (read : Reading X) (step : Place → Place) → after ≡ option_map step before → ((q : Place) → before ≡ Some q → read q ≡ Ok (view x, step q)) → Gives view before after (Ok x) read
-gives_value_where view None after x read step goes gives = goes
-gives_value_where view (Some p) after x read step goes gives = (step p, gives p refl, goes)
-
-pub goes_on_where : {X : Type 0} (first next : Reading X) (before after : Option Place) (step : Place → Place) → after ≡ option_map step before → ((q : Place) → before ≡ Some q → first q ≡ next (step q)) → GoesOnAs first next before after
-goes_on_where first next None after step goes same = goes
-goes_on_where first next (Some p) after step goes same = (step p, same p refl, goes)
-
-pub goes_on_trans : {X : Type 0} (first mid next : Reading X) (before between after : Option Place) → GoesOnAs first mid before between → GoesOnAs mid next between after → GoesOnAs first next before after
-goes_on_trans first mid next None between after a b = subst (λ (m : Option Place). GoesOnAs mid next m after) a b
-goes_on_trans first mid next (Some p) between after (q, same, goes) b = go (subst (λ (m : Option Place). GoesOnAs mid next m after) goes b)
-  where
-    go : GoesOnAs mid next (Some q) after → GoesOnAs first next (Some p) after
-    go (r, again, there) = (r, same ∙ again, there)
-
-pub gives_going_on : {X Z : Type 0} (view : Z → X) (first next : Reading X) (before mid after : Option Place) (r : Result Z StreamFault) → GoesOnAs first next before mid → Gives view mid after r next → Gives view before after r first
-gives_going_on view first next None mid after r a b = gives_unknown view view after r next first (subst (λ (m : Option Place). Gives view m after r next) a b)
-gives_going_on view first next (Some p) mid after r (q, same, goes) b = gives_moved view p q after r next first same (subst (λ (m : Option Place). Gives view m after r next) goes b)
 
 -- ---- moving on
 
@@ -87,7 +63,8 @@ pub moved_moved : (a b : ℕ) (p : Place) → moved b (moved a p) ≡ moved (a +
 moved_moved a b p =
     let counted : count_by is_end_of_line (take (a + b) p.rest) ≡ count_by is_end_of_line (take a p.rest) + count_by is_end_of_line (take b (drop a p.rest)) =
     ap (count_by is_end_of_line) (take-add a b p.rest) ∙ sum_by-append (λ x. cond (is_end_of_line x) 1 0) (take a p.rest) (take b (drop a p.rest)) in
-    place_same p (p.line + count_by is_end_of_line (take a p.rest) + count_by is_end_of_line (take b (drop a p.rest))) (p.line + count_by is_end_of_line (take (a + b) p.rest)) (drop b (drop a p.rest)) (drop (a + b) p.rest) (omega arith) (drop-drop b a p.rest)
+    place_same p (p.line + count_by is_end_of_line (take a p.rest) + count_by is_end_of_line (take b (drop a p.rest)))
+    (p.line + count_by is_end_of_line (take (a + b) p.rest)) (drop b (drop a p.rest)) (drop (a + b) p.rest) (omega arith) (drop-drop b a p.rest)
 
 -- ---- bytes
 
@@ -111,7 +88,8 @@ bytes_none line taken q =
     ∙ ap (λ (l : List ℕ). let r : Read (List ℕ) = Ok (l, moved 0 q) in r) (append-nil taken)
     ∙ ap (λ (p : Place). let r : Read (List ℕ) = Ok (taken, p) in r) (moved_none q)
 
-pub bytes_moved : (line n k : ℕ) (taken : List ℕ) (q : Place) → k ≤ n → k ≤ length q.rest → bytes_from line taken n q ≡ bytes_from line (taken ++ take k q.rest) (n - k) (moved k q)
+pub bytes_moved : (line n k : ℕ) (taken : List ℕ) (q : Place) → k ≤ n → k ≤ length q.rest
+    → bytes_from line taken n q ≡ bytes_from line (taken ++ take k q.rest) (n - k) (moved k q)
 unfolding bytes_at
 bytes_moved line n k taken q le within =
     let size = length-drop k q.rest in
@@ -126,17 +104,20 @@ bytes_moved line n k taken q le within =
           ap (taken_on taken) (cond-true _ _ _ (le-leb n (length q.rest) enough))
           ∙ ap (λ (m : ℕ). let r : Read (List ℕ) = Ok (taken ++ take m q.rest, moved m q) in r) (sym sum)
           ∙ ap (λ (l : List ℕ). let r : Read (List ℕ) = Ok (taken ++ l, moved (k + (n - k)) q) in r) (take-add k (n - k) q.rest)
-          ∙ ap (λ (l : List ℕ). let r : Read (List ℕ) = Ok (l, moved (k + (n - k)) q) in r) (sym (append_assoc taken (take k q.rest) (take (n - k) (drop k q.rest))))
+          ∙ ap (λ (l : List ℕ). let r : Read (List ℕ) = Ok (l, moved (k + (n - k)) q) in r)
+          (sym (append_assoc taken (take k q.rest) (take (n - k) (drop k q.rest))))
           ∙ ap (λ (p : Place). let r : Read (List ℕ) = Ok (longer ++ take (n - k) (drop k q.rest), p) in r) (sym (moved_moved k (n - k) q))
           ∙ sym (ap (taken_on longer) (cond-true _ _ _ (le-leb (n - k) (length (drop k q.rest)) (omega arith))))
     ]
   where
-    refused : (a b : List ℕ) (more : Bool) → taken_on a (cond more (Err (TooLarge Stream)) (Err (Truncated line))) ≡ taken_on b (cond more (Err (TooLarge Stream)) (Err (Truncated line)))
+    refused : (a b : List ℕ) (more : Bool) → taken_on a (cond more (Err (TooLarge Stream)) (Err (Truncated line))) ≡ taken_on b
+        (cond more (Err (TooLarge Stream)) (Err (Truncated line)))
     refused a b true = refl
     refused a b false = refl
 
 -- a piece of what is held was taken
-pub piece_taken : (line n k : ℕ) (old new : List ℕ) (before after : Option Place) (held next : Held) (left : Option (List ℕ)) → place_of held left ≡ before → next ≡ moved_held k held → k ≤ n → k ≤ length held.bytes
+pub piece_taken : (line n k : ℕ) (old new : List ℕ) (before after : Option Place) (held next : Held) (left : Option (List ℕ)) → place_of held left ≡ before
+    → next ≡ moved_held k held → k ≤ n → k ≤ length held.bytes
     → new ≡ old ++ take k held.bytes → place_of next left ≡ after → GoesOnAs (bytes_from line old n) (bytes_from line new (n - k)) before after
 piece_taken line n k old new before after held next left at is le within grown there =
     goes_on_where (bytes_from line old n) (bytes_from line new (n - k)) before after (moved k)
@@ -145,63 +126,62 @@ piece_taken line n k old new before after held next left at is le within grown t
     bytes_moved line n k old q le front.1 ∙ ap (λ (l : List ℕ). bytes_from line l (n - k) (moved k q)) (ap (λ (l : List ℕ). old ++ l) front.0 ∙ sym grown))
 
 -- all is taken
-pub all_taken : (line n : ℕ) (taken : List ℕ) (left : ℕ) (before after : Option Place) → GoesOnAs (bytes_at line n) (bytes_from line taken left) before after → left ≡ 0 → Gives (λ (bytes : List ℕ). bytes) before after (Ok taken) (bytes_at line n)
+pub all_taken : (line n : ℕ) (taken : List ℕ) (left : ℕ) (before after : Option Place) → GoesOnAs (bytes_at line n) (bytes_from line taken left) before after
+    → left ≡ 0 → Gives (λ (bytes : List ℕ). bytes) before after (Ok taken) (bytes_at line n)
 all_taken line n taken left before after a none =
     gives_going_on (λ (bytes : List ℕ). bytes) (bytes_at line n) (bytes_from line taken left) before after after (Ok taken) a
-    (gives_value_where (λ (bytes : List ℕ). bytes) after after taken (bytes_from line taken left) (λ p. p) (same_option after) (λ q is. ap (λ m. bytes_from line taken m q) none ∙ bytes_none line taken q))
-  where
-    same_option : (o : Option Place) → o ≡ option_map (λ p. p) o
-    same_option None = refl
-    same_option (Some p) = refl
+    (gives_value_where (λ (bytes : List ℕ). bytes) after after taken (bytes_from line taken left) (λ p. p) (same_option after)
+    (λ q is. ap (λ m. bytes_from line taken m q) none ∙ bytes_none line taken q))
 
 -- ---- one LF behind data
 
-skip_ends_at : (q : Place) (rest : List ℕ) → 0 < length rest → is_end_of_line (get_or rest 0 0) ≡ true → skip_end_of_line (record q { rest = rest }) ≡ Ok (tt, moved 1 (record q { rest = rest }))
+skip_ends_at : (q : Place) (rest : List ℕ) → 0 < length rest → is_end_of_line (get_or rest 0 0) ≡ true
+    → skip_end_of_line (record q { rest = rest }) ≡ Ok (tt, moved 1 (record q { rest = rest }))
 unfolding skip_end_of_line
 skip_ends_at q [] some ends = absurd (omega arith)
 skip_ends_at q (byte ∷ rest) some ends = cond-true _ _ _ ends
 
-skip_goes_at : (q : Place) (rest : List ℕ) → 0 < length rest → is_end_of_line (get_or rest 0 0) ≡ false → skip_end_of_line (record q { rest = rest }) ≡ Ok (tt, record q { rest = rest })
+skip_goes_at : (q : Place) (rest : List ℕ) → 0 < length rest → is_end_of_line (get_or rest 0 0) ≡ false
+    → skip_end_of_line (record q { rest = rest }) ≡ Ok (tt, record q { rest = rest })
 unfolding skip_end_of_line
 skip_goes_at q [] some ends = absurd (omega arith)
 skip_goes_at q (byte ∷ rest) some ends = cond-false _ _ _ ends
 
-skip_none_at : (q : Place) → skip_end_of_line (record q { rest = [] }) ≡ (if q.more then (let r : Read (Unit {0}) = Err (TooLarge Stream) in r) else Ok (tt, record q { rest = [] }))
+skip_none_at : (q : Place) → skip_end_of_line (record q { rest = [] })
+    ≡ (if q.more then (let r : Read (Unit {0}) = Err (TooLarge Stream) in r) else Ok (tt, record q { rest = [] }))
 unfolding skip_end_of_line
 skip_none_at q = refl
 
 pub with_rest : (q : Place) (rest : List ℕ) → q.rest ≡ rest → ◌≡◌ {A = Place} (record q { rest = rest }) q
 with_rest q rest e = ap (λ l. record q { rest = l }) (sym e)
 
-pub skip_ends : (held : Held) (left : Option (List ℕ)) (before after : Option Place) → place_of held left ≡ before → after ≡ option_map (moved 1) before → 0 < length held.bytes → is_end_of_line (get_or held.bytes 0 0) ≡ true → Gives (λ (done : Unit {0}). done) before after (Ok tt) skip_end_of_line
+pub skip_ends : (held : Held) (left : Option (List ℕ)) (before after : Option Place) → place_of held left ≡ before → after ≡ option_map (moved 1) before
+    → 0 < length held.bytes → is_end_of_line (get_or held.bytes 0 0) ≡ true → Gives (λ (done : Unit {0}). done) before after (Ok tt) skip_end_of_line
 skip_ends held left before after at goes some ends =
     gives_value_where (λ (done : Unit {0}). done) before after tt skip_end_of_line (moved 1) goes
     (λ q here. let front = held_front held left q (at ∙ here) in
     subst (λ (p : Place). skip_end_of_line p ≡ Ok (tt, moved 1 p)) (with_rest q (held.bytes ++ front.0) front.1)
-    (skip_ends_at q (held.bytes ++ front.0) (omega (arith, length-append held.bytes front.0)) (ap is_end_of_line (get_or_append_left held.bytes front.0 0 0 some) ∙ ends)))
+    (skip_ends_at q (held.bytes ++ front.0) (omega (arith, length-append held.bytes front.0))
+    (ap is_end_of_line (get_or_append_left held.bytes front.0 0 0 some) ∙ ends)))
 
-pub skip_goes : (held : Held) (left : Option (List ℕ)) (before : Option Place) → place_of held left ≡ before → 0 < length held.bytes → is_end_of_line (get_or held.bytes 0 0) ≡ false → Gives (λ (done : Unit {0}). done) before before (Ok tt) skip_end_of_line
+pub skip_goes : (held : Held) (left : Option (List ℕ)) (before : Option Place) → place_of held left ≡ before → 0 < length held.bytes
+    → is_end_of_line (get_or held.bytes 0 0) ≡ false → Gives (λ (done : Unit {0}). done) before before (Ok tt) skip_end_of_line
 skip_goes held left before at some goes =
     gives_value_where (λ (done : Unit {0}). done) before before tt skip_end_of_line (λ p. p) (same_option before)
     (λ q here. let front = held_front held left q (at ∙ here) in
     subst (λ (p : Place). skip_end_of_line p ≡ Ok (tt, p)) (with_rest q (held.bytes ++ front.0) front.1)
-    (skip_goes_at q (held.bytes ++ front.0) (omega (arith, length-append held.bytes front.0)) (ap is_end_of_line (get_or_append_left held.bytes front.0 0 0 some) ∙ goes)))
-  where
-    same_option : (o : Option Place) → o ≡ option_map (λ p. p) o
-    same_option None = refl
-    same_option (Some p) = refl
+    (skip_goes_at q (held.bytes ++ front.0) (omega (arith, length-append held.bytes front.0))
+    (ap is_end_of_line (get_or_append_left held.bytes front.0 0 0 some) ∙ goes)))
 
-pub skip_end : (held : Held) (left : Option (List ℕ)) (before : Option Place) → place_of held left ≡ before → held.bytes ≡ [] → held.past ≡ false → IsAtEnd left → Gives (λ (done : Unit {0}). done) before before (Ok tt) skip_end_of_line
+pub skip_end : (held : Held) (left : Option (List ℕ)) (before : Option Place) → place_of held left ≡ before → held.bytes ≡ [] → held.past ≡ false → IsAtEnd left
+    → Gives (λ (done : Unit {0}). done) before before (Ok tt) skip_end_of_line
 skip_end held left before at none within ended =
     gives_value_where (λ (done : Unit {0}). done) before before tt skip_end_of_line (λ p. p) (same_option before)
     (λ q here. let spent = rest_at_end held left within ended q (at ∙ here) in
     subst (λ (p : Place). skip_end_of_line p ≡ Ok (tt, p)) (with_rest q [] (spent.0 ∙ none)) (skip_none_at q ∙ cond-false _ _ _ spent.1))
-  where
-    same_option : (o : Option Place) → o ≡ option_map (λ p. p) o
-    same_option None = refl
-    same_option (Some p) = refl
 
-pub skip_past : (held : Held) (left : Option (List ℕ)) (before after : Option Place) → place_of held left ≡ before → held.bytes ≡ [] → held.past ≡ true → held.quota ≡ 0 → Gives (λ (done : Unit {0}). done) before after (Err (TooLarge Stream)) skip_end_of_line
+pub skip_past : (held : Held) (left : Option (List ℕ)) (before after : Option Place) → place_of held left ≡ before → held.bytes ≡ [] → held.past ≡ true
+    → held.quota ≡ 0 → Gives (λ (done : Unit {0}). done) before after (Err (TooLarge Stream)) skip_end_of_line
 skip_past held left before after at none past spent_quota =
     gives_fault_where (λ (done : Unit {0}). done) before after (TooLarge Stream) skip_end_of_line
     (λ q here. let spent = rest_at_past held left past spent_quota q (at ∙ here) in

@@ -1,16 +1,13 @@
 -- Data parts that are read piece by piece.
-use Rattle.std.specs.Prelude.{◌≡◌, ℕ, ◌+◌, ◌&&◌, ◌||◌, not, nat_lt, Bool, true, false, List, ◌++◌, length, take, Option, Some, None, Result, Ok, Err, if◌then◌else◌}
+use Rattle.std.specs.Prelude.{ℕ, ◌+◌, ◌&&◌, ◌||◌, not, nat_lt, Bool, true, false, List}
+use Rattle.std.specs.Prelude.{◌++◌, length, take, Option, Result, Ok, Err, if◌then◌else◌}
 use Rattle.bf_grammar.specs.declared.fault.Limit.TheVariants.{Data, Stream}
 use Rattle.bf_grammar.specs.declared.fault.Limits.{Limits}
 use Rattle.bf_grammar.specs.declared.fault.StreamFault.{StreamFault}
 use Rattle.bf_grammar.specs.declared.fault.StreamFault.TheVariants.{Truncated, TooLarge}
 use Rattle.bf_grammar.specs.Place.{Place, Reading, Gives, pure, ◌>>=◌}
 use Rattle.bf_grammar.specs.Lines.{front_line, has_end_of_line, is_text, past_line, bytes_at}
-
--- a reading goes on as another from the place after
-abbrev pub GoesOnAs : {X : Type 0} → Reading X → Reading X → Option Place → Option Place → Type 0
-GoesOnAs first next None after = after ≡ None
-GoesOnAs first next (Some p) after = (q : Place) × (first p ≡ next q) × (after ≡ Some q)
+use Rattle.bf_lines.specs.Going.{GoesOnAs}
 
 -- the bytes that were taken, and so many more
 abbrev pub bytes_from : ℕ → List ℕ → ℕ → Reading (List ℕ)

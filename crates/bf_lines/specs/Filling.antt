@@ -1,7 +1,8 @@
 -- What one more read does to what a window holds.
-use Rattle.std.specs.Prelude.{◌≡◌, ℕ, ◌-◌, ◌<◌, ◌≤◌, true, false, List, [], ◌++◌, length, Option, Result, Ok, Err}
+use Rattle.std.specs.Prelude.{◌≡◌, ℕ, ◌-◌, ◌<◌, ◌≤◌, true, false, List, [], ◌++◌, length, take, drop, Option, Result, Ok, Err}
 use Rattle.std.specs.Io.KnownBytes.{IsAtEnd}
 use Rattle.bf_io.specs.declared.device.Failed.{Failed}
+use Rattle.bf_io.specs.Told.{ReadTakes}
 use Rattle.bf_lines.specs.declared.window.Filled.{Filled}
 use Rattle.bf_lines.specs.declared.window.Filled.TheVariants.{More, End, Past}
 use Rattle.bf_lines.specs.Held.{Held}
@@ -35,3 +36,11 @@ IsReady held left (Ok More) = 0 < length held.bytes
 IsReady held left (Ok End) = (held.bytes ≡ []) × (held.past ≡ false) × IsAtEnd left
 IsReady held left (Ok Past) = (held.bytes ≡ []) × (held.past ≡ true) × (held.quota ≡ 0)
 IsReady held left (Err _) = Unit {0}
+
+-- a read put bytes behind this place of the items
+abbrev pub ReadsBehind : ℕ → Option (List ℕ) → Option (List ℕ) → Result ℕ Failed → List ℕ → Type 0
+ReadsBehind at left left_now result items = ReadTakes left left_now result (drop at items)
+
+-- so many items from one place are now at another place
+abbrev pub KeepsPart : ℕ → ℕ → List ℕ → ℕ → List ℕ → Type 0
+KeepsPart size start items at moved = take size (drop at moved) ≡ take size (drop start items)

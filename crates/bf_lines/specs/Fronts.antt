@@ -8,6 +8,7 @@ use Rattle.bf_grammar.specs.Place.{Place, Reading, Gives, pure, ◌>>=◌}
 use Rattle.bf_grammar.specs.Lines.{Front, Nothing, Whole, Long, front, front_line, has_word, is_passed_over, next_front}
 use Rattle.bf_lines.specs.declared.front.Ahead.{Ahead}
 use Rattle.bf_lines.specs.declared.front.Ahead.TheVariants as ahead
+use Rattle.bf_lines.specs.Going.{GoesOnAs}
 use Rattle.bf_lines.specs.Held.{Held, HasLine, place_of}
 
 -- of a line that is too long, the first bytes
@@ -45,14 +46,9 @@ FindsFront limits before held left result = Finds (front limits) before held lef
 abbrev pub FindsNext : Bool → Limits → Option Place → Held → Option (List ℕ) → Result Ahead StreamFault → Type 0
 FindsNext empty_too limits before held left result = Finds (next_front empty_too limits) before held left result
 
--- a reading goes on from the place after as from the place before
-abbrev pub Resumes : {X : Type 0} → Reading X → Option Place → Option Place → Type 0
-Resumes read None after = after ≡ None
-Resumes read (Some p) after = (q : Place) × (read p ≡ read q) × (after ≡ Some q)
-
 -- the line in front was passed over, or what stands there is what is looked for
 abbrev pub Steps : Bool → Limits → Option Place → Held → Option (List ℕ) → Result (Option Ahead) StreamFault → Type 0
-Steps empty_too limits before held left (Ok None) = Resumes (next_front empty_too limits) before (place_of held left)
+Steps empty_too limits before held left (Ok None) = GoesOnAs (next_front empty_too limits) (next_front empty_too limits) before (place_of held left)
 Steps empty_too limits before held left (Ok (Some found)) = FindsNext empty_too limits before held left (Ok found)
 Steps empty_too limits before held left (Err fault) = FindsNext empty_too limits before held left (Err fault)
 

@@ -1,9 +1,8 @@
 -- What a window holds of a source, and where a reading through it stands.
-use Rattle.std.specs.Prelude.{◌≡◌, ℕ, ◌+◌, ◌<◌, Bool, false, ◌||◌, nat_lt, List, [], ◌++◌, length, take, drop, count_by, Option, Some, None, IsTrue, ◌⊎◌}
-use Rattle.std.specs.Prelude.{Result}
-use Rattle.bf_grammar.specs.declared.fault.StreamFault.{StreamFault}
-use Rattle.bf_grammar.specs.Place.{Place, Reading, Gives, is_end_of_line}
-use Rattle.bf_grammar.specs.Lines.{front_line, has_end_of_line}
+use Rattle.std.specs.Prelude.{◌≡◌, ℕ, ◌+◌, ◌<◌, Bool, true, false, ◌||◌, nat_lt, List, [], ◌++◌, length, take, drop, count_by, Option, Some, None, IsTrue, ◌⊎◌}
+use Rattle.std.specs.Option.{IfSome, option_map}
+use Rattle.bf_grammar.specs.Place.{Place, is_end_of_line}
+use Rattle.bf_grammar.specs.Lines.{front_line, has_end_of_line, is_passed_over, past_line}
 
 -- the line of the first byte, the bytes that were read and not yet taken, how many more may be read from the
 -- source, whether a byte behind those was seen, and whether `feature done` was read
@@ -18,15 +17,19 @@ pub record Held : Type 0 where
 abbrev pub nothing_held : ℕ → Held
 nothing_held limit = record { line = 1; bytes = []; quota = limit; past = false; done_due = false }
 
--- the place where a reading stands, where the source tells what it has left
-abbrev pub place_of : Held → Option (List ℕ) → Option Place
-place_of held None = None
-place_of held (Some left) = Some (record {
+-- the place where a reading stands, with these bytes left in the source
+abbrev pub place_in : Held → List ℕ → Place
+place_in held left = record {
   line = held.line;
   rest = held.bytes ++ take held.quota left;
   more = held.past || nat_lt held.quota (length left);
   done_due = held.done_due;
-})
+}
+
+-- the same where the source tells what it has left
+abbrev pub place_of : Held → Option (List ℕ) → Option Place
+place_of held None = None
+place_of held (Some left) = Some (place_in held left)
 
 -- how many bytes a reading may still take
 abbrev pub remaining : Held → ℕ
@@ -41,17 +44,31 @@ pub record HasLine (held : Held) (left : Option (List ℕ)) : Type 0 where
   pub some : 0 < length held.bytes
   pub whole : IsTrue (has_end_of_line held.bytes) ⊎ IsAll held left
 
--- the window so many bytes further on
+-- the window so many bytes further on, among which are so many LFs
+abbrev pub advanced : ℕ → ℕ → Held → Held
+advanced n lines held = record held { line = held.line + lines; bytes = drop n held.bytes }
+
 abbrev pub moved_held : ℕ → Held → Held
-moved_held n held = record held {
-  line = held.line + count_by is_end_of_line (take n held.bytes);
-  bytes = drop n held.bytes;
-}
+moved_held n held = advanced n (count_by is_end_of_line (take n held.bytes)) held
 
 -- the window behind the line in front
 abbrev pub past_held_line : Held → Held
 past_held_line held = moved_held (length (front_line held.bytes) + 1) held
 
--- Between two states of a window and its source a call gave what the reading gives.
-abbrev pub Reads : {X : Type 0} → Held → Option (List ℕ) → Held → Option (List ℕ) → Result X StreamFault → Reading X → Type 0
-Reads held left now left_now result reading = Gives (λ x. x) (place_of held left) (place_of now left_now) result reading
+-- a line in front has this text
+abbrev pub IsLineOf : Held → List ℕ → Type 0
+IsLineOf held text = (left : Option (List ℕ)) → HasLine held left → IfSome (place_of held left) (λ p. text ≡ front_line p.rest)
+
+-- a line in front was taken
+abbrev pub GoesPast : Held → Held → Type 0
+GoesPast old new = (left : Option (List ℕ)) → HasLine old left → place_of new left ≡ option_map past_line (place_of old left)
+
+-- the place stays, whatever the window and its source gained and lost
+abbrev pub Stays : {S : Type 0} → (S → Option (List ℕ)) → Held → S → Held → S → Type 0
+Stays left old source new source_now = place_of new (left source_now) ≡ place_of old (left source)
+
+-- the line in front is held with its LF, has this text, and is no comment
+pub record IsPlain (bytes text : List ℕ) : Type 0 where
+  pub line : text ≡ front_line bytes
+  pub ended : has_end_of_line bytes ≡ true
+  pub plain : is_passed_over false text ≡ false

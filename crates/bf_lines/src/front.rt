@@ -1,14 +1,13 @@
 //! What stands in front.
-ghost use Rattle.std.specs.Prelude.{◌≡◌, ◌≤◌, ◌<◌, None, length, IfOk};
-ghost use Rattle.bf_io.specs.Causes.{FailsOnlyAt};
-ghost use Rattle.bf_grammar.specs.Lines as lines;
-ghost use Rattle.bf_lines.specs.Fronts.{FindsFront, FindsNext, Steps, sized, ended, passed, told_passed, told_word, told_line, told_missing};
-ghost use Rattle.bf_lines.specs.Held.{place_of, remaining};
+ghost use Rattle.std.specs.Prelude.{◌≡◌};
+ghost use Rattle.bf_lines.specs.Cursor.{Advances};
+ghost use Rattle.bf_lines.specs.Fronts.{sized, ended, passed, told_passed, told_word, told_line, told_missing};
+ghost use Rattle.bf_lines.specs.Steps.{FindsFront, FindsNext, PassesBytes, PassesLine};
 
-use crate::Window;
+use crate::Cursor;
 use crate::text::{end_of_line, has_word, is_passed_over};
 use crate::window::Filled;
-use bf_grammar::{Limit, Limits, StreamFault};
+use bf_grammar::{Limit, StreamFault};
 use bf_io::Source;
 
 /// More than so many bytes of a line that is too long are held, or all. Its first word is among them.
@@ -60,78 +59,60 @@ fn passed(most: usize, length: usize) -> Result<Ahead, StreamFault>
     }
 }
 
-/// Finds what stands in front, without going on.
-fn find_front<S: Source>(
-    window: &mut Window,
-    source: &mut S,
-    limits: Limits,
-) -> Result<Ahead, StreamFault>
-    requires { limits.line ≤ 65535 }
-    ensures front { FindsFront limits (place_of window.old (S.left source.old)) window.new (S.left source.new) result }
-    ensures turns { remaining window.new ≤ remaining window.old }
-    ensures cause { FailsOnlyAt StreamFault.Read (S.faults source.old) (S.faults source.new) result }
-{
-    let most = limits.line as usize;
-    let enough = most.max(WORD);
-    let mut scanned = window.known();
-    'reads: loop {
-        let bytes = window.bytes();
-        let held = bytes.len();
-        let end = end_of_line(bytes, scanned);
-        if end < held {
-            window.note_known(end);
-            return Ok(sized(most, end));
-        }
-        if held > enough {
-            return Ok(Ahead::Long);
-        }
-        match window.fill(source)? {
-            Filled::More => scanned = held,
-            Filled::End => return Ok(ended(most, held)),
-            Filled::Past => return passed(most, held),
+impl<'a, S: Source> Cursor<'a, S> {
+    /// Finds what stands in front, without going on.
+    fn find_front(&mut self) -> Result<Ahead, StreamFault>
+        ensures front { FindsFront S.left self.old self.new result }
+        ensures advances { Advances S.faults self.old self.new result }
+    {
+        let most = self.limits.line as usize;
+        let enough = most.max(WORD);
+        let mut scanned = self.window.known();
+        'reads: loop {
+            let bytes = self.window.bytes();
+            let held = bytes.len();
+            let end = end_of_line(bytes, scanned);
+            if end < held {
+                self.window.note_line(end);
+                return Ok(sized(most, end));
+            }
+            if held > enough {
+                return Ok(Ahead::Long);
+            }
+            match self.window.fill(self.source)? {
+                Filled::More => scanned = held,
+                Filled::End => return Ok(ended(most, held)),
+                Filled::Past => return passed(most, held),
+            }
         }
     }
-}
 
-/// Finds what stands in front behind the lines that are passed over: comments, and where a command may stand
-/// also empty lines.
-pub(crate) fn next_front<S: Source>(
-    window: &mut Window,
-    source: &mut S,
-    limits: Limits,
-    empty_too: bool,
-) -> Result<Ahead, StreamFault>
-    requires { limits.line ≤ 65535 }
-    ensures front { FindsNext empty_too limits (place_of window.old (S.left source.old)) window.new (S.left source.new) result }
-    ensures turns { remaining window.new ≤ remaining window.old }
-    ensures cause { FailsOnlyAt StreamFault.Read (S.faults source.old) (S.faults source.new) result }
-{
-    'lines: loop {
-        if let Some(ahead) = pass_line(window, source, limits, empty_too)? {
-            return Ok(ahead);
+    /// Finds what stands in front behind the lines that are passed over: comments, and where a command may
+    /// stand also empty lines.
+    pub(crate) fn next_front(&mut self, empty_too: bool) -> Result<Ahead, StreamFault>
+        ensures front { FindsNext empty_too S.left self.old self.new result }
+        ensures advances { Advances S.faults self.old self.new result }
+    {
+        'lines: loop {
+            if let Some(ahead) = self.pass_line(empty_too)? {
+                return Ok(ahead);
+            }
         }
     }
-}
 
-/// Goes behind the line in front where it is passed over. Else answers what stands there.
-fn pass_line<S: Source>(
-    window: &mut Window,
-    source: &mut S,
-    limits: Limits,
-    empty_too: bool,
-) -> Result<Option<Ahead>, StreamFault>
-    requires { limits.line ≤ 65535 }
-    ensures step { Steps empty_too limits (place_of window.old (S.left source.old)) window.new (S.left source.new) result }
-    ensures turns { remaining window.new ≤ remaining window.old }
-    ensures goes { IfOk result (λ found. found ≡ None → remaining window.new < remaining window.old) }
-    ensures cause { FailsOnlyAt StreamFault.Read (S.faults source.old) (S.faults source.new) result }
-{
-    let ahead = find_front(window, source, limits)?;
-    if tell_passed(ahead, window.line(), empty_too)? {
-        window.take_line();
-        return Ok(None);
+    /// Goes behind the line in front where it is passed over. Else answers what stands there.
+    fn pass_line(&mut self, empty_too: bool) -> Result<Option<Ahead>, StreamFault>
+        ensures step { PassesLine empty_too S.left self.old self.new result }
+        ensures advances { Advances S.faults self.old self.new result }
+        ensures goes { PassesBytes self.old self.new result }
+    {
+        let ahead = self.find_front()?;
+        if tell_passed(ahead, self.window.line(), empty_too)? {
+            self.window.take_line();
+            return Ok(None);
+        }
+        Ok(Some(ahead))
     }
-    Ok(Some(ahead))
 }
 
 /// Whether the line that was found is passed over.

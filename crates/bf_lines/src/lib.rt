@@ -3,14 +3,15 @@
 //! come.
 #![tactic(auto)]
 
+mod cursor;
 mod data;
 mod front;
 mod line;
+mod standing;
 mod text;
 mod window;
 
-pub use data::{skip_end_of_line, take_bytes, take_delimited};
-pub use line::{at_command, at_word, must_be_at};
+pub use cursor::Cursor;
 pub use window::Window;
 
 #[cfg(test)]

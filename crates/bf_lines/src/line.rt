@@ -1,67 +1,61 @@
 //! Lines.
-ghost use Rattle.std.specs.Prelude.{◌≡◌, ◌≤◌, length, IfOk, OnOk};
+ghost use Rattle.std.specs.Prelude.{◌≤◌, length, IfOk, OnOk};
 ghost use Rattle.std.specs.Bool.{OnTrue};
-ghost use Rattle.bf_io.specs.Causes.{FailsOnlyAt};
-ghost use Rattle.bf_grammar.specs.Place.{Gives};
 ghost use Rattle.bf_grammar.specs.Lines as lines;
-ghost use Rattle.bf_lines.specs.Held.{HasLine, place_of, remaining};
+ghost use Rattle.bf_lines.specs.Cursor.{HasLine, Reads, looks_for, must_find};
 
-use crate::Window;
-use crate::front::{next_front, tell_line, tell_missing, tell_word};
-use bf_grammar::{Limits, StreamFault};
+use crate::Cursor;
+use crate::front::{tell_line, tell_missing, tell_word};
+use crate::text::has_word;
+use bf_grammar::StreamFault;
 use bf_io::Source;
 
-/// Whether the next line that is no comment begins with this word.
-pub fn at_word<S: Source>(
-    window: &mut Window,
-    source: &mut S,
-    limits: Limits,
-    word: &[u8],
-) -> Result<bool, StreamFault>
-    requires limit { limits.line ≤ 65535 }
-    requires word { length word.now ≤ 14 }
-    ensures reading { Gives (λ there. there) (place_of window.old (S.left source.old)) (place_of window.new (S.left source.new)) result (lines.at_word limits word.now) }
-    ensures line { IfOk result (λ there. OnTrue there (HasLine window.new (S.left source.new))) }
-    ensures turns { remaining window.new ≤ remaining window.old }
-    ensures cause { FailsOnlyAt StreamFault.Read (S.faults source.old) (S.faults source.new) result }
-{
-    let ahead = next_front(window, source, limits, false)?;
-    tell_word(ahead, window.line(), word)
-}
-
-/// Sees that the next line that is no comment begins with this word, where a part must stand.
-pub fn must_be_at<S: Source>(
-    window: &mut Window,
-    source: &mut S,
-    limits: Limits,
-    word: &[u8],
-) -> Result<(), StreamFault>
-    requires limit { limits.line ≤ 65535 }
-    requires word { length word.now ≤ 14 }
-    ensures reading { Gives (λ there. there) (place_of window.old (S.left source.old)) (place_of window.new (S.left source.new)) result (lines.must_be_at limits word.now) }
-    ensures line { OnOk result (HasLine window.new (S.left source.new)) }
-    ensures turns { remaining window.new ≤ remaining window.old }
-    ensures cause { FailsOnlyAt StreamFault.Read (S.faults source.old) (S.faults source.new) result }
-{
-    if at_word(window, source, limits, word)? {
-        return Ok(());
+impl<'a, S: Source> Cursor<'a, S> {
+    /// Whether a line stands in front that is neither empty nor a comment, where a command may stand.
+    pub fn at_command(&mut self) -> Result<bool, StreamFault>
+        ensures reads { Reads S.left S.faults self.old self.new result lines.at_command }
+        ensures line { IfOk result (λ there. OnTrue there (HasLine S.left self.new)) }
+    {
+        let ahead = self.next_front(true)?;
+        tell_line(ahead)
     }
-    let ahead = next_front(window, source, limits, false)?;
-    Err(tell_missing(ahead, window.line_number()))
-}
 
-/// Whether a line stands in front that is neither empty nor a comment, where a command may stand.
-pub fn at_command<S: Source>(
-    window: &mut Window,
-    source: &mut S,
-    limits: Limits,
-) -> Result<bool, StreamFault>
-    requires limit { limits.line ≤ 65535 }
-    ensures reading { Gives (λ there. there) (place_of window.old (S.left source.old)) (place_of window.new (S.left source.new)) result (lines.at_command limits) }
-    ensures line { IfOk result (λ there. OnTrue there (HasLine window.new (S.left source.new))) }
-    ensures turns { remaining window.new ≤ remaining window.old }
-    ensures cause { FailsOnlyAt StreamFault.Read (S.faults source.old) (S.faults source.new) result }
-{
-    let ahead = next_front(window, source, limits, true)?;
-    tell_line(ahead)
+    /// Whether the next line that is no comment begins with this word. A line that was found before is
+    /// not searched again.
+    #[inline]
+    pub fn at_word(&mut self, word: &[u8]) -> Result<bool, StreamFault>
+        requires { length word.now ≤ 14 }
+        ensures reads { Reads S.left S.faults self.old self.new result (looks_for word.now) }
+        ensures line { IfOk result (λ there. OnTrue there (HasLine S.left self.new)) }
+    {
+        if let Some(line) = self.window.plain_line() {
+            if line.len() <= self.limits.line as usize {
+                return Ok(has_word(word, line));
+            }
+        }
+        self.next_at_word(word)
+    }
+
+    /// Whether the next line that is no comment begins with this word, where it has to be found.
+    fn next_at_word(&mut self, word: &[u8]) -> Result<bool, StreamFault>
+        requires { length word.now ≤ 14 }
+        ensures reads { Reads S.left S.faults self.old self.new result (looks_for word.now) }
+        ensures line { IfOk result (λ there. OnTrue there (HasLine S.left self.new)) }
+    {
+        let ahead = self.next_front(false)?;
+        tell_word(ahead, self.window.line(), word)
+    }
+
+    /// Sees that the next line that is no comment begins with this word, where a part must stand.
+    pub fn must_be_at(&mut self, word: &[u8]) -> Result<(), StreamFault>
+        requires { length word.now ≤ 14 }
+        ensures reads { Reads S.left S.faults self.old self.new result (must_find word.now) }
+        ensures line { OnOk result (HasLine S.left self.new) }
+    {
+        if self.at_word(word)? {
+            return Ok(());
+        }
+        let ahead = self.next_front(false)?;
+        Err(tell_missing(ahead, self.line_number()))
+    }
 }

@@ -1,5 +1,6 @@
 //! Whole readings through the window, in pieces and at the limits.
-ghost use Rattle.std.specs.Prelude.{◌<◌, ◌≤◌, ◌^◌};
+ghost use Rattle.std.specs.Prelude.{◌<◌, ◌≤◌};
+ghost use Rattle.bf_grammar.specs.Limits.{IsWithin};
 
 use super::*;
 use bf_grammar::{Limit, Limits, StreamFault};
@@ -35,35 +36,46 @@ fn source_of(
     ))
 }
 
-fn read_text(alloc: Global, source: &mut MemSource, limit: u64) -> Result<Seen, StreamFault>
-    requires { limit ≤ 2 ^ 61 }
+// The limits of the program, but so many bytes of a line and of the stream.
+fn limits_of(line: u32, stream: u64) -> Limits
+    requires line { line ≤ 65535 }
+    requires stream { stream ≤ 1073741824 }
+    ensures { IsWithin result }
 {
-    let limits = Limits::standard();
-    let mut window = Window::new(alloc, limit)?;
-    at_command(&mut window, source, limits)?;
-    let line = window.line_number();
-    window.take_line();
-    must_be_at(&mut window, source, limits, b"data")?;
-    window.take_line();
-    let counted = take_bytes(alloc, &mut window, source, line, 5)?;
-    skip_end_of_line(&mut window, source)?;
-    must_be_at(&mut window, source, limits, b"data")?;
-    window.take_line();
-    let delimited = take_delimited(alloc, &mut window, source, limits, line, b"E")?;
-    let there = at_word(&mut window, source, limits, b"end")?;
+    let mut limits = Limits::standard();
+    limits.line = line;
+    limits.stream = stream;
+    limits
+}
+
+fn read_text(alloc: Global, source: &mut MemSource, limit: u64) -> Result<Seen, StreamFault>
+    requires { limit ≤ 1073741824 }
+{
+    let mut cursor = Cursor::new(alloc, source, limits_of(65_535, limit))?;
+    cursor.at_command()?;
+    let line = cursor.line_number();
+    cursor.take_line();
+    cursor.must_be_at(b"data")?;
+    cursor.take_line();
+    let counted = cursor.take_bytes(line, 5)?;
+    cursor.skip_end_of_line()?;
+    cursor.must_be_at(b"data")?;
+    cursor.take_line();
+    let delimited = cursor.take_delimited(line, b"E")?;
+    let there = cursor.at_word(b"end")?;
     Ok(Seen {
         line,
         counted,
         delimited,
-        last: window.line_number(),
+        last: cursor.line_number(),
         there,
     })
 }
 
 fn first_line(alloc: Global, text: &[u8]) -> Result<bool, StreamFault> {
     let mut source = source_of(alloc, text, 65_536, &[])?;
-    let mut window = Window::new(alloc, 1_000_000)?;
-    at_command(&mut window, &mut source, Limits::standard())
+    let mut cursor = Cursor::new(alloc, &mut source, limits_of(65_535, 1_000_000))?;
+    cursor.at_command()
 }
 
 #[test]
@@ -100,5 +112,42 @@ fn stops_at_the_limits(rt: HostRuntime) -> Result<(), Fail> {
     line.insert(0, b'x')?;
     let long = StreamFault::TooLarge { what: Limit::Line };
     assert_eq!(rt; first_line(alloc, line.as_slice()), Err(long));
+    Ok(())
+}
+
+#[test]
+fn a_line_is_asked_for_several_words(rt: HostRuntime) -> Result<(), Fail> {
+    let alloc = rt.alloc();
+    let text = b"#no\nmark :1\n#mark\nfrom :1\n";
+    let mut source = source_of(alloc, text, 5, &[])?;
+    let mut cursor = Cursor::new(alloc, &mut source, limits_of(7, 100))?;
+    for _ in 0..2 {
+        assert!(rt; !cursor.at_word(b"from")?);
+        assert!(rt; !cursor.at_word(b"mar")?);
+        assert!(rt; cursor.at_word(b"mark")?);
+        assert_eq!(rt; cursor.line_number(), 2);
+    }
+    assert_eq!(rt; cursor.line(), b"mark :1".as_slice());
+    cursor.take_line();
+    assert!(rt; !cursor.at_word(b"mark")?);
+    assert_eq!(rt;
+        cursor.must_be_at(b"mark"),
+        Err(StreamFault::Syntax { line: 4 })
+    );
+    assert!(rt; cursor.at_word(b"from")?);
+    assert_eq!(rt; cursor.line_number(), 4);
+    Ok(())
+}
+
+#[test]
+fn a_long_line_is_refused_by_its_word(rt: HostRuntime) -> Result<(), Fail> {
+    let alloc = rt.alloc();
+    let mut source = source_of(alloc, b"mark :1\n", 65_536, &[])?;
+    let mut cursor = Cursor::new(alloc, &mut source, limits_of(6, 100))?;
+    let long = StreamFault::TooLarge { what: Limit::Line };
+    for _ in 0..2 {
+        assert!(rt; !cursor.at_word(b"from")?);
+        assert_eq!(rt; cursor.at_word(b"mark"), Err(long));
+    }
     Ok(())
 }

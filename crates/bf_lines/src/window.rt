@@ -1,21 +1,21 @@
 //! The window.
-ghost use Rattle.std.specs.Prelude.{◌≡◌, ◌+◌, ◌-◌, ◌≤◌, ◌<◌, ◌^◌, List, ℕ, [], true, length, take, drop, vec_len, Option, IfOk, OnOk};
+ghost use Rattle.std.specs.Prelude.{◌≡◌, ◌+◌, ◌-◌, ◌≤◌, ◌<◌, ◌^◌, length, take, true, vec_len, IfOk, OnOk, if◌then◌else◌};
 ghost use Rattle.std.specs.List.{position_or_len};
-ghost use Rattle.bf_grammar.specs.Lines.{front_line, past_line};
+ghost use Rattle.std.specs.Option.{IfSome};
+ghost use Rattle.bf_grammar.specs.Lines.{front_line, is_text};
 ghost use Rattle.bf_grammar.specs.Place.{is_end_of_line};
 ghost use Rattle.bf_io.specs.Causes.{HasCause};
-ghost use Rattle.bf_io.specs.Told.{ReadTakes};
-ghost use Rattle.bf_lines.specs.Filling.{Fills, IsReady};
-ghost use Rattle.bf_lines.specs.Held.{HasLine, place_of, remaining, moved_held, past_held_line, nothing_held};
-ghost use Rattle.std.specs.Option.{option_map, IfSome};
+ghost use Rattle.bf_lines.specs.Filling.{Fills, IsReady, KeepsPart, ReadsBehind};
+ghost use Rattle.bf_lines.specs.Held.{GoesPast, IsLineOf, IsPlain, Stays};
+ghost use Rattle.bf_lines.specs.Held.{advanced, moved_held, nothing_held, past_held_line, remaining};
 
-use crate::text::{count_lines, end_of_line};
+use crate::text::{count_lines, end_of_line, is_text};
 use bf_io::{Failed, Source};
 use std::alloc::{AllocError, Global};
 use std::marker::Model;
 
 /// The most bytes that a window holds. A line with its LF fits in.
-pub const CAPACITY: usize = 65_536;
+const CAPACITY: usize = 65_536;
 
 /// What one more read gave.
 #[derive(Clone, Copy)]
@@ -36,6 +36,8 @@ pub struct Window {
     end: usize,
     // So many bytes in front are known to have no LF.
     known: usize,
+    // They are known to be a line, which is no comment. Its LF is held.
+    plain: bool,
     line: u64,
     quota: u64,
     past: bool,
@@ -43,16 +45,15 @@ pub struct Window {
 }
 
 impl Model for Window {
-    ghost use Rattle.std.specs.Prelude.{◌≡◌, ◌+◌, ◌-◌, ◌≤◌, ◌^◌, true, take, drop, vec_len};
-    ghost use Rattle.std.specs.List.{position_or_len};
-    ghost use Rattle.bf_grammar.specs.Place.{is_end_of_line};
     ghost use Rattle.bf_lines.specs.Held.{Held};
 
     ghost Value = { Held };
 
-    ghost view = { λ w. record { line = w.line; bytes = take (w.end - w.start) (drop w.start w.buf.items); quota = w.quota; past = w.past; done_due = w.done_due } };
+    ghost use Rattle.bf_lines.specs.Window.{held_in, IsSound};
 
-    ghost invariant = { λ w. (w.start ≤ w.end) × (w.end ≤ vec_len w.buf) × (vec_len w.buf ≡ 65536) × (w.line + (w.end - w.start) + w.quota ≤ 2 ^ 62) × (w.past ≡ true → w.quota ≡ 0) × (w.known ≤ position_or_len is_end_of_line (take (w.end - w.start) (drop w.start w.buf.items))) };
+    ghost view = { held_in };
+
+    ghost invariant = { IsSound };
 }
 
 impl Window {
@@ -67,6 +68,7 @@ impl Window {
             start: 0,
             end: 0,
             known: 0,
+            plain: false,
             line: 1,
             quota: limit,
             past: false,
@@ -75,7 +77,7 @@ impl Window {
     }
 
     /// The number of the line in front, from 1.
-    pub fn line_number(&self) -> u64
+    pub(crate) fn line_number(&self) -> u64
         ensures { result ≡ self.now.line }
     {
         self.line
@@ -90,9 +92,9 @@ impl Window {
     }
 
     /// The line in front, without its LF.
-    pub fn line(&self) -> &[u8]
+    pub(crate) fn line(&self) -> &[u8]
         ensures held { result.now ≡ front_line self.now.bytes }
-        ensures text { (left : Option (List ℕ)) → HasLine self.now left → IfSome (place_of self.now left) (λ p. result.now ≡ front_line p.rest) }
+        ensures text { IsLineOf self.now result.now }
         ensures short { length result.now ≤ 65536 }
     {
         let bytes = self.bytes();
@@ -107,18 +109,33 @@ impl Window {
         self.known
     }
 
-    /// Notes that so many bytes in front have no LF, so that they are not searched again.
-    pub(crate) fn note_known(&mut self, known: usize)
-        requires { known ≤ position_or_len is_end_of_line self.old.bytes }
+    /// Notes that the line in front has this length and that its LF is held, so that it is not searched
+    /// again.
+    pub(crate) fn note_line(&mut self, size: usize)
+        requires line { size ≡ position_or_len is_end_of_line self.old.bytes }
+        requires ended { size < length self.old.bytes }
         ensures { self.new ≡ self.old }
     {
-        self.known = known;
+        let plain = self.bytes()[0] != b'#';
+        self.known = size;
+        self.plain = plain;
+    }
+
+    /// The line in front, where it was found before, its LF is held and it is no comment.
+    #[inline]
+    pub(crate) fn plain_line(&self) -> Option<&[u8]>
+        ensures { IfSome result (λ line. IsPlain self.now.bytes line.now) }
+    {
+        if !self.plain {
+            return None;
+        }
+        Some(&self.bytes()[..self.known])
     }
 
     /// Goes behind the line in front.
-    pub fn take_line(&mut self)
+    pub(crate) fn take_line(&mut self)
         ensures held { self.new ≡ past_held_line self.old }
-        ensures place { (left : Option (List ℕ)) → HasLine self.old left → place_of self.new left ≡ option_map past_line (place_of self.old left) }
+        ensures place { GoesPast self.old self.new }
     {
         let bytes = self.bytes();
         let held = bytes.len();
@@ -130,14 +147,28 @@ impl Window {
         }
     }
 
+    /// Goes behind the line in front, which is held whole, where it is this text.
+    pub(crate) fn take_line_if(&mut self, text: &[u8]) -> bool
+        ensures test { result ≡ is_text text.now (front_line self.old.bytes) }
+        ensures held { self.new ≡ (if result then past_held_line self.old else self.old) }
+        ensures turns { remaining self.new ≤ remaining self.old }
+    {
+        if is_text(text, self.line()) {
+            self.take_line();
+            return true;
+        }
+        false
+    }
+
     /// Goes so many bytes further on, among which are so many LFs.
     fn advance(&mut self, count: usize, lines: usize)
         requires within { count ≤ length self.old.bytes }
         requires lines { lines ≤ count }
-        ensures { self.new ≡ record self.old { line = self.old.line + lines; bytes = drop count self.old.bytes } }
+        ensures { self.new ≡ advanced count lines self.old }
     {
         self.start += count;
         self.known = 0;
+        self.plain = false;
         self.line += lines as u64;
     }
 
@@ -155,13 +186,14 @@ impl Window {
     pub(crate) fn fill<S: Source>(&mut self, source: &mut S) -> Result<Filled, Failed>
         requires { length self.old.bytes < 65536 }
         ensures filled { Fills self.old self.new (S.left source.new) result }
-        ensures place { OnOk result (place_of self.new (S.left source.new) ≡ place_of self.old (S.left source.old)) }
+        ensures place { OnOk result (Stays S.left self.old source.old self.new source.new) }
         ensures cause { HasCause (S.faults source.old) (S.faults source.new) result }
     {
         if self.quota == 0 {
             return self.look_past(source);
         }
         self.known = 0;
+        self.plain = false;
         let held = self.end - self.start;
         let start = make_room(&mut self.buf, self.start, self.end);
         let end = start + held;
@@ -180,7 +212,7 @@ impl Window {
     /// Sees that a byte is held, where there is one.
     pub(crate) fn fill_if_empty<S: Source>(&mut self, source: &mut S) -> Result<Filled, Failed>
         ensures ready { IsReady self.new (S.left source.new) result }
-        ensures place { OnOk result (place_of self.new (S.left source.new) ≡ place_of self.old (S.left source.old)) }
+        ensures place { OnOk result (Stays S.left self.old source.old self.new source.new) }
         ensures turns { remaining self.new ≤ remaining self.old }
         ensures cause { HasCause (S.faults source.old) (S.faults source.new) result }
     {
@@ -194,7 +226,7 @@ impl Window {
     fn look_past<S: Source>(&mut self, source: &mut S) -> Result<Filled, Failed>
         requires { self.old.quota ≡ 0 }
         ensures filled { Fills self.old self.new (S.left source.new) result }
-        ensures place { OnOk result (place_of self.new (S.left source.new) ≡ place_of self.old (S.left source.old)) }
+        ensures place { OnOk result (Stays S.left self.old source.old self.new source.new) }
         ensures cause { HasCause (S.faults source.old) (S.faults source.new) result }
     {
         if self.past {
@@ -209,14 +241,14 @@ impl Window {
     }
 
     /// Whether `feature done` was read.
-    pub fn is_done_due(&self) -> bool
+    pub(crate) fn is_done_due(&self) -> bool
         ensures { result ≡ self.now.done_due }
     {
         self.done_due
     }
 
     /// Notes that `feature done` was read.
-    pub fn make_done_due(&mut self)
+    pub(crate) fn make_done_due(&mut self)
         ensures { self.new ≡ record self.old { done_due = true } }
     {
         self.done_due = true;
@@ -229,7 +261,7 @@ fn make_room(buf: &mut Vec<u8>, start: usize, end: usize) -> usize
     requires order { start ≤ end }
     requires within { end ≤ vec_len buf.old }
     requires room { end - start < vec_len buf.old }
-    ensures part { take (end - start) (drop result buf.new.items) ≡ take (end - start) (drop start buf.old.items) }
+    ensures part { KeepsPart (end - start) start buf.old.items result buf.new.items }
     ensures room { result + (end - start) < vec_len buf.new }
     ensures len { vec_len buf.new ≡ vec_len buf.old }
 {
@@ -250,7 +282,7 @@ fn read_behind<S: Source>(
     requires some { 0 < most }
     requires within { at + most ≤ vec_len buf.old }
     ensures bound { IfOk result (λ count. count ≤ most) }
-    ensures bytes { ReadTakes (S.left source.old) (S.left source.new) result (drop at buf.new.items) }
+    ensures bytes { ReadsBehind at (S.left source.old) (S.left source.new) result buf.new.items }
     ensures before { take at buf.new.items ≡ take at buf.old.items }
     ensures len { vec_len buf.new ≡ vec_len buf.old }
     ensures cause { HasCause (S.faults source.old) (S.faults source.new) result }

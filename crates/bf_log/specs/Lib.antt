@@ -1,3 +1,4 @@
 pub mod Labels
+pub mod Lines
 pub mod StateLines
 pub mod Trace

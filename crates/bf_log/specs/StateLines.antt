@@ -1,6 +1,6 @@
 -- The lines that tell a state: its bad commit, its good ones in the order in which they were marked, and the skipped ones
 -- by place.
-use Rattle.std.specs.Prelude.{◌≡◌, ℕ, ◌<◌, List, ◌++◌, codes, Option, All}
+use Rattle.std.specs.Prelude.{ℕ, ◌<◌, List, ◌++◌, codes, Option, All}
 use Rattle.std.specs.List.{flat_map}
 use Rattle.std.specs.Option.{ForSome}
 use Rattle.bf_texts.specs.Texts.{Commits, Sides, text_line, hex_of, given_bad}

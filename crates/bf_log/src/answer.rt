@@ -1,8 +1,8 @@
 //! The lines of an answer.
-ghost use Rattle.std.specs.Prelude.{◌≡◌, ◌<◌, ◌++◌, length, codes, All, OnOk};
-ghost use Rattle.std.specs.List.{flat_map};
+ghost use Rattle.std.specs.Prelude.{◌<◌, length, All};
 ghost use Rattle.bf_texts.specs.Texts as texts;
-ghost use Rattle.bf_log.specs.Labels.{IsAskWithin, commits_of, sides_of};
+ghost use Rattle.bf_search.specs.Within.{IsAskWithin};
+ghost use Rattle.bf_log.specs.Lines.{Adds, aborted_line, ask_lines, both_sides_line, first_bad_line, merge_base_bad_lines, name_lines, next_line, not_ancestor_line, only_skipped_lines, waiting_for_both, waiting_for_new, waiting_for_old, waiting_line, waiting_text};
 ghost use Rattle.bf_search.specs.Run.{Aborted};
 
 use crate::label::{Commits, Sides, put_hex, put_name_line};
@@ -18,7 +18,7 @@ pub(crate) fn put_ask(
     out: &mut Bytes,
 ) -> Result<(), AllocError>
     requires { IsAskWithin (length commits.names.now) ask.now }
-    ensures { OnOk result (out.new ≡ out.old ++ texts.ask_lines (commits_of commits.entry) (sides_of sides.entry) ask.now) }
+    ensures { Adds out.old out.new result (ask_lines commits.entry sides.entry ask.now) }
 {
     match ask {
         Ask::WaitBoth | Ask::WaitBad | Ask::WaitGood => Ok(()),
@@ -40,7 +40,7 @@ pub(crate) fn put_aborted(
     out: &mut Bytes,
 ) -> Result<(), AllocError>
     requires { place < length commits.names.now }
-    ensures { OnOk result (out.new ≡ out.old ++ texts.aborted_line (commits_of commits.entry) place outcome) }
+    ensures { Adds out.old out.new result (aborted_line commits.entry place outcome) }
 {
     out.append(b"bisect aborted: ")?;
     put_outcome(out, outcome)?;
@@ -56,7 +56,7 @@ pub(crate) fn put_waiting_line(
     good_count: u64,
     out: &mut Bytes,
 ) -> Result<(), AllocError>
-    ensures { OnOk result (out.new ≡ out.old ++ texts.text_line (texts.waiting_text (sides_of sides.entry) bad good_count)) }
+    ensures { Adds out.old out.new result (waiting_line sides.entry bad good_count) }
 {
     put_waiting(out, sides, bad, good_count)?;
     out.append(b"\n")
@@ -69,7 +69,7 @@ pub(crate) fn put_waiting(
     bad: bool,
     good_count: u64,
 ) -> Result<(), AllocError>
-    ensures { OnOk result (out.new ≡ out.old ++ texts.waiting_text (sides_of sides.entry) bad good_count) }
+    ensures { Adds out.old out.new result (waiting_text sides.entry bad good_count) }
 {
     if bad {
         put_waiting_for_old(out, sides)
@@ -82,7 +82,7 @@ pub(crate) fn put_waiting(
 
 #[tactic(auto, unfolding(bf_texts::specs::Texts::waiting_for_old))]
 fn put_waiting_for_old(out: &mut Bytes, sides: Sides<'_>) -> Result<(), AllocError>
-    ensures { OnOk result (out.new ≡ out.old ++ texts.waiting_for_old (sides_of sides.entry)) }
+    ensures { Adds out.old out.new result (waiting_for_old sides.entry) }
 {
     out.append(b"waiting for ")?;
     out.append(sides.old)?;
@@ -93,7 +93,7 @@ fn put_waiting_for_old(out: &mut Bytes, sides: Sides<'_>) -> Result<(), AllocErr
 
 #[tactic(auto, unfolding(bf_texts::specs::Texts::waiting_for_both))]
 fn put_waiting_for_both(out: &mut Bytes, sides: Sides<'_>) -> Result<(), AllocError>
-    ensures { OnOk result (out.new ≡ out.old ++ texts.waiting_for_both (sides_of sides.entry)) }
+    ensures { Adds out.old out.new result (waiting_for_both sides.entry) }
 {
     out.append(b"waiting for both ")?;
     out.append(sides.old)?;
@@ -104,7 +104,7 @@ fn put_waiting_for_both(out: &mut Bytes, sides: Sides<'_>) -> Result<(), AllocEr
 
 #[tactic(auto, unfolding(bf_texts::specs::Texts::waiting_for_new))]
 fn put_waiting_for_new(out: &mut Bytes, sides: Sides<'_>, good_count: u64) -> Result<(), AllocError>
-    ensures { OnOk result (out.new ≡ out.old ++ texts.waiting_for_new (sides_of sides.entry) good_count) }
+    ensures { Adds out.old out.new result (waiting_for_new sides.entry good_count) }
 {
     out.append(b"waiting for ")?;
     out.append(sides.new)?;
@@ -117,7 +117,7 @@ fn put_waiting_for_new(out: &mut Bytes, sides: Sides<'_>, good_count: u64) -> Re
 
 /// Adds how a test ended.
 pub(crate) fn put_outcome(out: &mut Bytes, outcome: Outcome) -> Result<(), AllocError>
-    ensures { OnOk result (out.new ≡ out.old ++ texts.outcome_text outcome) }
+    ensures { Adds out.old out.new result (texts.outcome_text outcome) }
 {
     match outcome {
         Outcome::Exit(status) => {
@@ -130,7 +130,7 @@ pub(crate) fn put_outcome(out: &mut Bytes, outcome: Outcome) -> Result<(), Alloc
 
 fn put_next(out: &mut Bytes, commits: Commits<'_>, place: u32) -> Result<(), AllocError>
     requires { place < length commits.names.now }
-    ensures { OnOk result (out.new ≡ out.old ++ texts.text_line (codes "next: " ++ texts.hex_of (commits_of commits.entry) place)) }
+    ensures { Adds out.old out.new result (next_line commits.entry place) }
 {
     out.append(b"next: ")?;
     put_name_line(out, commits, place)
@@ -144,7 +144,7 @@ fn put_merge_base_bad(
     place: u32,
 ) -> Result<(), AllocError>
     requires { place < length commits.names.now }
-    ensures { OnOk result (out.new ≡ out.old ++ texts.merge_base_bad_lines (commits_of commits.entry) (sides_of sides.entry) place) }
+    ensures { Adds out.old out.new result (merge_base_bad_lines commits.entry sides.entry place) }
 {
     out.append(b"The merge base ")?;
     put_hex(out, commits, place)?;
@@ -163,7 +163,7 @@ fn put_not_ancestor(
     place: u32,
 ) -> Result<(), AllocError>
     requires { place < length commits.names.now }
-    ensures { OnOk result (out.new ≡ out.old ++ texts.not_ancestor_line (commits_of commits.entry) (sides_of sides.entry) place) }
+    ensures { Adds out.old out.new result (not_ancestor_line commits.entry sides.entry place) }
 {
     out.append(b"Some ")?;
     out.append(sides.old)?;
@@ -182,7 +182,7 @@ fn put_both_sides(
     place: u32,
 ) -> Result<(), AllocError>
     requires { place < length commits.names.now }
-    ensures { OnOk result (out.new ≡ out.old ++ texts.both_sides_line (commits_of commits.entry) (sides_of sides.entry) place) }
+    ensures { Adds out.old out.new result (both_sides_line commits.entry sides.entry place) }
 {
     put_hex(out, commits, place)?;
     out.append(b" was both ")?;
@@ -200,7 +200,7 @@ fn put_first_bad(
     place: u32,
 ) -> Result<(), AllocError>
     requires { place < length commits.names.now }
-    ensures { OnOk result (out.new ≡ out.old ++ texts.first_bad_line (commits_of commits.entry) (sides_of sides.entry) place) }
+    ensures { Adds out.old out.new result (first_bad_line commits.entry sides.entry place) }
 {
     put_hex(out, commits, place)?;
     out.append(b" is the first ")?;
@@ -216,7 +216,8 @@ fn put_only_skipped(
     places: &[u32],
 ) -> Result<(), AllocError>
     requires { All (λ p. p < length commits.names.now) places.now }
-    ensures { OnOk result (out.new ≡ out.old ++ texts.only_skipped_lines (commits_of commits.entry) (sides_of sides.entry) places.now) }
+    ensures { Adds out.old out.new result
+        (only_skipped_lines commits.entry sides.entry places.now) }
 {
     out.append(b"There are only 'skip'ped commits left to test.\nThe first ")?;
     out.append(sides.new)?;
@@ -228,7 +229,7 @@ fn put_only_skipped(
 /// Adds the names of these commits, a line each.
 fn put_names(out: &mut Bytes, commits: Commits<'_>, places: &[u32]) -> Result<(), AllocError>
     requires { All (λ p. p < length commits.names.now) places.now }
-    ensures { OnOk result (out.new ≡ out.old ++ flat_map (λ p. texts.text_line (texts.hex_of (commits_of commits.entry) p)) places.now) }
+    ensures { Adds out.old out.new result (name_lines commits.entry places.now) }
 {
     for place in places {
         put_name_line(out, commits, *place)?;

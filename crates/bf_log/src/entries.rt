@@ -1,10 +1,11 @@
 //! The lines of a log.
-ghost use Rattle.std.specs.Prelude.{◌≡◌, ◌<◌, ◌++◌, length, All, OnOk};
-ghost use Rattle.std.specs.List.{flat_map};
+ghost use Rattle.std.specs.Prelude.{◌≡◌, ◌<◌, length, All, OnOk};
 ghost use Rattle.std.specs.Option.{ForSome};
 ghost use Rattle.bf_texts.specs.Texts as texts;
 ghost use Rattle.bf_logs.specs.Written.{known_after_all};
-ghost use Rattle.bf_log.specs.Labels.{AreCommits, IsEntryWithin, commits_of, sides_of};
+ghost use Rattle.bf_log.specs.Labels.{AreCommits};
+ghost use Rattle.bf_search.specs.Within.{IsEntryWithin};
+ghost use Rattle.bf_log.specs.Lines.{Adds, comments, end_lines, end_words, entry_lines, first_comment, given_terms, log_from, mark_lines, mark_word, option_words, possible_comment, possible_comments, quoted_names, skipped_left_lines, start_lines, term_words, worded_mark_lines};
 
 use crate::known::Known;
 use crate::label::{
@@ -25,7 +26,8 @@ pub(crate) fn put_entries(
 ) -> Result<(), AllocError>
     requires commits { AreCommits commits }
     requires places { All (IsEntryWithin (length commits.names.now)) entries.now }
-    ensures lines { OnOk result (out.new ≡ out.old ++ texts.log_from (commits_of commits.entry) (sides_of sides.entry) known.old entries.now) }
+    ensures lines { Adds out.old out.new result
+        (log_from commits.entry sides.entry known.old entries.now) }
     ensures known { OnOk result (known.new ≡ known_after_all known.old entries.now) }
 {
     for entry in entries {
@@ -46,7 +48,7 @@ fn put_entry(
 ) -> Result<(), AllocError>
     requires commits { AreCommits commits }
     requires places { IsEntryWithin (length commits.names.now) entry.now }
-    ensures { OnOk result (out.new ≡ out.old ++ texts.entry_lines (commits_of commits.entry) (sides_of sides.entry) entry.now) }
+    ensures { Adds out.old out.new result (entry_lines commits.entry sides.entry entry.now) }
 {
     match entry {
         Entry::Start {
@@ -86,7 +88,8 @@ fn put_start(
     requires commits { AreCommits commits }
     requires bad { ForSome bad (λ p. p < length commits.names.now) }
     requires goods { All (λ p. p < length commits.names.now) goods.now }
-    ensures { OnOk result (out.new ≡ out.old ++ texts.start_lines (commits_of commits.entry) (sides_of sides.entry) first_parent terms_given bad goods.now) }
+    ensures { Adds out.old out.new result
+        (start_lines commits.entry sides.entry first_parent terms_given bad goods.now) }
 {
     put_ends(out, commits, sides, bad, goods)?;
     out.append(b"git bisect start")?;
@@ -107,7 +110,7 @@ fn put_ends(
     requires commits { AreCommits commits }
     requires bad { ForSome bad (λ p. p < length commits.names.now) }
     requires goods { All (λ p. p < length commits.names.now) goods.now }
-    ensures { OnOk result (out.new ≡ out.old ++ texts.end_lines (commits_of commits.entry) (sides_of sides.entry) bad goods.now) }
+    ensures { Adds out.old out.new result (end_lines commits.entry sides.entry bad goods.now) }
 {
     match bad {
         Some(place) => {
@@ -128,7 +131,7 @@ fn put_start_names(
 ) -> Result<(), AllocError>
     requires bad { ForSome bad (λ p. p < length commits.names.now) }
     requires goods { All (λ p. p < length commits.names.now) goods.now }
-    ensures { OnOk result (out.new ≡ out.old ++ texts.end_words (commits_of commits.entry) bad goods.now) }
+    ensures { Adds out.old out.new result (end_words commits.entry bad goods.now) }
 {
     match bad {
         Some(place) => {
@@ -141,7 +144,7 @@ fn put_start_names(
 
 /// Adds the option of the mode.
 fn put_mode(out: &mut Bytes, first_parent: bool) -> Result<(), AllocError>
-    ensures { OnOk result (out.new ≡ out.old ++ texts.mode_word first_parent) }
+    ensures { Adds out.old out.new result (texts.mode_word first_parent) }
 {
     if first_parent {
         put_quoted(out, b"--first-parent")
@@ -152,7 +155,7 @@ fn put_mode(out: &mut Bytes, first_parent: bool) -> Result<(), AllocError>
 
 /// Adds the terms, where they were given.
 fn put_terms(out: &mut Bytes, sides: Sides<'_>, terms_given: bool) -> Result<(), AllocError>
-    ensures { OnOk result (out.new ≡ out.old ++ texts.term_words (sides_of sides.entry) terms_given) }
+    ensures { Adds out.old out.new result (term_words sides.entry terms_given) }
 {
     if terms_given {
         put_given_terms(out, sides)
@@ -168,7 +171,7 @@ fn put_options(
     first_parent: bool,
     terms_given: bool,
 ) -> Result<(), AllocError>
-    ensures { OnOk result (out.new ≡ out.old ++ texts.option_words (sides_of sides.entry) first_parent terms_given) }
+    ensures { Adds out.old out.new result (option_words sides.entry first_parent terms_given) }
 {
     put_mode(out, first_parent)?;
     put_terms(out, sides, terms_given)
@@ -183,7 +186,7 @@ fn put_comments(
 ) -> Result<(), AllocError>
     requires commits { AreCommits commits }
     requires places { All (λ p. p < length commits.names.now) places.now }
-    ensures { OnOk result (out.new ≡ out.old ++ flat_map (texts.comment_of (commits_of commits.entry) words.now) places.now) }
+    ensures { Adds out.old out.new result (comments commits.entry words.now places.now) }
 {
     for place in places {
         put_comment(out, commits, words, *place)?;
@@ -194,7 +197,7 @@ fn put_comments(
 /// Adds the names of these commits as words.
 fn put_quoted_names(out: &mut Bytes, commits: Commits<'_>, places: &[u32]) -> Result<(), AllocError>
     requires { All (λ p. p < length commits.names.now) places.now }
-    ensures { OnOk result (out.new ≡ out.old ++ flat_map (λ p. texts.quoted (texts.hex_of (commits_of commits.entry) p)) places.now) }
+    ensures { Adds out.old out.new result (quoted_names commits.entry places.now) }
 {
     for place in places {
         put_quoted_name(out, commits, *place)?;
@@ -212,7 +215,7 @@ fn put_mark(
 ) -> Result<(), AllocError>
     requires commits { AreCommits commits }
     requires place { place < length commits.names.now }
-    ensures { OnOk result (out.new ≡ out.old ++ texts.mark_lines (commits_of commits.entry) (texts.word_of_mark (sides_of sides.entry) mark) place) }
+    ensures { Adds out.old out.new result (mark_lines commits.entry sides.entry mark place) }
 {
     put_marked(out, commits, word_of(sides, mark), place)
 }
@@ -226,7 +229,7 @@ fn put_marked(
 ) -> Result<(), AllocError>
     requires commits { AreCommits commits }
     requires place { place < length commits.names.now }
-    ensures { OnOk result (out.new ≡ out.old ++ texts.mark_lines (commits_of commits.entry) word.now place) }
+    ensures { Adds out.old out.new result (worded_mark_lines commits.entry word.now place) }
 {
     put_comment(out, commits, word, place)?;
     put_between(out, b"git bisect ", word, b" ")?;
@@ -235,7 +238,7 @@ fn put_marked(
 
 /// Adds the two terms as options.
 fn put_given_terms(out: &mut Bytes, sides: Sides<'_>) -> Result<(), AllocError>
-    ensures { OnOk result (out.new ≡ out.old ++ texts.given_terms (sides_of sides.entry)) }
+    ensures { Adds out.old out.new result (given_terms sides.entry) }
 {
     put_quoted(out, b"--term-new")?;
     put_quoted(out, sides.new)?;
@@ -252,7 +255,7 @@ fn put_possibles(
 ) -> Result<(), AllocError>
     requires commits { AreCommits commits }
     requires places { All (λ p. p < length commits.names.now) places.now }
-    ensures { OnOk result (out.new ≡ out.old ++ flat_map (texts.comment_of (commits_of commits.entry) (texts.possible_words (sides_of sides.entry))) places.now) }
+    ensures { Adds out.old out.new result (possible_comments commits.entry sides.entry places.now) }
 {
     for place in places {
         put_possible(out, commits, sides, *place)?;
@@ -262,7 +265,7 @@ fn put_possibles(
 
 /// The word of a mark.
 fn word_of(sides: Sides<'_>, mark: Mark) -> &[u8]
-    ensures { result.now ≡ texts.word_of_mark (sides_of sides.entry) mark }
+    ensures { result.now ≡ mark_word sides.entry mark }
 {
     match mark {
         Mark::Good => sides.old,
@@ -280,7 +283,7 @@ fn put_first_bad(
 ) -> Result<(), AllocError>
     requires commits { AreCommits commits }
     requires place { place < length commits.names.now }
-    ensures { OnOk result (out.new ≡ out.old ++ texts.comment_of (commits_of commits.entry) (texts.first_words (sides_of sides.entry)) place) }
+    ensures { Adds out.old out.new result (first_comment commits.entry sides.entry place) }
 {
     put_between(out, b"# first ", sides.new, b" commit")?;
     out.append(b": ")?;
@@ -298,7 +301,8 @@ fn put_skipped_left(
 ) -> Result<(), AllocError>
     requires commits { AreCommits commits }
     requires places { All (λ p. p < length commits.names.now) places.now }
-    ensures { OnOk result (out.new ≡ out.old ++ texts.skipped_left_lines (commits_of commits.entry) (sides_of sides.entry) places.now) }
+    ensures { Adds out.old out.new result
+        (skipped_left_lines commits.entry sides.entry places.now) }
 {
     out.append(b"# only skipped commits left to test\n")?;
     put_possibles(out, commits, sides, places)
@@ -313,7 +317,7 @@ fn put_possible(
 ) -> Result<(), AllocError>
     requires commits { AreCommits commits }
     requires place { place < length commits.names.now }
-    ensures { OnOk result (out.new ≡ out.old ++ texts.comment_of (commits_of commits.entry) (texts.possible_words (sides_of sides.entry)) place) }
+    ensures { Adds out.old out.new result (possible_comment commits.entry sides.entry place) }
 {
     put_between(out, b"# possible first ", sides.new, b" commit")?;
     out.append(b": ")?;

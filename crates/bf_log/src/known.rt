@@ -1,8 +1,8 @@
 //! What is known of the ends of a search.
-ghost use Rattle.std.specs.Prelude.{◌≡◌, ◌++◌, IfOk, OnOk, OnErr};
+ghost use Rattle.std.specs.Prelude.{◌≡◌, IfOk, OnOk, OnErr};
 ghost use Rattle.bf_logs.specs.Written.{known_after_all};
 ghost use Rattle.bf_texts.specs.Texts as texts;
-ghost use Rattle.bf_log.specs.Labels.{sides_of};
+ghost use Rattle.bf_log.specs.Lines.{Adds, status_line};
 
 use crate::answer::put_waiting;
 use crate::label::Sides;
@@ -90,7 +90,7 @@ impl Known {
         sides: Sides<'_>,
         entry: &Entry,
     ) -> Result<(), AllocError>
-        ensures { OnOk result (out.new ≡ out.old ++ texts.status_line (sides_of sides.entry) self.now entry.now) }
+        ensures { Adds out.old out.new result (status_line sides.entry self.now entry.now) }
     {
         if !has_status(entry) || (self.bad && !self.goods.is_empty()) {
             return Ok(());

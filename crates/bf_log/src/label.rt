@@ -1,9 +1,8 @@
 //! How a commit is named in a text.
-ghost use Rattle.std.specs.Prelude.{◌≡◌, ◌<◌, ◌++◌, length, codes, OnOk};
-ghost use Rattle.std.specs.List.{slice_index_or};
+ghost use Rattle.std.specs.Prelude.{◌<◌, ◌++◌, length};
 ghost use Rattle.hex.specs.Hex.{encode_lower};
 ghost use Rattle.bf_texts.specs.Texts as texts;
-ghost use Rattle.bf_log.specs.Labels.{commits_of, sides_of};
+ghost use Rattle.bf_log.specs.Lines.{Adds, comment_of, hex_of, label_of, name_line, quoted_name};
 
 use bf_io::Bytes;
 use bf_oid::{Oid, oid_hex};
@@ -26,7 +25,7 @@ pub struct Sides<'a> {
 /// Adds the name of a commit in 40 hexadecimal digits.
 pub(crate) fn put_hex(out: &mut Bytes, commits: Commits<'_>, place: u32) -> Result<(), AllocError>
     requires { place < length commits.names.now }
-    ensures { OnOk result (out.new ≡ out.old ++ texts.hex_of (commits_of commits.entry) place) }
+    ensures { Adds out.old out.new result (hex_of commits.entry place) }
 {
     let mut digits = [0u8; 40];
     oid_hex(commits.names[place as usize], &mut digits);
@@ -37,7 +36,7 @@ pub(crate) fn put_hex(out: &mut Bytes, commits: Commits<'_>, place: u32) -> Resu
 pub(crate) fn put_label(out: &mut Bytes, commits: Commits<'_>, place: u32) -> Result<(), AllocError>
     requires names { place < length commits.names.now }
     requires subjects { place < length commits.subjects.now }
-    ensures { OnOk result (out.new ≡ out.old ++ texts.label_of (commits_of commits.entry) place) }
+    ensures { Adds out.old out.new result (label_of commits.entry place) }
 {
     out.append(b"[")?;
     put_hex(out, commits, place)?;
@@ -55,7 +54,7 @@ pub(crate) fn put_comment(
 ) -> Result<(), AllocError>
     requires names { place < length commits.names.now }
     requires subjects { place < length commits.subjects.now }
-    ensures { OnOk result (out.new ≡ out.old ++ texts.comment_of (commits_of commits.entry) words.now place) }
+    ensures { Adds out.old out.new result (comment_of commits.entry words.now place) }
 {
     out.append(b"# ")?;
     out.append(words)?;
@@ -66,7 +65,7 @@ pub(crate) fn put_comment(
 
 /// Adds SP and a word in single quotes.
 pub(crate) fn put_quoted(out: &mut Bytes, word: &[u8]) -> Result<(), AllocError>
-    ensures { OnOk result (out.new ≡ out.old ++ texts.quoted word.now) }
+    ensures { Adds out.old out.new result (texts.quoted word.now) }
 {
     out.append(b" '")?;
     out.append(word)?;
@@ -80,7 +79,7 @@ pub(crate) fn put_quoted_name(
     place: u32,
 ) -> Result<(), AllocError>
     requires { place < length commits.names.now }
-    ensures { OnOk result (out.new ≡ out.old ++ texts.quoted (texts.hex_of (commits_of commits.entry) place)) }
+    ensures { Adds out.old out.new result (quoted_name commits.entry place) }
 {
     out.append(b" '")?;
     put_hex(out, commits, place)?;
@@ -94,7 +93,7 @@ pub(crate) fn put_name_line(
     place: u32,
 ) -> Result<(), AllocError>
     requires { place < length commits.names.now }
-    ensures { OnOk result (out.new ≡ out.old ++ texts.text_line (texts.hex_of (commits_of commits.entry) place)) }
+    ensures { Adds out.old out.new result (name_line commits.entry place) }
 {
     put_hex(out, commits, place)?;
     out.append(b"\n")
@@ -107,7 +106,7 @@ pub(crate) fn put_between(
     word: &[u8],
     after: &[u8],
 ) -> Result<(), AllocError>
-    ensures { OnOk result (out.new ≡ out.old ++ (before.now ++ word.now ++ after.now)) }
+    ensures { Adds out.old out.new result (before.now ++ word.now ++ after.now) }
 {
     out.append(before)?;
     out.append(word)?;

@@ -1,9 +1,7 @@
 //! The lines of a state.
-ghost use Rattle.std.specs.Prelude.{◌≡◌, ◌<◌, ◌++◌, length, All, OnOk, OnErr};
-ghost use Rattle.std.specs.List.{flat_map};
+ghost use Rattle.std.specs.Prelude.{◌≡◌, ◌<◌, length, All, OnErr};
 ghost use Rattle.std.specs.Option.{ForSome};
-ghost use Rattle.bf_texts.specs.Texts as texts;
-ghost use Rattle.bf_log.specs.Labels.{commits_of, sides_of};
+ghost use Rattle.bf_log.specs.Lines.{Adds, bad_line, state_lines, worded_line, worded_lines};
 ghost use Rattle.bf_log.specs.StateLines as state;
 
 use crate::label::{Commits, Sides, put_name_line};
@@ -27,7 +25,8 @@ pub fn write_state(
     out: &mut Bytes,
 ) -> Result<(), AllocError>
     requires { state.AreStanding (length commits.names.now) standing }
-    ensures ok { OnOk result (out.new ≡ out.old ++ state.state_lines (commits_of commits.entry) (sides_of sides.entry) standing.entry.bad standing.entry.goods.now standing.entry.skipped.now) }
+    ensures ok { Adds out.old out.new result
+        (state_lines commits.entry sides.entry standing.entry) }
     ensures err { OnErr result (out.new ≡ out.old) }
 {
     let mut text = Bytes::new(out.allocator());
@@ -44,7 +43,7 @@ fn put_state(
     out: &mut Bytes,
 ) -> Result<(), AllocError>
     requires { state.AreStanding (length commits.names.now) standing }
-    ensures { OnOk result (out.new ≡ out.old ++ state.state_lines (commits_of commits.entry) (sides_of sides.entry) standing.entry.bad standing.entry.goods.now standing.entry.skipped.now) }
+    ensures { Adds out.old out.new result (state_lines commits.entry sides.entry standing.entry) }
 {
     put_bad(commits, sides.new, standing.bad, out)?;
     put_named(commits, sides.old, standing.goods, out)?;
@@ -59,7 +58,7 @@ fn put_bad(
     out: &mut Bytes,
 ) -> Result<(), AllocError>
     requires { ForSome bad (λ p. p < length commits.names.now) }
-    ensures { OnOk result (out.new ≡ out.old ++ texts.given_bad (state.name_line (commits_of commits.entry) word.now) bad) }
+    ensures { Adds out.old out.new result (bad_line commits.entry word.now bad) }
 {
     match bad {
         Some(place) => put_one(commits, word, place, out),
@@ -75,7 +74,7 @@ fn put_named(
     out: &mut Bytes,
 ) -> Result<(), AllocError>
     requires { All (λ p. p < length commits.names.now) places.now }
-    ensures { OnOk result (out.new ≡ out.old ++ flat_map (state.name_line (commits_of commits.entry) word.now) places.now) }
+    ensures { Adds out.old out.new result (worded_lines commits.entry word.now places.now) }
 {
     for place in places {
         put_one(commits, word, *place, out)?;
@@ -86,7 +85,7 @@ fn put_named(
 /// Adds the line of a word and a commit.
 fn put_one(commits: Commits<'_>, word: &[u8], place: u32, out: &mut Bytes) -> Result<(), AllocError>
     requires { place < length commits.names.now }
-    ensures { OnOk result (out.new ≡ out.old ++ state.name_line (commits_of commits.entry) word.now place) }
+    ensures { Adds out.old out.new result (worded_line commits.entry word.now place) }
 {
     out.append(word)?;
     out.append(b": ")?;

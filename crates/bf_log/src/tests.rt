@@ -1,8 +1,8 @@
 //! A log and an answer, whole.
 use super::*;
-use bf_grammar::Oid;
 use bf_graph::Places;
 use bf_io::Bytes;
+use bf_oid::Oid;
 use bf_search::{Ask, Entry, Mark, Outcome};
 use std::test::Fail;
 

@@ -1,5 +1,6 @@
 -- Reading the lines that are written for entries gives their command lines and no others.
-use Rattle.std.proofs.Common.{◌≡◌, ℕ, ◌==◌, ◌&&◌, not, nat_lt, cond, Bool, true, false, List, [], ◌∷◌, ◌++◌, length, map, codes, Option, Some, None, refl, sym, ap, ◌∙◌, append_assoc, append-nil}
+use Rattle.std.proofs.Common.{◌≡◌, ℕ, ◌==◌, ◌&&◌, not, nat_lt, cond, Bool, true, false, List, [], ◌∷◌, ◌++◌, length, map, codes, Option, Some, None, refl, sym}
+use Rattle.std.proofs.Common.{ap, ◌∙◌, append_assoc, append-nil}
 use Rattle.std.proofs.lemmas.Bool.{and_parts, and_from, cond-false, or_from}
 use Rattle.std.proofs.lemmas.List.Concat.{flat_map-append}
 use Rattle.std.proofs.lemmas.List.Folds.{list_all-append}
@@ -9,15 +10,19 @@ use Rattle.bf_search.specs.declared.entries.Entry.{Entry}
 use Rattle.bf_search.specs.declared.entries.Entry.TheVariants.{Start, Marked, SkippedBase, FirstBadFound, OnlySkippedLeft}
 use Rattle.bf_search.specs.declared.outcomes.Mark.{Mark}
 use Rattle.bf_search.specs.declared.outcomes.Mark.TheVariants.{Good, Bad, Skip}
-use Rattle.bf_texts.specs.Texts.{Commits, Sides, hex_of, label_of, text_line, comment_of, quoted, word_of_mark, given_terms, option_words, end_lines, end_words, start_lines, mark_lines, first_words, possible_words, skipped_left_lines, entry_lines, Known, known_after, waiting_for_old, waiting_for_both, waiting_for_new, waiting_text, has_status, status_line, log_from}
-use Rattle.bf_reading.specs.Reading.{lines_of, past_blanks, behind, command_text, is_word, first_is_dash, read_start, read_words, and_then, Line, PassedOver, Command, line_of_word, read_line, read_log, said}
+use Rattle.bf_texts.specs.Texts.{Commits, Sides, hex_of, label_of, text_line, comment_of, quoted, word_of_mark, given_terms, option_words, end_lines, end_words}
+use Rattle.bf_texts.specs.Texts.{start_lines, mark_lines, first_words, possible_words, skipped_left_lines, entry_lines, Known, known_after, waiting_for_old}
+use Rattle.bf_texts.specs.Texts.{waiting_for_both, waiting_for_new, waiting_text, has_status, status_line, log_from}
+use Rattle.bf_reading.specs.Reading.{lines_of, past_blanks, behind, command_text, is_word, first_is_dash, read_start, read_words, and_then, Line, PassedOver}
+use Rattle.bf_reading.specs.Reading.{Command, line_of_word, read_line, read_log, said}
 use Rattle.bf_reading.specs.declared.line.LogWord.{LogWord}
 use Rattle.bf_reading.specs.declared.line.LogWord.TheVariants.{MarkWord}
 use Rattle.bf_reading.specs.declared.line.LogWord.TheVariants as log_word
 use Rattle.bf_reading.proofs.Starting.{read_names}
 use Rattle.bf_logs.specs.Written.{given_term, names_of, start_word, words_of_entries, is_plain, IsPlainWord, IsMarkWord, has_no_end, AreReadable, AreNamed}
 use Rattle.bf_logs.proofs.Terms.{accepted_from}
-use Rattle.bf_logs.proofs.Plain.{no_end_append, no_end_from_plain, hex_plain, hex_no_dash, hex_some, decimal_no_end, two_words, word_and_quoted, add_word, says, said_lines, said_read, says_line}
+use Rattle.bf_logs.proofs.Plain.{no_end_append, no_end_from_plain, hex_plain, hex_no_dash, hex_some, decimal_no_end, two_words, word_and_quoted, add_word, says}
+use Rattle.bf_logs.proofs.Plain.{said_lines, said_read, says_line}
 
 -- ---- comments
 

@@ -1,5 +1,6 @@
 -- A part of a log that ends with a command line is the log of a part of its entries.
-use Rattle.std.proofs.Common.{◌≡◌, ℕ, suc, ◌==◌, ◌&&◌, not, nat_lt, cond, Bool, true, false, List, [], ◌∷◌, ◌++◌, length, map, codes, None, refl, sym, ap, ◌∙◌, subst, arith, eqb-true, append_assoc, append-nil, ⊎_elim}
+use Rattle.std.proofs.Common.{◌≡◌, ℕ, suc, ◌==◌, ◌&&◌, not, nat_lt, cond, Bool, true, false, List, [], ◌∷◌, ◌++◌, length, map, codes, None, refl, sym, ap, ◌∙◌}
+use Rattle.std.proofs.Common.{subst, arith, eqb-true, append_assoc, append-nil, ⊎_elim}
 use Rattle.std.proofs.lemmas.Bool.{and_from, cond-false, cond-true, cases_Bool, lt-ltb}
 use Rattle.std.specs.List.{flat_map, slice_index_or}
 use Rattle.bf_search.specs.declared.entries.Entry.{Entry}
@@ -7,7 +8,8 @@ use Rattle.bf_search.specs.declared.entries.Entry.TheVariants.{Start, Marked, Sk
 use Rattle.bf_search.specs.declared.outcomes.Mark.{Mark}
 use Rattle.bf_search.specs.declared.outcomes.Mark.TheVariants.{Good, Bad, Skip}
 use Rattle.bf_search.specs.Bases.{has_place}
-use Rattle.bf_texts.specs.Texts.{Commits, Sides, Known, hex_of, label_of, text_line, comment_of, word_of_mark, first_words, possible_words, skipped_left_lines, mark_lines, entry_lines, known_after, with_good, has_status, status_line, waiting_text, log_from}
+use Rattle.bf_texts.specs.Texts.{Commits, Sides, Known, hex_of, label_of, text_line, comment_of, word_of_mark, first_words, possible_words, skipped_left_lines}
+use Rattle.bf_texts.specs.Texts.{mark_lines, entry_lines, known_after, with_good, has_status, status_line, waiting_text, log_from}
 use Rattle.bf_reading.specs.Reading.{begin_with, lines_of, past_blanks, behind, command_text, read_line, read_log}
 use Rattle.bf_logs.specs.Written.{has_no_end, AreReadable, known_after_all}
 use Rattle.bf_logs.specs.Resolved.{AreRunEntries}
@@ -22,7 +24,7 @@ use Rattle.bf_search.specs.Outcomes.{Outcomes}
 use Rattle.bf_search.specs.State.{Search, IsSearchOver}
 use Rattle.bf_search.specs.Run.{run}
 use Rattle.bf_texts.specs.Texts.{nothing_known, log}
-use Rattle.bf_logs.specs.Told.{retold}
+use Rattle.bf_logs.specs.LogState.{retold}
 use Rattle.bf_logs.specs.Replay.{Setting}
 use Rattle.bf_logs.specs.Back.{Begin, start_of, told_of, IsReplayable, GoesOnFrom}
 

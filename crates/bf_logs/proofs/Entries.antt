@@ -11,25 +11,26 @@ use Rattle.bf_search.specs.declared.outcomes.Verdict.TheVariants.{Mark as MarkOf
 use Rattle.bf_search.specs.Outcomes.{Outcomes, verdict_of}
 use Rattle.bf_search.specs.State.{Search, ask, mark}
 use Rattle.bf_search.specs.Run.{Answered, Leg, Run, ended, with_entries, with_used, marked_one, after_verdict, after_look, after_step, turn, run_within, run}
-use Rattle.bf_logs.specs.Told.{Told, warnings, marked_on, retold, end_entries, asked_on, closed, told_by}
+use Rattle.bf_logs.specs.LogState.{LogState, warnings, marked_on, retold, asked_on, closed, told_by}
+use Rattle.bf_search.specs.Ends.{end_entries}
 
 abbrev Go : Type 0
 Go = Option ℕ → Search → Run
 
 -- warnings tell nothing
-pub retold_warned : (graph : List (List ℕ)) (told : Told) (ps : List ℕ) (entries : List Entry)
+pub retold_warned : (graph : List (List ℕ)) (told : LogState) (ps : List ℕ) (entries : List Entry)
     → retold graph told (warnings ps ++ entries) ≡ retold graph told entries
 unfolding retold
 retold_warned graph told [] entries = refl
 retold_warned graph told (p ∷ ps) entries = retold_warned graph told ps entries
 
-pub retold_mark : (graph : List (List ℕ)) (told : Told) (ps : List ℕ) (m : Mark) (p : ℕ) (entries : List Entry)
+pub retold_mark : (graph : List (List ℕ)) (told : LogState) (ps : List ℕ) (m : Mark) (p : ℕ) (entries : List Entry)
     → retold graph told (warnings ps ++ Marked m p ∷ entries) ≡ retold graph (marked_on graph told m p) entries
 unfolding retold
 retold_mark graph told ps m p entries = retold_warned graph told ps (Marked m p ∷ entries)
 
 -- the entry that ends a run tells nothing
-retold_end : (graph : List (List ℕ)) (told : Told) (a : Ask) → retold graph told (end_entries a) ≡ told
+retold_end : (graph : List (List ℕ)) (told : LogState) (a : Ask) → retold graph told (end_entries a) ≡ told
 unfolding retold
 retold_end graph told (FirstBad p) = refl
 retold_end graph told (OnlySkipped ps) = refl
@@ -58,7 +59,7 @@ module _ (graph : List (List ℕ)) (known : Outcomes) where
         search = (ask graph s).search;
         entries = before ++ (warnings (ask graph s).step.warned ++ end_entries x);
       }) (sym h)
-      ∙ ap (λ (t : Told). asked_on graph t) (sym (retold_warned graph (record { search = s; entries = before })
+      ∙ ap (λ (t : LogState). asked_on graph t) (sym (retold_warned graph (record { search = s; entries = before })
       (ask graph s).step.warned (end_entries a) ∙ retold_end graph (record { search = s; entries = before }) a))
 
   -- a run that goes on behind a mark
@@ -70,7 +71,7 @@ module _ (graph : List (List ℕ)) (known : Outcomes) where
       ∙ ap (λ (es : List Entry). before ++ es) (append_assoc (warnings (ask graph s).step.warned) (Marked m p ∷ [])
       r.entries)))
       ∙ h (before ++ (warnings (ask graph s).step.warned ++ Marked m p ∷ []))
-      ∙ ap (λ (t : Told). closed graph r.end t) (sym
+      ∙ ap (λ (t : LogState). closed graph r.end t) (sym
       (retold_mark graph (record { search = s; entries = before }) (ask graph s).step.warned m p r.entries))
 
   verdict_tells : (go : Go) (left : Option ℕ) (s : Search) (p : ℕ) (outcome : Outcome) (v : Verdict)

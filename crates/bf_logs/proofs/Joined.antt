@@ -1,8 +1,9 @@
 -- A file of a log and the lines that are printed behind it are one log.
-use Rattle.std.proofs.Common.{◌≡◌, ℕ, ◌+◌, ◌==◌, cond, Bool, true, false, List, [], ◌∷◌, ◌++◌, map, Option, Some, None, Result, Ok, Err, refl, sym, ap, ◌∙◌, append_assoc}
+use Rattle.std.proofs.Common.{◌≡◌, ℕ, ◌+◌, ◌==◌, cond, Bool, true, false, List, [], ◌∷◌, ◌++◌, map, Option, Some, None, Result, Ok, Err, refl, sym, ap, ◌∙◌}
+use Rattle.std.proofs.Common.{append_assoc}
 use Rattle.bf_search.specs.declared.entries.Entry.{Entry}
 use Rattle.bf_texts.specs.Texts.{Commits, Sides, Known, entry_lines, status_line, known_after, log_from}
-use Rattle.bf_logs.specs.Told.{Told, retold}
+use Rattle.bf_logs.specs.LogState.{LogState, retold}
 use Rattle.bf_reading.specs.Reading.{begin_with, add_byte, lines_of, Line, PassedOver, Command, NoForm, read_line, add_line, read_lines, said}
 use Rattle.bf_reading.specs.declared.line.LogWord.{LogWord}
 use Rattle.bf_reading.specs.declared.line.LogLine.{LogLine}
@@ -126,7 +127,7 @@ replay_joined setting (Some x) (l ∷ front) back r h = step_joined setting (tak
 -- A file that leads to a state, with an LF at its end, and the lines of entries behind it lead where the entries lead
 -- from there.
 pub file_leads : {F : Type 0} (setting : Setting F) (commits : Commits) (sides : Sides) (known : Known)
-    (file : List ℕ) (told : Told) (entries : List Entry)
+    (file : List ℕ) (told : LogState) (entries : List Entry)
     → AreReadable commits sides → AreNamed commits entries → AreResolved setting commits entries
     → LeadsTo setting sides (file ++ 10 ∷ []) told
     → LeadsTo setting sides (file ++ 10 ∷ log_from commits sides known entries) (retold setting.graph told entries)
@@ -148,7 +149,7 @@ file_leads setting commits sides known file told entries readable named resolved
 
 -- A file and the lines that a run prints behind it give the state of the run back.
 pub file_gives_back : {F : Type 0} (setting : Setting F) (commits : Commits) (sides : Sides) (now : Known)
-    (file : List ℕ) (told : Told) (known : Outcomes) (left : Option ℕ) (s : Search) (later before : List Entry)
+    (file : List ℕ) (told : LogState) (known : Outcomes) (left : Option ℕ) (s : Search) (later before : List Entry)
     → AreReadable commits sides → AreNamed commits (later ++ (run setting.graph known left s).entries)
     → AreResolved setting commits (later ++ (run setting.graph known left s).entries)
     → LeadsTo setting sides (file ++ 10 ∷ []) told
@@ -161,14 +162,14 @@ file_gives_back setting commits sides now file told known left s later before re
     let e : retold setting.graph told (later ++ (run setting.graph known left s).entries) ≡ retold setting.graph
     (record { search = s; entries = before }) (run setting.graph known left s).entries =
     retold_append setting.graph told later (run setting.graph known left s).entries
-    ∙ ap (λ (t : Told). retold setting.graph t (run setting.graph known left s).entries) is in
+    ∙ ap (λ (t : LogState). retold setting.graph t (run setting.graph known left s).entries) is in
     record {
       told = retold setting.graph (record { search = s; entries = before }) (run setting.graph known left s).entries;
       leads = record {
         lines = l.lines;
         read = l.read;
         replayed = l.replayed
-            ∙ ap (λ (t : Told). Ok (record { told = t; terms = sides; terms_open = false })) e;
+            ∙ ap (λ (t : LogState). Ok (record { told = t; terms = sides; terms_open = false })) e;
       };
       same = run_tells setting.graph known left s before;
     }

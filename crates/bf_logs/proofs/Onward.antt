@@ -1,5 +1,6 @@
 -- A run goes on from a part of its log.
-use Rattle.std.proofs.Common.{◌≡◌, ℕ, zero, suc, ◌<◌, Bool, true, false, List, [], ◌∷◌, ◌++◌, length, Option, Some, None, refl, sym, ap, ◌∙◌, append_assoc, arith, inl, inr, ⊎_elim, ◌⊎◌}
+use Rattle.std.proofs.Common.{◌≡◌, ℕ, zero, suc, ◌<◌, Bool, true, false, List, [], ◌∷◌, ◌++◌, length, Option, Some, None, refl, sym, ap, ◌∙◌, append_assoc}
+use Rattle.std.proofs.Common.{arith, inl, inr, ⊎_elim, ◌⊎◌}
 use Rattle.bf_graph.specs.Graph.{IsGraph}
 use Rattle.bf_search.specs.declared.asks.Ask.{Ask}
 use Rattle.bf_search.specs.declared.asks.Ask.TheVariants.{WaitBoth, WaitBad, WaitGood, Test, MergeBaseBad, GoodNotAncestor, BothSides, FirstBad, OnlySkipped}
@@ -14,7 +15,8 @@ use Rattle.bf_search.specs.State.{Search, IsSearchOver, ask, mark}
 use Rattle.bf_search.specs.Run.{End, Answered, Open, Aborted, Run, ended, with_entries, with_used, after_verdict, after_look, after_step, after_ask, run}
 use Rattle.bf_search.specs.LeftToAsk.{left_to_ask}
 use Rattle.bf_search.proofs.Turns.{left_to_ask-falls, left_to_ask-le, IsSearchOver-marked, run-is}
-use Rattle.bf_logs.specs.Told.{Told, warnings, marked_on, retold, end_entries}
+use Rattle.bf_logs.specs.LogState.{LogState, warnings, marked_on, retold}
+use Rattle.bf_search.specs.Ends.{end_entries}
 use Rattle.bf_logs.proofs.Entries.{retold_mark}
 
 has_mark : List Entry → Bool
@@ -89,7 +91,7 @@ cut (w ∷ ws) n q es (x ∷ xs) m p rest h =
 
 module _ (graph : List (List ℕ)) (known : Outcomes) (g : IsGraph graph) where
   -- the run goes on from what this part of its log tells
-  pub record GoesOnAt (told : Told) (before : List Entry) (r : Run) (part : List Entry) (m : Mark) (p : ℕ)
+  pub record GoesOnAt (told : LogState) (before : List Entry) (r : Run) (part : List Entry) (m : Mark) (p : ℕ)
       (rest : List Entry) : Type 0 where
     pub same_rest : rest ≡ (run graph known None told.search).entries
     pub search : r.search ≡ (run graph known None told.search).search
@@ -121,10 +123,10 @@ module _ (graph : List (List ℕ)) (known : Outcomes) (g : IsGraph graph) where
       rest
   unfolding retold
   here s n q before part m p rest r search end c = record {
-    same_rest = sym c.1 ∙ ap (λ (t : Told). (run graph known None t.search).entries) (sym e);
-    search = search ∙ ap (λ (t : Told). (run graph known None t.search).search) (sym e);
-    end = end ∙ ap (λ (t : Told). (run graph known None t.search).end) (sym e);
-    entries = ap (λ (t : Told). t.entries) e ∙ ap (λ (es : List Entry). before ++ es) (sym c.0);
+    same_rest = sym c.1 ∙ ap (λ (t : LogState). (run graph known None t.search).entries) (sym e);
+    search = search ∙ ap (λ (t : LogState). (run graph known None t.search).search) (sym e);
+    end = end ∙ ap (λ (t : LogState). (run graph known None t.search).end) (sym e);
+    entries = ap (λ (t : LogState). t.entries) e ∙ ap (λ (es : List Entry). before ++ es) (sym c.0);
   }
     where
       e : retold graph (record { search = s; entries = before }) (part ++ Marked m p ∷ []) ≡ marked_on graph
@@ -141,16 +143,16 @@ module _ (graph : List (List ℕ)) (known : Outcomes) (g : IsGraph graph) where
       → GoesOnAt (retold graph (record { search = s; entries = before }) (part ++ Marked m p ∷ [])) before r part m p
       rest
   later s n q before part m p rest r search end ih c = record {
-    same_rest = i.same_rest ∙ ap (λ (t : Told). (run graph known None t.search).entries) (sym e);
-    search = search ∙ i.search ∙ ap (λ (t : Told). (run graph known None t.search).search) (sym e);
-    end = end ∙ i.end ∙ ap (λ (t : Told). (run graph known None t.search).end) (sym e);
-    entries = ap (λ (t : Told). t.entries) e ∙ i.entries
+    same_rest = i.same_rest ∙ ap (λ (t : LogState). (run graph known None t.search).entries) (sym e);
+    search = search ∙ i.search ∙ ap (λ (t : LogState). (run graph known None t.search).search) (sym e);
+    end = end ∙ i.end ∙ ap (λ (t : LogState). (run graph known None t.search).end) (sym e);
+    entries = ap (λ (t : LogState). t.entries) e ∙ i.entries
         ∙ append_assoc before (warnings (ask graph s).step.warned ++ Marked n q ∷ []) (c.part ++ Marked m p ∷ [])
         ∙ ap (λ (es : List Entry). before ++ es) (append_assoc (warnings (ask graph s).step.warned) (Marked n q ∷ [])
         (c.part ++ Marked m p ∷ []) ∙ sym c.front);
   }
     where
-      start : Told
+      start : LogState
       start = marked_on graph (record { search = s; entries = before }) n q
 
       e : retold graph (record { search = s; entries = before }) (part ++ Marked m p ∷ []) ≡ retold graph start

@@ -1,12 +1,14 @@
 -- Lines and words, byte by byte.
-use Rattle.std.proofs.Common.{◌≡◌, ℕ, zero, suc, ◌+◌, ◌==◌, ◌/◌, ◌%◌, ◌&&◌, not, nat_lt, true, false, List, [], ◌∷◌, ◌++◌, codes, Option, Some, None, Result, Ok, Err, refl, sym, ap, ◌∙◌, append_assoc, append-nil, arith, ⊎_elim}
+use Rattle.std.proofs.Common.{◌≡◌, ℕ, zero, suc, ◌+◌, ◌==◌, ◌/◌, ◌%◌, ◌&&◌, not, nat_lt, true, false, List, [], ◌∷◌, ◌++◌, codes, Option, Some, None, Result}
+use Rattle.std.proofs.Common.{Ok, Err, refl, sym, ap, ◌∙◌, append_assoc, append-nil, arith, ⊎_elim}
 use Rattle.std.proofs.lemmas.Bool.{and_parts, and_from, not-true, cond-false, cond-true, or_from, cases_Bool, ne_eqb}
 use Rattle.std.proofs.lemmas.List.Folds.{list_all-append}
 use Rattle.std.specs.List.{list_all, flat_map, slice_index}
 use Rattle.std.specs.Fmt.{decimal, digits, digits_onto, digit_glyph}
 use Rattle.hex.specs.Hex.{encode_with, encode_lower, lower_digits}
 use Rattle.bf_texts.specs.Texts.{quoted}
-use Rattle.bf_reading.specs.Reading.{is_blank, add_byte, lines_of, Plain, Quoted, Words, no_words, end_word, with_byte, take_plain, take_byte, take_bytes, told_words, words_of, Line, PassedOver, Command, NoForm, read_line, add_line, read_lines, said, first_is_dash}
+use Rattle.bf_reading.specs.Reading.{is_blank, add_byte, lines_of, Plain, Quoted, Words, no_words, end_word, with_byte, take_plain, take_byte, take_bytes}
+use Rattle.bf_reading.specs.Reading.{told_words, words_of, Line, PassedOver, Command, NoForm, read_line, add_line, read_lines, said, first_is_dash}
 use Rattle.bf_reading.specs.declared.line.LogWord.{LogWord}
 use Rattle.bf_reading.specs.declared.line.LogLine.{LogLine}
 use Rattle.bf_logs.specs.Written.{is_plain, has_no_end, IsPlainWord}

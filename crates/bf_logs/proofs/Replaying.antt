@@ -7,7 +7,7 @@ use Rattle.bf_search.specs.declared.entries.Entry.TheVariants.{Start, Marked, Sk
 use Rattle.bf_search.specs.declared.outcomes.Mark.{Mark}
 use Rattle.bf_search.specs.declared.outcomes.Mark.TheVariants.{Good, Bad, Skip}
 use Rattle.bf_texts.specs.Texts.{Commits, Sides, standard_sides, hex_of, word_of_mark}
-use Rattle.bf_logs.specs.Told.{Told, started, marked_on, retold}
+use Rattle.bf_logs.specs.LogState.{LogState, started, marked_on, retold}
 use Rattle.bf_reading.specs.Reading.{is_word}
 use Rattle.bf_reading.specs.declared.line.LogWord.{LogWord}
 use Rattle.bf_reading.specs.declared.line.LogLine.{LogLine}
@@ -15,7 +15,8 @@ use Rattle.bf_reading.specs.declared.line.LogWord.TheVariants.{MarkWord}
 use Rattle.bf_terms.specs.Words.{term_fault}
 use Rattle.bf_terms.specs.declared.terms.TermFault.{TermFault}
 use Rattle.bf_logs.specs.Written.{given_term, names_of, start_word, words_of_entries}
-use Rattle.bf_logs.specs.Replay.{Setting, ReplayFault, Replayed, if_ok, named, places_of, begun_at, tried, take_start, Worded, mark_in, by_terms, open_sides, mark_of, worded, take_mark, stays_open, take_line, replay_from, replay}
+use Rattle.bf_logs.specs.Replay.{Setting, ReplayFault, Replayed, if_ok, named, places_of, begun_at, tried, take_start, Worded, mark_in, by_terms, open_sides}
+use Rattle.bf_logs.specs.Replay.{mark_of, worded, take_mark, stays_open, take_line, replay_from, replay}
 use Rattle.bf_logs.proofs.Terms.{accepted_from}
 use Rattle.bf_logs.specs.Resolved.{AreTerms, FitsStart, ArePlaced, AreResolved}
 
@@ -39,7 +40,7 @@ mark_is sides m o t =
     (mark_in_is sides m t)
 
 module _ {F : Type 0} (setting : Setting F) (commits : Commits) (sides : Sides) where
-  mark_taken : (told : Told) (line : ℕ) (m : Mark) (p : ℕ) → AreTerms sides
+  mark_taken : (told : LogState) (line : ℕ) (m : Mark) (p : ℕ) → AreTerms sides
       → setting.place_of (hex_of commits p) ≡ Ok p
       → take_mark setting line (record { told = told; terms = sides; terms_open = false }) (word_of_mark sides m)
       (hex_of commits p) ≡ Ok (record { told = marked_on setting.graph told m p; terms = sides; terms_open = false })
@@ -64,7 +65,7 @@ module _ {F : Type 0} (setting : Setting F) (commits : Commits) (sides : Sides) 
       stays Bad = refl
 
   -- Replaying the lines of a run's entries leads on where the entries lead.
-  pub replay_retold : (told : Told) (entries : List Entry) (lines : List LogLine) → AreTerms sides
+  pub replay_retold : (told : LogState) (entries : List Entry) (lines : List LogLine) → AreTerms sides
       → AreResolved setting commits entries
       → map (λ (l : LogLine). l.word) lines ≡ words_of_entries commits sides entries
       → replay_from setting (Some (record { told = told; terms = sides; terms_open = false })) lines ≡ Ok

@@ -1,5 +1,6 @@
 -- A printed log is read and replayed: it gives the state of the run back, and the run goes on from a part of it.
-use Rattle.std.proofs.Common.{◌≡◌, ℕ, zero, suc, ◌<◌, false, List, [], ◌∷◌, ◌++◌, length, map, Option, Some, None, Result, Ok, Err, refl, sym, ap, ◌∙◌, subst, append_assoc}
+use Rattle.std.proofs.Common.{◌≡◌, ℕ, zero, suc, ◌<◌, false, List, [], ◌∷◌, ◌++◌, length, map, Option, Some, None, Result, Ok, Err, refl, sym, ap, ◌∙◌, subst}
+use Rattle.std.proofs.Common.{append_assoc}
 use Rattle.std.proofs.lemmas.List.Elements.{All-head, All-tail}
 use Rattle.std.specs.List.{All}
 use Rattle.bf_graph.specs.Graph.{IsGraph}
@@ -16,7 +17,8 @@ use Rattle.bf_search.specs.State.{Search, IsSearchOver, ask, mark}
 use Rattle.bf_search.specs.Run.{Run, marked_one, after_verdict, after_look, after_step, turn, run_within, run}
 use Rattle.bf_search.proofs.Turns.{asking}
 use Rattle.bf_texts.specs.Texts.{Commits, Sides, nothing_known, log}
-use Rattle.bf_logs.specs.Told.{Told, warnings, retold, take_entry, end_entries}
+use Rattle.bf_logs.specs.LogState.{LogState, warnings, retold, take_entry}
+use Rattle.bf_search.specs.Ends.{end_entries}
 use Rattle.bf_reading.specs.Reading.{read_log, said}
 use Rattle.bf_reading.specs.declared.line.LogWord.{LogWord}
 use Rattle.bf_reading.specs.declared.line.LogLine.{LogLine}
@@ -115,7 +117,7 @@ are_front n (SkippedBase p ∷ xs) ys h = are_front n xs ys h
 are_front n (FirstBadFound p ∷ xs) ys h = are_front n xs ys h
 are_front n (OnlySkippedLeft ps ∷ xs) ys h = are_front n xs ys h
 
-pub retold_append : (graph : List (List ℕ)) (told : Told) (xs ys : List Entry)
+pub retold_append : (graph : List (List ℕ)) (told : LogState) (xs ys : List Entry)
     → retold graph told (xs ++ ys) ≡ retold graph (retold graph told xs) ys
 unfolding retold
 retold_append graph told [] ys = refl
@@ -177,13 +179,13 @@ module _ {F : Type 0} (setting : Setting F) (commits : Commits) (sides : Sides) 
           (words_of_entries commits sides (start_of b ∷ entries))
           (log_read_back commits sides nothing_known (start_of b ∷ entries) given.readable (named entries h))
 
-  lead_as : (text : List ℕ) (one other : Told) → one ≡ other → LeadsTo setting sides text one
+  lead_as : (text : List ℕ) (one other : LogState) → one ≡ other → LeadsTo setting sides text one
       → LeadsTo setting sides text other
   lead_as text one other same l = record {
     lines = l.lines;
     read = l.read;
     replayed = l.replayed
-        ∙ ap (λ (t : Told). Ok (record { told = t; terms = sides; terms_open = false })) same;
+        ∙ ap (λ (t : LogState). Ok (record { told = t; terms = sides; terms_open = false })) same;
   }
 
   -- The log gives the state back: a start, entries that lead from it to a search, and a run from there.
@@ -196,7 +198,7 @@ module _ {F : Type 0} (setting : Setting F) (commits : Commits) (sides : Sides) 
     told = retold setting.graph (record { search = s; entries = before }) (run setting.graph known left s).entries;
     leads = lead_as (log commits sides (start_of b ∷ (later ++ (run setting.graph known left s).entries))) _ _
         (retold_append setting.graph (told_of setting.graph b) later (run setting.graph known left s).entries
-        ∙ ap (λ (t : Told). retold setting.graph t (run setting.graph known left s).entries) led)
+        ∙ ap (λ (t : LogState). retold setting.graph t (run setting.graph known left s).entries) led)
         (log_leads (later ++ (run setting.graph known left s).entries)
         (are_append (length setting.graph) later (run setting.graph known left s).entries are
         (run_are setting.graph known g left s)));
@@ -214,7 +216,7 @@ module _ {F : Type 0} (setting : Setting F) (commits : Commits) (sides : Sides) 
     told = retold setting.graph (record { search = s; entries = before }) (part ++ Marked m p ∷ []);
     leads = lead_as (log commits sides (start_of b ∷ (later ++ (part ++ Marked m p ∷ [])))) _ _
         (retold_append setting.graph (told_of setting.graph b) later (part ++ Marked m p ∷ [])
-        ∙ ap (λ (t : Told). retold setting.graph t (part ++ Marked m p ∷ [])) led)
+        ∙ ap (λ (t : LogState). retold setting.graph t (part ++ Marked m p ∷ [])) led)
         (log_leads (later ++ (part ++ Marked m p ∷ []))
         (are_append (length setting.graph) later (part ++ Marked m p ∷ []) are front));
     same_rest = sym on.same_rest;

@@ -6,7 +6,7 @@ use Rattle.bf_search.specs.declared.entries.Entry.TheVariants.{Start}
 use Rattle.bf_search.specs.Outcomes.{Outcomes}
 use Rattle.bf_search.specs.Run.{Run, run}
 use Rattle.bf_texts.specs.Texts.{Commits, Sides, hex_of}
-use Rattle.bf_logs.specs.Told.{Told, started, closed, told_by}
+use Rattle.bf_logs.specs.LogState.{LogState, started, closed, told_by}
 use Rattle.bf_reading.specs.Reading.{read_log}
 use Rattle.bf_reading.specs.declared.line.LogLine.{LogLine}
 use Rattle.bf_logs.specs.Written.{AreReadable}
@@ -23,7 +23,7 @@ pub record Begin : Type 0 where
 abbrev pub start_of : Begin → Entry
 start_of b = Start b.first_parent b.terms_given (Some b.bad) b.goods
 
-abbrev pub told_of : List (List ℕ) → Begin → Told
+abbrev pub told_of : List (List ℕ) → Begin → LogState
 told_of graph b = started graph b.first_parent b.terms_given (Some b.bad) b.goods
 
 -- what a history, terms and a start keep, so that a log is read and replayed as it was meant
@@ -37,7 +37,7 @@ pub record IsReplayable {F : Type 0} (setting : Setting F) (commits : Commits) (
     pub goods : All (λ p. p < length setting.graph) b.goods
 
 -- the text is read and replayed, and leads to this
-pub record LeadsTo {F : Type 0} (setting : Setting F) (sides : Sides) (text : List ℕ) (told : Told) : Type 0 where
+pub record LeadsTo {F : Type 0} (setting : Setting F) (sides : Sides) (text : List ℕ) (told : LogState) : Type 0 where
   pub lines : List LogLine
   pub read : read_log text ≡ Ok lines
   pub replayed : replay setting lines ≡ Ok (record { told = told; terms = sides; terms_open = false })
@@ -45,14 +45,14 @@ pub record LeadsTo {F : Type 0} (setting : Setting F) (sides : Sides) (text : Li
 -- The text leads to a state on which one ask gives that of the run; behind a leg it is that of the run.
 pub record GivesBack {F : Type 0} (setting : Setting F) (sides : Sides) (text : List ℕ) (before : List Entry)
     (r : Run) : Type 0 where
-  pub told : Told
+  pub told : LogState
   pub leads : LeadsTo setting sides text told
   pub same : told_by before r ≡ closed setting.graph r.end told
 
 -- The text leads to a state from which the run has these entries left and ends alike.
 pub record GoesOnFrom {F : Type 0} (setting : Setting F) (sides : Sides) (text : List ℕ) (known : Outcomes) (r : Run)
     (rest : List Entry) : Type 0 where
-  pub told : Told
+  pub told : LogState
   pub leads : LeadsTo setting sides text told
   pub same_rest : (run setting.graph known None told.search).entries ≡ rest
   pub search : (run setting.graph known None told.search).search ≡ r.search

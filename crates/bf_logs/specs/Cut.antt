@@ -6,7 +6,7 @@ use Rattle.bf_search.specs.declared.outcomes.Mark.{Mark}
 use Rattle.bf_search.specs.Outcomes.{Outcomes}
 use Rattle.bf_search.specs.Run.{Run, run}
 use Rattle.bf_texts.specs.Texts.{Commits, Sides, Known, log_from}
-use Rattle.bf_logs.specs.Told.{Told}
+use Rattle.bf_logs.specs.LogState.{LogState}
 use Rattle.bf_reading.specs.Reading.{Line, PassedOver, Command, NoForm, read_line}
 use Rattle.bf_logs.specs.Written.{known_after_all}
 use Rattle.bf_logs.specs.Replay.{Setting}
@@ -42,7 +42,7 @@ pub record CutText (commits : Commits) (sides : Sides) (known : Known) (entries 
 -- The text leads to a state from which the run prints this rest, and ends alike.
 pub record GoesOnText {F : Type 0} (setting : Setting F) (commits : Commits) (sides : Sides) (known : Outcomes)
     (text back : List ℕ) (r : Run) : Type 0 where
-  pub told : Told
+  pub told : LogState
   pub leads : LeadsTo setting sides text told
   pub printed : (now : Known) → AreKnown now → log_from commits sides now
       (run setting.graph known None told.search).entries ≡ back

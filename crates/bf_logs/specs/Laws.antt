@@ -9,7 +9,7 @@ use Rattle.bf_search.specs.State.{Search, IsSearchOver}
 use Rattle.bf_search.specs.Run.{run}
 use Rattle.bf_texts.specs.Texts.{Commits, Sides, Known, nothing_known, log_from, log}
 use Rattle.bf_reading.specs.Reading.{said, lines_of, read_log}
-use Rattle.bf_logs.specs.Told.{Told, retold, closed, told_by}
+use Rattle.bf_logs.specs.LogState.{LogState, retold, closed, told_by}
 use Rattle.bf_logs.specs.Written.{AreReadable, AreNamed, words_of_entries, known_after_all}
 use Rattle.bf_logs.specs.Replay.{Setting}
 use Rattle.bf_logs.specs.Resolved.{AreResolved, AreRunEntries}
@@ -77,7 +77,7 @@ RunsGoOnFromLogs =
 -- A file of a log, with an LF at its end, and the lines that a run prints behind it give the state of the run back.
 abbrev pub FilesGiveTheStateBack : Type 0
 FilesGiveTheStateBack =
-    (setting : Setting ℕ) (commits : Commits) (sides : Sides) (now : Known) (file : List ℕ) (told : Told)
+    (setting : Setting ℕ) (commits : Commits) (sides : Sides) (now : Known) (file : List ℕ) (told : LogState)
     (known : Outcomes) (left : Option ℕ) (s : Search) (later before : List Entry)
     → AreReadable commits sides
     → AreNamed commits (later ++ (run setting.graph known left s).entries)

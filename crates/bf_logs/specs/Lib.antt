@@ -1,4 +1,4 @@
-pub mod Told
+pub mod LogState
 pub mod Replay
 pub mod Written
 pub mod Resolved

@@ -5,7 +5,7 @@ use Rattle.bf_search.specs.declared.outcomes.Mark.TheVariants.{Good, Bad, Skip}
 use Rattle.bf_terms.specs.Words.{term_fault}
 use Rattle.bf_terms.specs.declared.terms.TermFault.{TermFault}
 use Rattle.bf_texts.specs.Texts.{Sides, standard_sides}
-use Rattle.bf_logs.specs.Told.{Told, started, marked_on}
+use Rattle.bf_logs.specs.LogState.{LogState, started, marked_on}
 use Rattle.bf_reading.specs.Reading.{is_word}
 use Rattle.bf_reading.specs.declared.line.LogWord.{LogWord}
 use Rattle.bf_reading.specs.declared.line.LogLine.{LogLine}
@@ -24,7 +24,7 @@ pub data ReplayFault (F : Type 0) : Type 0 where
 
 -- what a log leads to
 pub record Replayed : Type 0 where
-  pub told : Told
+  pub told : LogState
   pub terms : Sides
   pub terms_open : Bool
 

@@ -5,8 +5,8 @@ use Rattle.std.proofs.lemmas.Result.{err_from_is_err_and}
 use Rattle.std.specs.Cmp.Lexicographic.{pointwise}
 use Rattle.std.specs.Option.{ok_or}
 use Rattle.std.specs.Result.{IsErrAnd}
-use Rattle.bf_grammar.specs.declared.object.Oid.{Oid}
-use Rattle.bf_grammar.specs.Object.{oid_of_hex}
+use Rattle.bf_oid.specs.declared.object.Oid.{Oid}
+use Rattle.bf_oid.specs.Object.{oid_of_hex}
 use Rattle.bf_history.specs.Meanings.{place_named, ref_in}
 use Rattle.bf_history.specs.Named.{value_of}
 use Rattle.bf_names.specs.declared.fault.NameFault.{NameFault}

@@ -1,5 +1,6 @@
 -- Ranges of commits, and the rows that they give.
-use Rattle.std.proofs.Common.{◌≡◌, ℕ, ◌+◌, ◌<◌, ◌==◌, Bool, true, false, not, ◌&&◌, List, length, take, drop, map, set, replicate, Some, None, Result, Ok, sym, ◌∙◌, ap, subst, ⊎_elim, arith, get_or-set_other, length-set}
+use Rattle.std.proofs.Common.{◌≡◌, ℕ, ◌+◌, ◌<◌, ◌==◌, Bool, true, false, not, ◌&&◌, List, length, take, drop, map, set, replicate, Some, None, Result, Ok, sym}
+use Rattle.std.proofs.Common.{◌∙◌, ap, subst, ⊎_elim, arith, get_or-set_other, length-set}
 use Rattle.std.proofs.lemmas.Bool.Decides.{eqb_tells}
 use Rattle.std.proofs.lemmas.Grind.{get_or-set_at}
 use Rattle.std.proofs.lemmas.List.{get_or-replicate, length-replicate}

@@ -1,14 +1,15 @@
 -- Names and ranges on small histories, by computation.
 use Rattle.std.specs.Prelude.{◌≡◌, ℕ, Bool, true, false, List, [], ◌∷◌, map, codes, Some, None, Result, Ok, Err, refl}
 use Rattle.hex.specs.Hex.{decode_pairs, encode_with}
-use Rattle.bf_grammar.specs.declared.object.Oid.{Oid}
-use Rattle.bf_grammar.specs.Object.{oid_of_hex}
+use Rattle.bf_oid.specs.declared.object.Oid.{Oid}
+use Rattle.bf_oid.specs.Object.{oid_of_hex}
 use Rattle.bf_history.specs.Meanings.{History}
 use Rattle.bf_io.specs.Decimal.{decimal_value}
 use Rattle.bf_search.specs.Reach.{reaches, reaches_within}
 use Rattle.bf_names.specs.declared.fault.NameFault.{NameFault}
 use Rattle.bf_names.specs.declared.fault.NameFault.TheVariants.{Unknown, Ambiguous, NoParent, BadForm}
-use Rattle.bf_names.specs.Names.{name, range, steps_of, step_texts, step_of, steps_written, place_of_base, abbreviated, ancestor, after_steps, between, right_steps}
+use Rattle.bf_names.specs.Names.{name, range, steps_of, step_texts, step_of, steps_written, place_of_base, abbreviated, ancestor, after_steps, between}
+use Rattle.bf_names.specs.Names.{right_steps}
 
 abbrev history_with : List (List ℕ × ℕ) → List (List ℕ) → List Oid → History
 history_with refs parents names = record { refs = refs; parents = parents; files = []; subjects = []; names = names; directories = [] }

@@ -5,8 +5,8 @@ use Rattle.std.specs.List.{before_first, list_all, position, range_with_len, sli
 use Rattle.std.specs.Option.{ok_or, option_map}
 use Rattle.std.specs.Char.{eq_ignore_ascii_case, is_ascii_hexdigit}
 use Rattle.hex.specs.Hex.{encode_lower}
-use Rattle.bf_grammar.specs.declared.object.Oid.{Oid}
-use Rattle.bf_grammar.specs.Object.{oid_of_hex}
+use Rattle.bf_oid.specs.declared.object.Oid.{Oid}
+use Rattle.bf_oid.specs.Object.{oid_of_hex}
 use Rattle.bf_graph.specs.Graph.{parents_of}
 use Rattle.bf_history.specs.Meanings.{History, place_named, ref_in}
 use Rattle.bf_io.specs.Decimal.{decimal_value}
@@ -81,6 +81,10 @@ steps_of text = if is_base (base_of text) then all_steps text else Err BadForm
 
 -- ---- the commit that a base names
 
+-- the full name of the head of a remote
+abbrev pub remote_head : List ℕ → List ℕ
+remote_head remote = codes "refs/remotes/" ++ remote ++ codes "/HEAD"
+
 -- the refs that a base may mean, in the order in which they are tried
 abbrev pub meanings : List ℕ → List (List ℕ)
 meanings base =
@@ -89,7 +93,7 @@ meanings base =
     ∷ (codes "refs/tags/" ++ base)
     ∷ (codes "refs/heads/" ++ base)
     ∷ (codes "refs/remotes/" ++ base)
-    ∷ (codes "refs/remotes/" ++ base ++ codes "/HEAD")
+    ∷ remote_head base
     ∷ []
 
 abbrev pub or_else : Option ℕ → Option ℕ → Option ℕ

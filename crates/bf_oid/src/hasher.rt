@@ -1,7 +1,7 @@
 //! The name of an object, from its whole body or from pieces of it. No body is kept or copied.
 ghost use Rattle.std.specs.Prelude.{◌≡◌, ℕ, List, [], ◌++◌, length};
-ghost use Rattle.bf_grammar.specs.declared.object.Kind.{Kind};
-ghost use Rattle.bf_grammar.specs.Object.{kind_text, name_of};
+ghost use Rattle.bf_oid.specs.declared.object.Kind.{Kind};
+ghost use Rattle.bf_oid.specs.Object.{kind_text, name_of};
 
 use crate::{Kind, Oid};
 use itoa::Buffer;

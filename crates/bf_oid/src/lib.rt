@@ -2,10 +2,11 @@
 #![tactic(auto)]
 
 mod hasher;
+mod object;
 mod text;
 
-pub use bf_grammar::{Kind, Mode, Oid};
 pub use hasher::{ObjectHasher, object_name};
+pub use object::{Kind, Mode, Oid};
 pub use text::{oid_from_hex, oid_hex};
 
 #[cfg(test)]

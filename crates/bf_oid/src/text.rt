@@ -2,7 +2,7 @@
 ghost use Rattle.std.specs.Prelude.{◌≡◌, ◌↔◌, length, IsSome};
 ghost use Rattle.std.specs.List.{AllPass};
 ghost use Rattle.hex.specs.Hex.{encode_lower, is_hex_digit};
-ghost use Rattle.bf_grammar.specs.Object.{oid_of_hex};
+ghost use Rattle.bf_oid.specs.Object.{oid_of_hex};
 
 use crate::Oid;
 

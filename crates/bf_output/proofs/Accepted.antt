@@ -1,5 +1,6 @@
 -- The terms that words give are accepted.
-use Rattle.std.proofs.Common.{◌≡◌, ℕ, cond, Bool, true, false, ◌||◌, is_some, nat_lt, List, ◌∷◌, length, Option, Some, None, IfSome, unwrap_or, Result, Ok, Err, refl, subst}
+use Rattle.std.proofs.Common.{◌≡◌, ℕ, cond, Bool, true, false, ◌||◌, is_some, nat_lt, List, ◌∷◌, length, Option, Some, None, IfSome, unwrap_or, Result, Ok, Err}
+use Rattle.std.proofs.Common.{refl, subst}
 use Rattle.std.specs.Option.{option_map}
 use Rattle.bf_terms.specs.Words.{term_fault}
 use Rattle.bf_texts.specs.Texts.{Sides}
@@ -9,22 +10,27 @@ use Rattle.bf_words.specs.declared.role.Role.{Role}
 use Rattle.bf_words.specs.declared.verb.Verb.{Verb}
 use Rattle.bf_words.specs.Options.{verb_of}
 use Rattle.bf_words.specs.Roles.{roles_of}
-use Rattle.bf_words.specs.Words.{answer, fault_in, first_of, line_faults, missing_value, plains_of, read_from, read_line, request, request_of, sides_of, term_at, value_at, word_at, wrong_term, wrong_word}
+use Rattle.bf_words.specs.Words.{answer, fault_in, first_of, line_faults, missing_value, plains_of, read_from, read_line, request, request_of, sides_of}
+use Rattle.bf_words.specs.Words.{term_at, value_at, word_at, wrong_term, wrong_word}
 
 abbrev pub AreAccepted : Sides → Type 0
 AreAccepted sides = term_fault sides.new sides.old ≡ None
 
-past_size : (b : Bool) (n : ℕ) (rest : Result Request ℕ) (r : Request) → cond b (Err n) rest ≡ Ok r → rest ≡ Ok r
+-- ---- what an answer for a line says of its faults
+
+pub past_size : (b : Bool) (n : ℕ) (rest : Result Request ℕ) (r : Request) → cond b (Err n) rest ≡ Ok r → rest ≡ Ok r
 past_size true n rest r e = cc e
 past_size false n rest r e = e
 
-no_fault : (o : Option ℕ) (made r : Request) → answer o made ≡ Ok r → (o ≡ None) × (made ≡ r)
+pub no_fault : (o : Option ℕ) (made r : Request) → answer o made ≡ Ok r → (o ≡ None) × (made ≡ r)
 no_fault None made r e = (refl, cc e)
 no_fault (Some word) made r e = cc e
 
-none_first : (o : Option ℕ) (os : List (Option ℕ)) → first_of (o ∷ os) ≡ None → (o ≡ None) × (first_of os ≡ None)
+pub none_first : (o : Option ℕ) (os : List (Option ℕ)) → first_of (o ∷ os) ≡ None → (o ≡ None) × (first_of os ≡ None)
 none_first None os e = (refl, e)
 none_first (Some word) os e = cc e
+
+-- ---- the terms
 
 no_term : {X : Type 0} (f : X → ℕ) (o : Option X) → option_map f o ≡ None → o ≡ None
 no_term f None e = refl

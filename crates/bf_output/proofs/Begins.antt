@@ -10,7 +10,8 @@ use Rattle.bf_search.proofs.Turns.{range_within}
 use Rattle.bf_shelf.specs.declared.shelf.LoadFault.{LoadFault}
 use Rattle.bf_words.specs.declared.request.Request.{Request}
 use Rattle.bf_words.specs.Words.{word_at}
-use Rattle.bf_output.specs.Beginning.{Begun, name_or_refusal, named, named_if_given, gathered, one_named, all_named, meant, places_meant, all_meant, between_ends, begun_by_words, begun_by, has_ends, with_ends, with_skips, begun_with_skips}
+use Rattle.bf_output.specs.Beginning.{Begun, name_or_refusal, named, named_if_given, gathered, one_named, all_named, meant, places_meant, all_meant}
+use Rattle.bf_output.specs.Beginning.{between_ends, begun_by_words, begun_by, has_ends, with_ends, with_skips, begun_with_skips}
 use Rattle.bf_output.specs.Told.{Told, ◌>>=◌}
 use Rattle.bf_output.proofs.Loading.{IsWhole}
 use Rattle.bf_output.proofs.Places.{name_below, range_row}
@@ -56,12 +57,14 @@ module _ (history : History) (w : IsWhole history) (words : List (List ℕ)) whe
       (All-filter (λ p. is_in row p) (λ p. p < length row) (range_with_len 0 (length row)) (range_within (length row)))
 
   meant_row : (i : ℕ) → IfOk (meant history words i) (λ row. length row ≡ length history.parents)
-  meant_row i = unless_refused (λ (row : List Bool). length row ≡ length history.parents) i (range history (word_at words i)) (range_row history w (word_at words i))
+  meant_row i = unless_refused (λ (row : List Bool). length row ≡ length history.parents) i (range history (word_at words i))
+      (range_row history w (word_at words i))
 
   meant_below : (is : List ℕ) → IfOk (all_meant history words is) (All IsPlace)
   meant_below is =
       gathered_below (places_meant history words)
-      (λ i. then_ok (λ (row : List Bool). length row ≡ length history.parents) (All IsPlace) (meant history words i) (λ row. Ok (places_of row)) (meant_row i) row_below)
+      (λ i. then_ok (λ (row : List Bool). length row ≡ length history.parents) (All IsPlace) (meant history words i) (λ row. Ok (places_of row)) (meant_row i)
+      row_below)
       is
 
 -- ---- the skips behind a beginning

@@ -7,8 +7,9 @@ use Rattle.bf_state.proofs.Asks.{ask_leaves}
 use Rattle.bf_terms.specs.declared.terms.TermFault.{TermFault}
 use Rattle.bf_terms.specs.Words.{term_fault}
 use Rattle.bf_texts.specs.Texts.{Sides}
-use Rattle.bf_logs.specs.Told.{marked_on}
-use Rattle.bf_logs.specs.Replay.{Setting, ReplayFault, Replayed, Worded, if_ok, places_of, terms_of, has_none, names_terms, tried, begun_at, open_sides, mark_in, by_terms, mark_of, stays_open, worded, named, take_line, replay_from, replay}
+use Rattle.bf_logs.specs.LogState.{marked_on}
+use Rattle.bf_logs.specs.Replay.{Setting, ReplayFault, Replayed, Worded, if_ok, places_of, terms_of, has_none, names_terms, tried, begun_at, open_sides}
+use Rattle.bf_logs.specs.Replay.{mark_in, by_terms, mark_of, stays_open, worded, named, take_line, replay_from, replay}
 use Rattle.bf_reading.specs.declared.line.LogLine.{LogLine}
 use Rattle.bf_reading.specs.declared.line.LogWord.{LogWord}
 use Rattle.bf_reading.specs.declared.line.LogWord.TheVariants.{Start, MarkWord}
@@ -106,7 +107,8 @@ module _ {F : Type 0} (setting : Setting F) where
 
   fit_line : (before : Option Replayed) (line : ℕ) (word : LogWord) → FitIfSome before → IfOk (take_line setting before line word) IsFit
   fit_line before line (Start first_parent new old revs) fit =
-      fit_start line first_parent new old revs (terms_of new old) (term_fault (terms_of new old).new (terms_of new old).old) (places_of setting line revs) refl refl
+      fit_start line first_parent new old revs (terms_of new old) (term_fault (terms_of new old).new (terms_of new old).old) (places_of setting line revs) refl
+      refl
   fit_line None line (MarkWord term rev) fit = tt
   fit_line (Some before) line (MarkWord term rev) fit =
       fit_mark before line term fit (mark_of before.terms before.terms_open term) refl (named line (setting.place_of rev))

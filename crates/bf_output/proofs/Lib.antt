@@ -1,4 +1,4 @@
-mod Accepted
+pub mod Accepted
 mod Alike
 mod Begins
 mod Closing

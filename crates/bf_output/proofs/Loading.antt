@@ -1,5 +1,6 @@
 -- What a stream loads: each parent of a commit is earlier, and the refs and marks lead to commits that are there.
-use Rattle.std.proofs.Common.{◌≡◌, ℕ, ◌+◌, ◌<◌, ◌≤◌, ◌==◌, Bool, true, false, cond, nat_lt, List, [], ◌∷◌, ◌++◌, length, codes, Option, Some, None, IfSome, unwrap_or, Result, Ok, Err, IfOk, refl, sym, ap, subst, ◌∙◌, arith, length-append}
+use Rattle.std.proofs.Common.{◌≡◌, ℕ, ◌+◌, ◌<◌, ◌≤◌, ◌==◌, Bool, true, false, cond, nat_lt, List, [], ◌∷◌, ◌++◌, length, codes, Option, Some, None, IfSome}
+use Rattle.std.proofs.Common.{unwrap_or, Result, Ok, Err, IfOk, refl, sym, ap, subst, ◌∙◌, arith, length-append}
 use Rattle.std.proofs.lemmas.List.Elements.{All-nil, All-cons}
 use Rattle.std.proofs.lemmas.List.Quantifiers.{position-Some}
 use Rattle.std.specs.List.{All, position}
@@ -7,24 +8,26 @@ use Rattle.std.specs.Option.{ok_or, option_to_list}
 use Rattle.bf_forest.specs.declared.edits.Edit.{Edit}
 use Rattle.bf_forest.specs.Files.{Files, edited, is_same}
 use Rattle.bf_forest.specs.Trees.{with_directories, entries_of}
-use Rattle.bf_grammar.specs.declared.command.Change.{Change}
 use Rattle.bf_grammar.specs.declared.command.Command.{Command}
 use Rattle.bf_grammar.specs.declared.command.Command.TheVariants as command
+use Rattle.bf_grammar.specs.declared.command.Commit as given
+use Rattle.bf_grammar.specs.declared.command.Header.{Header}
 use Rattle.bf_grammar.specs.declared.command.Target.{Target}
 use Rattle.bf_grammar.specs.declared.fault.Limits.{Limits}
 use Rattle.bf_grammar.specs.declared.fault.StreamFault.{StreamFault}
-use Rattle.bf_grammar.specs.declared.object.Oid.{Oid}
+use Rattle.bf_oid.specs.declared.object.Oid.{Oid}
 use Rattle.bf_grammar.specs.Forms.{colon_number}
-use Rattle.bf_grammar.specs.Object.{oid_of_hex}
+use Rattle.bf_oid.specs.Object.{oid_of_hex}
 use Rattle.bf_graph.specs.Graph.{IsGraph}
 use Rattle.bf_graph.proofs.Layouts.{IsGraph-nil, IsGraph-push}
 use Rattle.bf_history.specs.declared.fault.ImportFault.{ImportFault}
 use Rattle.bf_history.specs.declared.fault.ImportFault.TheVariants.{BadFrom, Unsupported}
 use Rattle.bf_history.specs.declared.marked.Marked.{Marked}
 use Rattle.bf_history.specs.declared.marked.Marked.TheVariants as marked
-use Rattle.bf_history.specs.Bodies.{Saying}
 use Rattle.bf_history.specs.Imports.{loaded}
-use Rattle.bf_history.specs.Meanings.{History, Loading, Commit, nothing_loaded, ◌>>=◌, each_of, mark_in, ref_in, place_named, commit_marked, place_by, place_of_target, edit_of, begins_with, files_from, commit_on, stood, with_commit, place_of_commit, within_limits, with_ref, without_ref, with_mark, after_commit, after_reset, after_tag, after_command, is_no_name}
+use Rattle.bf_history.specs.Meanings.{History, Loading, Commit, nothing_loaded, ◌>>=◌, each_of, mark_in, ref_in, place_named, commit_marked, place_by}
+use Rattle.bf_history.specs.Meanings.{place_of_target, edit_of, begins_with, files_from, commit_on, stood, with_commit, place_of_commit, within_limits}
+use Rattle.bf_history.specs.Meanings.{with_ref, without_ref, with_mark, after_commit, after_reset, after_tag, after_command, is_no_name}
 use Rattle.bf_history.specs.Named.{value_of, with_value, without_value}
 
 -- ---- values under names
@@ -242,33 +245,33 @@ with_mark_are : (n : ℕ) (mark : Option ℕ) (what : Marked) (marks : List (ℕ
 with_mark_are n None what marks h k = k
 with_mark_are n (Some number) what marks h k = with_value_are (IsThere n) ◌==◌ number what marks h k
 
-made : Loading → Saying → Option ℕ → List ℕ → List Edit → Commit
-made loading saying first others edits = commit_on loading.history (option_to_list first ++ others) (edited (files_from loading.history first) edits) saying
+made : Loading → Header → Option ℕ → List ℕ → List Edit → Commit
+made loading header first others edits = commit_on loading.history (option_to_list first ++ others) (edited (files_from loading.history first) edits) header
 
-after_commit_sound : (limits : Limits) (loading : Loading) (branch : List ℕ) (mark : Option ℕ) (saying : Saying) (from : Option Target)
-    (merges : List Target) (changes : List Change) → IsSound loading
-    → IfOk (after_commit limits loading branch mark saying from merges changes) IsSound
+after_commit_sound : (limits : Limits) (loading : Loading) (given : given.Commit) → IsSound loading
+    → IfOk (after_commit limits loading given) IsSound
 unfolding after_commit made commit_on
-after_commit_sound limits loading branch mark saying from merges changes s =
-    four_steps (begins_with loading branch from) (each_of (place_of_target BadFrom loading) merges) (each_of (edit_of loading.marks) changes)
-    (λ first others edits. within_limits limits (with_commit loading.history (made loading saying first others edits)))
+after_commit_sound limits loading given s =
+    four_steps (begins_with loading given.branch given.from) (each_of (place_of_target BadFrom loading) given.merges)
+    (each_of (edit_of loading.marks) given.changes)
+    (λ first others edits. within_limits limits (with_commit loading.history (made loading given.header first others edits)))
     (λ first others edits history. record {
-      history = with_ref branch (place_of_commit loading.history (made loading saying first others edits)) history;
-      marks = with_mark mark (marked.Commit (place_of_commit loading.history (made loading saying first others edits))) loading.marks;
+      history = with_ref given.branch (place_of_commit loading.history (made loading given.header first others edits)) history;
+      marks = with_mark given.mark (marked.Commit (place_of_commit loading.history (made loading given.header first others edits))) loading.marks;
     })
     (λ first. IfSome first (λ p. p < length loading.history.parents)) (λ others. All (λ p. p < length loading.history.parents) others) IsSound
-    (first_there loading branch from s)
-    (each_there (length loading.history.parents) (place_of_target BadFrom loading) (λ target. target_there BadFrom loading target s) merges)
+    (first_there loading given.branch given.from s)
+    (each_there (length loading.history.parents) (place_of_target BadFrom loading) (λ target. target_there BadFrom loading target s) given.merges)
     (λ first others edits history one rest is.
-    let place : ℕ = place_of_commit loading.history (made loading saying first others edits) in
-    let grown : IsGrown loading.history (with_commit loading.history (made loading saying first others edits)) place =
-    commit_grown loading.history (made loading saying first others edits) s.whole
+    let place : ℕ = place_of_commit loading.history (made loading given.header first others edits) in
+    let grown : IsGrown loading.history (with_commit loading.history (made loading given.header first others edits)) place =
+    commit_grown loading.history (made loading given.header first others edits) s.whole
     (parents_there (length loading.history.parents) first others one rest) in
     let after : IsGrown loading.history history place = subst (λ h. IsGrown loading.history h place)
-    (within_same limits (with_commit loading.history (made loading saying first others edits)) history is) grown in
+    (within_same limits (with_commit loading.history (made loading given.header first others edits)) history is) grown in
     record {
-      whole = with_ref_whole branch place history after.whole after.there;
-      marks = with_mark_are (length history.parents) mark (marked.Commit place) loading.marks after.there
+      whole = with_ref_whole given.branch place history after.whole after.there;
+      marks = with_mark_are (length history.parents) given.mark (marked.Commit place) loading.marks after.there
           (more_are (IsThere (length loading.history.parents)) (IsThere (length history.parents))
           (still_there (length loading.history.parents) (length history.parents) after.more) loading.marks s.marks);
     })
@@ -306,8 +309,7 @@ command_sound limits loading (command.Blob line mark content) s = record {
   whole = s.whole;
   marks = with_mark_are (length loading.history.parents) mark (marked.Blob _) loading.marks tt s.marks;
 }
-command_sound limits loading (command.Commit line branch mark author committer encoding message from merges changes) s =
-    after_commit_sound limits loading branch mark (record { author = author; committer = committer; encoding = encoding; message = message }) from merges changes s
+command_sound limits loading (command.Commit given) s = after_commit_sound limits loading given s
 command_sound limits loading (command.Tag line name mark from) s = after_tag_sound loading name mark from s
 command_sound limits loading (command.Reset line branch from) s = after_reset_sound loading branch from s
 command_sound limits loading (command.Progress line) s = s

@@ -1,5 +1,6 @@
 -- All words and bytes have one output.
-use Rattle.std.proofs.Common.{◌≡◌, ◌≢◌, ℕ, suc, Bool, true, false, List, [], ◌++◌, length, map, replicate, IfSome, Option, Some, None, Result, Ok, Err, inl, inr, refl, sym, subst, ◌∙◌, ap, arith}
+use Rattle.std.proofs.Common.{◌≡◌, ◌≢◌, ℕ, suc, Bool, true, false, List, [], ◌++◌, length, map, replicate, IfSome, Option, Some, None, Result, Ok, Err, inl}
+use Rattle.std.proofs.Common.{inr, refl, sym, subst, ◌∙◌, ap, arith}
 use Rattle.std.proofs.lemmas.Bool.{both_ways}
 use Rattle.std.proofs.lemmas.List.{append-nil}
 use Rattle.std.specs.List.{flat_map}
@@ -30,13 +31,14 @@ use Rattle.bf_tester.specs.declared.answer.Answer.{Answer}
 use Rattle.bf_output.specs.Beginning.{Begun, begun_with_skips}
 use Rattle.bf_output.specs.Gen.{generated, made_stream}
 use Rattle.bf_output.specs.Next.{next_told}
-use Rattle.bf_output.specs.Output.{Given, IsOverFile, IsOverLog, IsOverLoaded, file_of, IsOverBytes, IsSearchedFrom, IsOutputOf, IsOutputFor, is_run, tests, traces}
+use Rattle.bf_output.specs.Output.{Given, given_to, IsOverFile, IsOverLog, IsOverLoaded, file_of, IsOverBytes, IsSearchedFrom, IsOutputOf, IsOutputFor, is_run}
+use Rattle.bf_output.specs.Output.{tests, traces}
 use Rattle.bf_output.specs.Refusals.{usage, refusal}
 use Rattle.bf_output.specs.Replay.{replay_told}
 use Rattle.bf_output.specs.Sample.{sampled}
 use Rattle.bf_output.specs.Simulate.{IsRunTold, IsSimulated, plan_of, ran, run_over}
 use Rattle.bf_output.specs.declared.status.Status.TheVariants as status
-use Rattle.bf_output.specs.Tested.{Tested, IsTested, IsFrontOf, IsFrontIfTold, run_on, told_of_run}
+use Rattle.bf_output.specs.Tested.{Tested, IsTested, IsFrontIfTold, run_on, told_of_run}
 use Rattle.bf_output.specs.Traces.{course_of, traced_if}
 use Rattle.bf_output.proofs.Unused.{none_used, same_end}
 use Rattle.bf_output.specs.Told.{Told, told_by}
@@ -57,10 +59,6 @@ some_loading bytes limits =
 
 -- ---- over a history
 
--- the files of a shelf that tells them, and a tester
-abbrev pub told_given : List (List ℕ) → List ShelfFile → Tested → Given
-told_given words files tested = record { words = words; files = Some files; tested = tested }
-
 -- without a trace, a run over a plan that was not cut short is told in one way
 pub run_text : (request : Request) (words : List (List ℕ)) (history : History) (first : Begun) (told : Told) → request.trace ≡ false
     → told.status ≢ status.WriteFault → IsSimulated request words history first told
@@ -72,7 +70,7 @@ run_text request words history first told untraced whole (inr cut) = absurd (who
 module _ (told other : Told) (whole : told.status ≢ status.WriteFault) (also_whole : other.status ≢ status.WriteFault)
     (words : List (List ℕ)) (files : List ShelfFile) (tested : Tested) where
   abbrev given : Given
-  given = told_given words files tested
+  given = given_to words (Some files) tested
 
   one_from : (begun : Result Begun Told) (request : Request) (history : History) → request.trace ≡ false
       → IsSearchedFrom begun Simulate request words tested history told → IsSearchedFrom begun Simulate request words tested history other → told ≡ other
@@ -139,7 +137,8 @@ unused history first =
 
 -- the run on no answer at all
 nothing_tested : (request : Request) (tested : Tested) (history : History) (first : Begun) → tested.answers ≡ []
-    → IsTested request tested history first (traced_if request.trace history (one_failed history first) (told_of_run history first (run_on history first (nothing history))))
+    → IsTested request tested history first (traced_if request.trace history (one_failed history first)
+    (told_of_run history first (run_on history first (nothing history))))
 unfolding LegsLead
 nothing_tested request tested history first none = record {
   table = nothing history;
@@ -178,7 +177,7 @@ nothing_tested request tested history first none = record {
 
 module _ (words : List (List ℕ)) (files : List ShelfFile) (tested : Tested) (none : tested.answers ≡ []) where
   abbrev some_given : Given
-  some_given = told_given words files tested
+  some_given = given_to words (Some files) tested
 
   some_simulated : (begun : Result Begun Told) (request : Request) (history : History) → request.trace ≡ false
       → (told : Told) × IsSearchedFrom begun Simulate request words tested history told
@@ -200,7 +199,8 @@ module _ (words : List (List ℕ)) (files : List ShelfFile) (tested : Tested) (n
   some_over Gen request file history untraced = (generated request, refl)
   some_over Sample request file history untraced = (sampled request history, refl)
 
-  some_log : (replay : Option ℕ) (request : Request) (history : History) → request.trace ≡ false → (told : Told) × IsOverLog replay request some_given history told
+  some_log : (replay : Option ℕ) (request : Request) (history : History) → request.trace ≡ false
+      → (told : Told) × IsOverLog replay request some_given history told
   some_log None request history untraced = some_over request.verb request None history untraced
   some_log (Some i) request history untraced = some_over request.verb request (Some (file_of words i files)) history untraced
 

@@ -1,17 +1,20 @@
 -- The places that names mean are those of the history, and a range has a row of its length.
-use Rattle.std.proofs.Common.{◌≡◌, ℕ, zero, suc, ◌<◌, ◌==◌, not, ◌&&◌, Bool, true, false, cond, List, [], ◌∷◌, length, take, drop, codes, Option, Some, None, IfSome, Result, Ok, Err, IfOk, ◌+◌, refl, subst, sym, arith}
+use Rattle.std.proofs.Common.{◌≡◌, ℕ, zero, suc, ◌<◌, ◌==◌, not, ◌&&◌, Bool, true, false, cond, List, [], ◌∷◌, length, take, drop, codes, Option, Some, None}
+use Rattle.std.proofs.Common.{IfSome, Result, Ok, Err, IfOk, ◌+◌, refl, subst, sym, arith}
 use Rattle.std.proofs.lemmas.List.Elements.{All-filter, All-head, All-tail}
 use Rattle.std.proofs.lemmas.List.FromFn.{length-map-range_with_len}
 use Rattle.std.specs.List.{All, range_with_len, slice_get}
 use Rattle.std.specs.Option.{ok_or, option_and_then, option_map}
 use Rattle.bf_forest.specs.Files.{is_same}
-use Rattle.bf_grammar.specs.declared.object.Oid.{Oid}
-use Rattle.bf_grammar.specs.Object.{oid_of_hex}
+use Rattle.bf_oid.specs.declared.object.Oid.{Oid}
+use Rattle.bf_oid.specs.Object.{oid_of_hex}
 use Rattle.bf_graph.specs.Graph.{IsGraph, parents_of}
 use Rattle.bf_history.specs.Meanings.{History, place_named, ref_in}
 use Rattle.bf_names.specs.declared.fault.NameFault.{NameFault}
 use Rattle.bf_names.specs.declared.fault.NameFault.TheVariants.{Unknown, NoParent, BadForm}
-use Rattle.bf_names.specs.Names.{◌>>=◌, is_itself, is_base, number_of, step_of, steps_written, step_texts, all_steps, steps_of, right_steps, or_else, first_set, meanings, is_abbreviation, abbreviated, only_one, by_digits, by_ref, by_name, spelled_out, place_of_base, ancestor, parent, after_step, after_steps, place_of, name, row_of, between, first_at, range_at, range, base_of}
+use Rattle.bf_names.specs.Names.{◌>>=◌, is_itself, is_base, number_of, step_of, steps_written, step_texts, all_steps, steps_of, right_steps, or_else, first_set}
+use Rattle.bf_names.specs.Names.{meanings, is_abbreviation, abbreviated, only_one, by_digits, by_ref, by_name, spelled_out, place_of_base, ancestor, parent}
+use Rattle.bf_names.specs.Names.{after_step, after_steps, place_of, name, row_of, between, first_at, range_at, range, base_of}
 use Rattle.bf_search.specs.Reach.{reaches}
 use Rattle.bf_search.proofs.Turns.{range_within}
 use Rattle.bf_output.proofs.Loading.{IsWhole, value_is, named_below}

@@ -61,7 +61,8 @@ behind_log : (history : History) (file : Result (List ℕ) LoadFault) (bare : Be
 behind_log history file bare (Err told) is e = cc e
 behind_log history file bare (Ok replayed) is e = record { replayed = replayed; log = is_replayed history file replayed is; is = cc e }
 
-pub goes_on_behind : (history : History) (file : Result (List ℕ) LoadFault) (bare : Begun) → begun_by_log history file ≡ Ok bare → GoesOnBehind history file bare
+pub goes_on_behind : (history : History) (file : Result (List ℕ) LoadFault) (bare : Begun) → begun_by_log history file ≡ Ok bare
+    → GoesOnBehind history file bare
 unfolding begun_by_log
 goes_on_behind history file bare e = behind_log history file bare (replayed_log history file) refl e
 

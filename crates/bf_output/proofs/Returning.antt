@@ -9,7 +9,7 @@ use Rattle.bf_logs.specs.Back.{start_of, GivesBack, LeadsTo}
 use Rattle.bf_logs.specs.Cut.{AreKnown, GoesOnText}
 use Rattle.bf_logs.specs.Resolved.{AreRunEntries}
 use Rattle.bf_logs.specs.Replay.{Replayed}
-use Rattle.bf_logs.specs.Told.{Told, retold}
+use Rattle.bf_logs.specs.LogState.{LogState, retold}
 use Rattle.bf_logs.specs.Written.{known_after_all}
 use Rattle.bf_logs.proofs.Cut.{text_goes_on}
 use Rattle.bf_logs.proofs.Whole.{gives_back, log_leads, run_are}
@@ -83,8 +83,9 @@ module _ (history : History) (loaded : IsLoaded history) where
       → GoesOnFromStart history first known (run history.parents known None first.search)
   started_from first s known = record {
     told = record { search = first.search; entries = first.entries };
-    leads = subst (λ (text : List ℕ). LeadsTo (setting_of history) first.sides text (record { search = first.search; entries = first.entries })) (start_text first s)
-        (subst (λ (told : Told). LeadsTo (setting_of history) first.sides (log (commits_of history) first.sides (start_of s.start ∷ s.later)) told) s.lead
+    leads = subst (λ (text : List ℕ). LeadsTo (setting_of history) first.sides text (record { search = first.search; entries = first.entries }))
+        (start_text first s)
+        (subst (λ (told : LogState). LeadsTo (setting_of history) first.sides (log (commits_of history) first.sides (start_of s.start ∷ s.later)) told) s.lead
         (log_leads (setting_of history) (commits_of history) first.sides s.start
         (replayable history first.sides s.start (history_kept history loaded) s.sides s.ends) s.later s.are));
     printed = λ now k.
@@ -126,7 +127,8 @@ module _ (history : History) (loaded : IsLoaded history) where
           (replayed.told.entries ++ first.entries) loaded graph (file_accepted history file replayed r)
           (subst (AreRunEntries (length history.parents)) (sym same) s.are) (file_leads history file replayed r ends) lead
 
-      back : GivesBack (setting_of history) first.sides ((r.bytes ++ 10 ∷ []) ++ log_on history first there.entries) (replayed.told.entries ++ first.entries) there
+      back : GivesBack (setting_of history) first.sides ((r.bytes ++ 10 ∷ []) ++ log_on history first there.entries) (replayed.told.entries ++ first.entries)
+          there
       back = subst (λ (text : List ℕ). GivesBack (setting_of history) first.sides text (replayed.told.entries ++ first.entries) there)
           (sym (append_assoc r.bytes (10 ∷ []) (log_on history first there.entries)))
           (subst (λ (sides : Sides). GivesBack (setting_of history) sides

@@ -19,7 +19,8 @@ use Rattle.bf_output.specs.Told.{Told}
 
 -- where no test failed, the run has ended and is told as such
 closed : (history : History) (first : Begun) (run : Run) (end : End) → run.end ≡ end → is_test_fault (status_at_end end) ≡ false
-    → (is_open end ≡ false) × ((status_at_end end ≡ status_of_end end) × (lines_at_end (commits_of history) first.sides end ≡ answer_lines (commits_of history) first.sides end))
+    → (is_open end ≡ false) × ((status_at_end end ≡ status_of_end end)
+    × (lines_at_end (commits_of history) first.sides end ≡ answer_lines (commits_of history) first.sides end))
 closed history first run (Answered a) is h = (refl, (refl, refl))
 closed history first run Leg is h = (refl, (refl, refl))
 closed history first run (Open p) is h = absurd (both_ways true h refl)
@@ -47,15 +48,20 @@ pub run_told : (request : Request) (tested : Tested) (plan : List Outcome) (hist
 run_told request tested plan history first told e is h =
     let run = run_on history first is.table in
     let status = ap (λ (t : Told). t.status) is.tells ∙ status_of_traced request.trace history is.legs (told_of_run history first run) in
-    let ends = told_closed history first run (ap is_test_fault (sym status) ∙ h) in
-    (is.legs, is.tells ∙ ap (traced_if request.trace history is.legs) (ends.1 ∙ ap (ran history first) (by_plan tested.plan history first run plan e is.planned ends.0)))
+    let ends = told_closed history first run (ap is_test_fault (sym status) ∙ h) in (
+      is.legs,
+      is.tells ∙ ap (traced_if request.trace history is.legs)
+          (ends.1 ∙ ap (ran history first) (by_plan tested.plan history first run plan e is.planned ends.0)),
+    )
 
 -- ---- a run whose outcomes are told
 
-part_of_plan : (plan : List Outcome) (table : List (Option Outcome)) → TableFollows (Some plan) table → IsPartOf (outcomes_of_table table) (outcomes_of_plan plan)
+part_of_plan : (plan : List Outcome) (table : List (Option Outcome)) → TableFollows (Some plan) table
+    → IsPartOf (outcomes_of_table table) (outcomes_of_plan plan)
 part_of_plan plan table follows = λ p. at p (outcomes_of_table table p) (λ outcome e. follows p outcome e)
   where
-    at : (p : ℕ) (o : Option Outcome) → ((outcome : Outcome) → o ≡ Some outcome → outcome ≡ planned plan p) → IfSome o (λ outcome. outcomes_of_plan plan p ≡ Some outcome)
+    at : (p : ℕ) (o : Option Outcome) → ((outcome : Outcome) → o ≡ Some outcome → outcome ≡ planned plan p)
+        → IfSome o (λ outcome. outcomes_of_plan plan p ≡ Some outcome)
     at p None h = tt
     at p (Some outcome) h = ap (λ (x : Outcome). Some x) (sym (h outcome refl))
 

@@ -1,36 +1,31 @@
 -- The skips that words ask for are entries of a run, and lead to the search that they make.
-use Rattle.std.proofs.Common.{◌≡◌, ℕ, ◌<◌, true, List, [], ◌∷◌, ◌++◌, length, map, refl, sym, ap, subst, ◌∙◌, append_assoc, length-set}
+use Rattle.std.proofs.Common.{◌≡◌, ℕ, ◌<◌, true, List, [], ◌∷◌, ◌++◌, length, refl, sym, ap, subst, ◌∙◌, append_assoc, length-set}
 use Rattle.std.proofs.lemmas.List.{append-nil}
 use Rattle.std.proofs.lemmas.List.Elements.{All-head, All-tail}
 use Rattle.std.specs.List.{All}
 use Rattle.bf_search.specs.declared.entries.Entry.{Entry}
-use Rattle.bf_search.specs.declared.entries.Entry.TheVariants.{Marked, SkippedBase}
 use Rattle.bf_search.specs.declared.outcomes.Mark.TheVariants.{Skip}
 use Rattle.bf_search.specs.State.{Search, IsSearchOver, ask, mark}
 use Rattle.bf_state.proofs.Asks.{ask_leaves}
 use Rattle.bf_texts.specs.Texts.{Known}
 use Rattle.bf_logs.specs.Resolved.{AreRunEntries}
-use Rattle.bf_logs.specs.Told.{Told, retold}
+use Rattle.bf_logs.specs.LogState.{LogState, retold}
 use Rattle.bf_logs.specs.Written.{known_after_all}
 use Rattle.bf_logs.proofs.Entries.{retold_mark}
 use Rattle.bf_logs.proofs.Whole.{are_append, retold_append}
-use Rattle.bf_output.specs.Beginning.{Begun, with_skip, with_skips}
+use Rattle.bf_output.specs.Beginning.{Begun, skip_entries, with_skip, with_skips}
 
--- the entries of one skip
-abbrev one_skip : List ℕ → ℕ → List Entry
-one_skip warned p = map SkippedBase warned ++ Marked Skip p ∷ []
-
-one_are : (n : ℕ) (warned : List ℕ) (p : ℕ) → p < n → AreRunEntries n (one_skip warned p)
+one_are : (n : ℕ) (warned : List ℕ) (p : ℕ) → p < n → AreRunEntries n (skip_entries warned p)
 one_are n [] p h = (h, tt)
 one_are n (w ∷ warned) p h = one_are n warned p h
 
-one_known : (known : Known) (warned : List ℕ) (p : ℕ) (more : List Entry) → known_after_all known (one_skip warned p ++ more) ≡ known_after_all known more
+one_known : (known : Known) (warned : List ℕ) (p : ℕ) (more : List Entry) → known_after_all known (skip_entries warned p ++ more) ≡ known_after_all known more
 one_known known [] p more = refl
 one_known known (w ∷ warned) p more = one_known known warned p more
 
-one_told : (graph : List (List ℕ)) (told : Told) (p : ℕ)
-    → retold graph told (one_skip (ask graph told.search).step.warned p)
-    ≡ record { search = mark (ask graph told.search).search Skip p; entries = told.entries ++ one_skip (ask graph told.search).step.warned p }
+one_told : (graph : List (List ℕ)) (told : LogState) (p : ℕ)
+    → retold graph told (skip_entries (ask graph told.search).step.warned p)
+    ≡ record { search = mark (ask graph told.search).search Skip p; entries = told.entries ++ skip_entries (ask graph told.search).step.warned p }
 unfolding retold
 one_told graph told p = retold_mark graph told (ask graph told.search).step.warned Skip p []
 
@@ -69,7 +64,7 @@ are_skips graph first [] within = record {
   over = λ over. over;
 }
 are_skips graph first (p ∷ ps) within =
-    let one : List Entry = one_skip (ask graph first.search).step.warned p in
+    let one : List Entry = skip_entries (ask graph first.search).step.warned p in
     let rest : AreSkips graph (with_skip graph first p) (with_skips graph (with_skip graph first p) ps) =
     are_skips graph (with_skip graph first p) ps (All-tail (λ q. q < length graph) p ps within) in
     record {
@@ -79,9 +74,10 @@ are_skips graph first (p ∷ ps) within =
           (one_are (length graph) (ask graph first.search).step.warned p (All-head (λ q. q < length graph) p ps within)) rest.are;
       lead = λ earlier.
           retold_append graph (record { search = first.search; entries = earlier }) one rest.more
-          ∙ ap (λ (t : Told). retold graph t rest.more) (one_told graph (record { search = first.search; entries = earlier }) p)
+          ∙ ap (λ (t : LogState). retold graph t rest.more) (one_told graph (record { search = first.search; entries = earlier }) p)
           ∙ rest.lead (earlier ++ one)
-          ∙ ap (λ (es : List Entry). record { search = (with_skips graph (with_skip graph first p) ps).search; entries = es }) (append_assoc earlier one rest.more);
+          ∙ ap (λ (es : List Entry). record { search = (with_skips graph (with_skip graph first p) ps).search; entries = es })
+          (append_assoc earlier one rest.more);
       same_sides = rest.same_sides;
       same_known = rest.same_known;
       tell_nothing = λ known. one_known known (ask graph first.search).step.warned p rest.more ∙ rest.tell_nothing known;

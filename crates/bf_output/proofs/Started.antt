@@ -8,7 +8,7 @@ use Rattle.bf_kept.specs.Laws.{AreSides, AreEnds}
 use Rattle.bf_logs.specs.Back.{Begin, start_of, told_of}
 use Rattle.bf_logs.specs.Cut.{AreKnown}
 use Rattle.bf_logs.specs.Resolved.{AreRunEntries, FitsStart}
-use Rattle.bf_logs.specs.Told.{Told, retold}
+use Rattle.bf_logs.specs.LogState.{LogState, retold}
 use Rattle.bf_logs.specs.Written.{known_after_all}
 use Rattle.bf_logs.proofs.Goods.{goods_again}
 use Rattle.bf_search.specs.declared.entries.Entry.{Entry}
@@ -55,7 +55,8 @@ module _ (request : Request) (history : History) (accepted : IfSome request.term
   bare_of : ℕ → List ℕ → Begun
   bare_of p goods = between_ends request (length history.parents) (Some p) goods
 
-  told_again : (p : ℕ) (goods : List ℕ) → told_of history.parents (start p goods) ≡ record { search = (bare_of p goods).search; entries = (bare_of p goods).entries }
+  told_again : (p : ℕ) (goods : List ℕ) → told_of history.parents (start p goods) ≡ record
+      { search = (bare_of p goods).search; entries = (bare_of p goods).entries }
   unfolding start bare_of
   told_again p goods =
       ap (λ (gs : List ℕ). record {
@@ -89,7 +90,7 @@ module _ (request : Request) (history : History) (accepted : IfSome request.term
     nothing = s.same_known;
     both = subst AreKnown (sym (s.tell_nothing (record { bad = true; goods = with_goods [] (with_goods [] goods) })))
         (record { bad = refl; goods = ap (λ (gs : List ℕ). nat_lt 0 (length gs)) (goods_again goods) ∙ some });
-    lead = ap (λ (t : Told). retold history.parents t s.more) (told_again p goods)
+    lead = ap (λ (t : LogState). retold history.parents t s.more) (told_again p goods)
         ∙ s.lead (bare_of p goods).entries
         ∙ ap (λ (es : List Entry). record { search = (with_skips history.parents (bare_of p goods) places).search; entries = es }) (sym s.entries);
     over = s.over (IsSearchOver-from_below history.parents (length history.parents) (bare_of p goods).search refl

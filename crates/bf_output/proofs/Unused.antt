@@ -4,7 +4,7 @@ use Rattle.bf_search.specs.declared.asks.Ask.{Ask}
 use Rattle.bf_search.specs.declared.asks.Ask.TheVariants.{WaitBoth, WaitBad, WaitGood, Test, MergeBaseBad, GoodNotAncestor, BothSides, FirstBad, OnlySkipped}
 use Rattle.bf_search.specs.declared.outcomes.Outcome.{Outcome}
 use Rattle.bf_search.specs.Outcomes.{Outcomes}
-use Rattle.bf_search.specs.Run.{Run, after_look, after_step, turn, run_within, run, seq}
+use Rattle.bf_search.specs.Run.{Run, after_look, after_step, turn, run_within, run, one_at_a_time}
 use Rattle.bf_search.specs.State.{Search, ask}
 
 module _ (graph : List (List ℕ)) (known : Outcomes) (none : (p : ℕ) → known p ≡ None) where
@@ -29,7 +29,7 @@ module _ (graph : List (List ℕ)) (known : Outcomes) (none : (p : ℕ) → know
   by_turns zero left s = refl
   by_turns (suc turns) left s = by_left (run_within turns graph known) left s
 
-  pub none_used : (s : Search) (k : ℕ) → (seq graph s known k).used ≡ []
+  pub none_used : (s : Search) (k : ℕ) → (one_at_a_time graph s known k).used ≡ []
   unfolding run
   none_used s k = by_turns _ _ s
 
@@ -51,7 +51,7 @@ module _ (graph : List (List ℕ)) (known : Outcomes) (none : (p : ℕ) → know
   unfolding run_within
   end_in_turns turns k s = end_by_step (run_within turns graph known) (Some (suc k)) None (ask graph s).search (ask graph s).step.ask
 
-  pub same_end : (s : Search) (k : ℕ) → (seq graph s known k).end ≡ (seq graph s known 0).end
+  pub same_end : (s : Search) (k : ℕ) → (one_at_a_time graph s known k).end ≡ (one_at_a_time graph s known 0).end
   unfolding run
   same_end s zero = refl
   same_end s (suc k) = end_in_turns (length graph) k s

@@ -1,6 +1,6 @@
 -- How a search begins: with the ends that words name or with a log that is replayed, and the commits that --skip names.
 use Rattle.std.specs.Prelude.{ℕ, Bool, ◌&&◌, nat_lt, if◌then◌else◌, List, [], ◌∷◌, ◌++◌, length, map, Option, Some, None, is_some, Result, Ok, Err}
-use Rattle.bf_grammar.specs.declared.object.Oid.{Oid}
+use Rattle.bf_oid.specs.declared.object.Oid.{Oid}
 use Rattle.bf_history.specs.Meanings.{History}
 use Rattle.bf_names.specs.declared.fault.NameFault.{NameFault}
 use Rattle.bf_names.specs.Names.{name, range}
@@ -112,11 +112,15 @@ abbrev pub begun_by : Request → List (List ℕ) → Option (Result (List ℕ) 
 begun_by request words None history = begun_by_words request words history
 begun_by request words (Some file) history = begun_by_log history file
 
--- A place is skipped, whatever is asked: the skipped merge bases that the question passes over come before its entry.
+-- the entries of a skip: the skipped merge bases that are passed over come before its own
+abbrev pub skip_entries : List ℕ → ℕ → List Entry
+skip_entries warned p = map SkippedBase warned ++ Marked Skip p ∷ []
+
+-- A place is skipped, whatever is asked.
 abbrev pub with_skip : List (List ℕ) → Begun → ℕ → Begun
 with_skip graph first p = record first {
   search = mark (ask graph first.search).search Skip p;
-  entries = first.entries ++ (map SkippedBase (ask graph first.search).step.warned ++ Marked Skip p ∷ []);
+  entries = first.entries ++ skip_entries (ask graph first.search).step.warned p;
 }
 
 unfoldable pub with_skips : List (List ℕ) → Begun → List ℕ → Begun

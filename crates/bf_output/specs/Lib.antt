@@ -11,5 +11,6 @@ pub mod Tested
 pub mod Output
 pub mod Logs
 pub mod Replay
+pub mod Laws
 pub mod Returning
 pub mod Logged

@@ -22,18 +22,7 @@ EndsSearch status.MergeBaseBad = Unit {0}
 EndsSearch status.GoodNotAncestor = Unit {0}
 EndsSearch status.BothSides = Unit {0}
 EndsSearch status.Aborted = Unit {0}
-EndsSearch (status.Usage word) = ⊥
-EndsSearch (status.StreamRefused line kind) = ⊥
-EndsSearch (status.NameRefused word fault) = ⊥
-EndsSearch (status.TooLarge what) = ⊥
-EndsSearch (status.LogRefused line) = ⊥
-EndsSearch (status.TestFault place) = ⊥
-EndsSearch status.ReadFault = ⊥
-EndsSearch status.WriteFault = ⊥
-EndsSearch status.ShelfFault = ⊥
-EndsSearch status.NoMemory = ⊥
-EndsSearch status.NoFile = ⊥
-EndsSearch status.Waiting = ⊥
+EndsSearch other = ⊥
 
 -- what the shelf gives for the word of --replay
 abbrev pub file_given : Request → List (List ℕ) → List ShelfFile → FileGiven

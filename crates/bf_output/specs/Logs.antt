@@ -1,5 +1,5 @@
 -- A log that is replayed: its file is loaded, read and replayed, in this order.
-use Rattle.std.specs.Prelude.{ℕ, List, Option, Some, None, Result, Ok, Err}
+use Rattle.std.specs.Prelude.{ℕ, List, Result, Ok, Err}
 use Rattle.bf_grammar.specs.declared.fault.Limit.TheVariants.{Log}
 use Rattle.bf_history.specs.Meanings.{History}
 use Rattle.bf_logs.specs.Replay.{Replayed, ReplayFault, Name, NotStarted, Term}
@@ -33,8 +33,12 @@ replayed_or_refusal (Err (Name line fault)) = Err (log_refused line)
 replayed_or_refusal (Err (NotStarted line)) = Err (log_refused line)
 replayed_or_refusal (Err (Term line)) = Err (log_refused line)
 
+-- what command lines lead to, or their refusal
+abbrev pub replayed_by : History → List LogLine → Result Replayed Told
+replayed_by history lines = replayed_or_refusal (replay_in history lines)
+
 unfoldable pub replayed_log : History → Result (List ℕ) LoadFault → Result Replayed Told
 replayed_log history file =
     file_or_refusal file
     >>= λ bytes. lines_or_refusal (read_log bytes)
-    >>= λ lines. replayed_or_refusal (replay_in history lines)
+    >>= λ lines. replayed_by history lines

@@ -1,11 +1,10 @@
 -- The command `next`: what a search would test next.
-use Rattle.std.specs.Prelude.{ℕ, List, [], ◌∷◌, ◌++◌, map, Option, Result, Ok}
+use Rattle.std.specs.Prelude.{ℕ, List, ◌++◌, map, Option, Result, Ok}
+use Rattle.bf_search.specs.Ends.{end_entries}
 use Rattle.bf_history.specs.Meanings.{History}
-use Rattle.bf_search.specs.declared.asks.Ask.{Ask}
-use Rattle.bf_search.specs.declared.asks.Ask.TheVariants as ask
 use Rattle.bf_search.specs.declared.asks.Step.{Step}
 use Rattle.bf_search.specs.declared.entries.Entry.{Entry}
-use Rattle.bf_search.specs.declared.entries.Entry.TheVariants.{SkippedBase, FirstBadFound, OnlySkippedLeft}
+use Rattle.bf_search.specs.declared.entries.Entry.TheVariants.{SkippedBase}
 use Rattle.bf_search.specs.State as searches
 use Rattle.bf_shelf.specs.declared.shelf.LoadFault.{LoadFault}
 use Rattle.bf_texts.specs.Texts.{ask_lines}
@@ -13,18 +12,6 @@ use Rattle.bf_words.specs.declared.request.Request.{Request}
 use Rattle.bf_output.specs.Beginning.{Begun, commits_of, log_on, begun_with_skips}
 use Rattle.bf_output.specs.Simulate.{status_of_ask}
 use Rattle.bf_output.specs.Told.{Told, ◌>>=◌}
-
--- the entry of an ask that ends the search
-abbrev pub end_entries : Ask → List Entry
-end_entries ask.WaitBoth = []
-end_entries ask.WaitBad = []
-end_entries ask.WaitGood = []
-end_entries (ask.Test p) = []
-end_entries (ask.MergeBaseBad p) = []
-end_entries (ask.GoodNotAncestor p) = []
-end_entries (ask.BothSides p) = []
-end_entries (ask.FirstBad p) = FirstBadFound p ∷ []
-end_entries (ask.OnlySkipped ps) = OnlySkippedLeft ps ∷ []
 
 -- the entries that one ask writes: the skipped merge bases that it passes over, and its end
 abbrev pub asked_entries : Step → List Entry

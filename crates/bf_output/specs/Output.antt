@@ -29,6 +29,9 @@ pub record Given : Type 0 where
   pub files : Option (List ShelfFile)  -- where the shelf tells them
   pub tested : Tested
 
+abbrev pub given_to : List (List ℕ) → Option (List ShelfFile) → Tested → Given
+given_to words files tested = record { words = words; files = files; tested = tested }
+
 -- ---- over a history
 
 -- what a search tells that has begun: over a plan that is written, or by tests; the other commands begin none

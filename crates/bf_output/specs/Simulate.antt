@@ -8,7 +8,7 @@ use Rattle.bf_search.specs.declared.outcomes.Outcome.{Outcome}
 use Rattle.bf_search.specs.declared.outcomes.Outcome.TheVariants.{Exit}
 use Rattle.bf_runs.specs.Legs.{Legs, AreLegs, AreTestsOf, all_of}
 use Rattle.bf_search.specs.Outcomes.{lenient, outcome_of_letter, outcomes_of_plan, outcomes_of_table}
-use Rattle.bf_search.specs.Run.{End, Answered, Leg, Open, Aborted, Run, seq}
+use Rattle.bf_search.specs.Run.{End, Answered, Leg, Open, Aborted, Run, one_at_a_time}
 use Rattle.bf_texts.specs.Texts.{answer_lines}
 use Rattle.bf_words.specs.declared.request.Request.{Request}
 use Rattle.bf_words.specs.Words.{word_or}
@@ -58,7 +58,7 @@ ran history first run = record {
 }
 
 abbrev pub run_over : History → Begun → List Outcome → Run
-run_over history first plan = seq history.parents first.search (outcomes_of_plan plan) 0
+run_over history first plan = one_at_a_time history.parents first.search (outcomes_of_plan plan) 0
 
 -- ---- a search over a plan, leg by leg and with several workers
 
@@ -69,7 +69,7 @@ pub record IsTracedRun (request : Request) (plan : List Outcome) (history : Hist
   pub legs : Legs
   pub are : AreLegs (course_of request history first) legs table
   pub planned : TableFollows (Some plan) table
-  pub knows : seq history.parents first.search (outcomes_of_table table) 0 ≡ run_over history first plan
+  pub knows : one_at_a_time history.parents first.search (outcomes_of_table table) 0 ≡ run_over history first plan
   pub alone : request.workers ≤ 1 → AreTestsOf (run_over history first plan) (all_of legs)
   pub tells : told ≡ traced history legs (ran history first (run_over history first plan))
 

@@ -5,9 +5,10 @@ use Rattle.bf_log.specs.Trace.{failed_test_line}
 use Rattle.bf_runs.specs.Legs.{Legs, IsOver}
 use Rattle.bf_search.specs.declared.outcomes.Outcome.{Outcome}
 use Rattle.bf_search.specs.Outcomes.{outcomes_of_table}
-use Rattle.bf_search.specs.Run.{End, Answered, Leg, Open, Aborted, Run, seq}
+use Rattle.bf_search.specs.Run.{End, Answered, Leg, Open, Aborted, Run, one_at_a_time}
 use Rattle.bf_state.specs.Runs.{GoesOn, is_open}
 use Rattle.bf_tester.specs.declared.answer.Answer.{Answer}
+use Rattle.bf_tester.specs.declared.tester.Tester.{Ghosts}
 use Rattle.bf_tester.specs.Plans.{PreparesTold}
 use Rattle.bf_texts.specs.Texts.{Commits, Sides, answer_lines}
 use Rattle.bf_words.specs.declared.request.Request.{Request}
@@ -28,14 +29,21 @@ pub record Tested : Type 0 where
   pub failed : Option ℕ
   pub is_split : Bool
 
-abbrev pub tested_by : {T : Type 0} → (T → Option (List Outcome)) → (T → List (List ℕ)) → (T → Bool) → (T → List Answer) → (T → ℕ) → (T → Option ℕ)
-    → (T → Bool) → T → Tested
-tested_by told command is_lenient answers faults failed is_split t =
-    record { plan = told t; command = command t; is_lenient = is_lenient t; answers = answers t; faults = faults t; failed = failed t; is_split = is_split t }
+-- what a tester shows, by the ghost members of its type
+abbrev pub tested_by : {T : Type 0} → Ghosts T → T → Tested
+tested_by by t = record {
+  plan = by.told t;
+  command = by.command t;
+  is_lenient = by.is_lenient t;
+  answers = by.answers t;
+  faults = by.faults t;
+  failed = by.failed t;
+  is_split = by.is_split t;
+}
 
 -- the run on what is known
 abbrev pub run_on : History → Begun → List (Option Outcome) → Run
-run_on history first table = seq history.parents first.search (outcomes_of_table table) 0
+run_on history first table = one_at_a_time history.parents first.search (outcomes_of_table table) 0
 
 -- how a run ends: one that waits for an outcome ends with the fault of that test
 abbrev pub status_at_end : End → Status
@@ -104,21 +112,5 @@ IsUsed request words before after = (after ≡ before) ⊎ IsPrepared request wo
 
 -- whether a status says that a test could not be made
 abbrev pub is_test_fault : Status → Bool
-is_test_fault status.Done = false
-is_test_fault (status.Usage word) = false
-is_test_fault status.OnlySkipped = false
-is_test_fault status.MergeBaseBad = false
-is_test_fault status.GoodNotAncestor = false
-is_test_fault status.BothSides = false
-is_test_fault status.Aborted = false
-is_test_fault (status.StreamRefused line kind) = false
-is_test_fault (status.NameRefused word fault) = false
-is_test_fault (status.TooLarge what) = false
-is_test_fault (status.LogRefused line) = false
 is_test_fault (status.TestFault place) = true
-is_test_fault status.ReadFault = false
-is_test_fault status.WriteFault = false
-is_test_fault status.ShelfFault = false
-is_test_fault status.NoMemory = false
-is_test_fault status.NoFile = false
-is_test_fault status.Waiting = false
+is_test_fault other = false

@@ -1,5 +1,6 @@
 -- What a text between quotes spells, piece by piece.
-use Rattle.std.proofs.Common.{◌≡◌, ℕ, zero, suc, ◌+◌, ◌-◌, ◌<◌, ◌≤◌, List, [], ◌∷◌, ◌++◌, length, take, drop, get_or, Option, Some, None, refl, sym, ap, ◌∙◌, append_assoc, length-drop, arith}
+use Rattle.std.proofs.Common.{◌≡◌, ℕ, zero, suc, ◌+◌, ◌-◌, ◌<◌, ◌≤◌, List, [], ◌∷◌, ◌++◌, length, take, drop, get_or, Option, Some, None, refl, sym, ap, ◌∙◌}
+use Rattle.std.proofs.Common.{append_assoc, length-drop, arith}
 use Rattle.std.specs.Option.{option_map}
 use Rattle.std.proofs.lemmas.List.{drop-drop, drop_all, append-nil}
 use Rattle.bf_paths.specs.declared.spelling.Piece.{Piece}
@@ -16,7 +17,8 @@ unquoted-passed (byte ∷ text) (suc n) = unquoted-passed text n
 abbrev pub followed_by : List ℕ → Option (List ℕ) → Option (List ℕ)
 followed_by bytes rest = option_map (λ more. bytes ++ more) rest
 
-followed_by-push : (bytes : List ℕ) (byte : ℕ) (rest : Option (List ℕ)) → followed_by bytes (option_map (λ more. byte ∷ more) rest) ≡ followed_by (bytes ++ byte ∷ []) rest
+followed_by-push : (bytes : List ℕ) (byte : ℕ) (rest : Option (List ℕ))
+    → followed_by bytes (option_map (λ more. byte ∷ more) rest) ≡ followed_by (bytes ++ byte ∷ []) rest
 followed_by-push bytes byte None = refl
 followed_by-push bytes byte (Some more) = ap Some (sym (append_assoc bytes (byte ∷ []) more))
 

@@ -1,5 +1,6 @@
 -- A path is read back from its quoted text.
-use Rattle.std.proofs.Common.{◌≡◌, ℕ, zero, suc, ◌+◌, ◌-◌, ◌*◌, ◌/◌, ◌%◌, ◌<◌, ◌≤◌, Bool, true, false, ◌&&◌, ◌||◌, ◌==◌, ltb, leb, eqb, List, [], ◌∷◌, ◌++◌, length, Option, Some, None, refl, sym, ap, ◌∙◌, append_assoc, cond, arith, rules, ◌⊎◌, inl, inr}
+use Rattle.std.proofs.Common.{◌≡◌, ℕ, zero, suc, ◌+◌, ◌-◌, ◌*◌, ◌/◌, ◌%◌, ◌<◌, ◌≤◌, Bool, true, false, ◌&&◌, ◌||◌, ◌==◌, ltb, leb, eqb, List, [], ◌∷◌, ◌++◌}
+use Rattle.std.proofs.Common.{length, Option, Some, None, refl, sym, ap, ◌∙◌, append_assoc, cond, arith, rules, ◌⊎◌, inl, inr}
 use Rattle.std.specs.List.{flat_map, list_all}
 use Rattle.std.specs.Option.{option_map, option_and_then}
 use Rattle.std.proofs.lemmas.Bool.{and_parts, ltb-true, cases_Bool, le-leb, lt-leb, ne_eqb, cond-true, cond-false}
@@ -7,7 +8,8 @@ use Rattle.std.proofs.lemmas.Bool.Decides.{nat_tests}
 use Rattle.bf_paths.specs.declared.spelling.Piece.{Piece}
 use Rattle.bf_paths.specs.declared.spelling.Piece.TheVariants.{Byte, Closed, Bad}
 use Rattle.bf_paths.specs.Components.{is_component, is_path, path_text, path_of}
-use Rattle.bf_paths.specs.Quoting.{letter_value, letter_of, is_octal, octal_number, octal_piece, letter_piece, escape_piece, piece_of, unquoted, behind_piece, plain, path_value, octal_digits, spelled, spelled_by, quoted}
+use Rattle.bf_paths.specs.Quoting.{letter_value, letter_of, is_octal, octal_number, octal_piece, letter_piece, escape_piece, piece_of, unquoted, behind_piece}
+use Rattle.bf_paths.specs.Quoting.{plain, path_value, octal_digits, spelled, spelled_by, quoted}
 use Rattle.bf_paths.proofs.Splitting.{are_bytes, are_bytes-path_text, path_of-path_text}
 
 -- the letter of a byte stands for it

@@ -4,7 +4,7 @@ use Rattle.bf_io.specs.Told.{Appends, AppendsFront}
 use Rattle.bf_io.proofs.Told.{AppendsFront-all}
 use Rattle.bf_output.specs.declared.status.Status.{Status}
 use Rattle.bf_output.specs.declared.status.Status.TheVariants as status
-use Rattle.bf_output.specs.Output.{IsOutput, IsOutputFor, IsOutputOf, asks_file, reads, reads_stream}
+use Rattle.bf_output.specs.Output.{IsOutput, IsOutputFor, IsOutputOf, asks_file, given_to, reads, reads_stream}
 use Rattle.bf_output.specs.Refusals.{usage}
 use Rattle.bf_output.specs.Tested.{Tested}
 use Rattle.bf_output.specs.Told.{Told}
@@ -13,66 +13,40 @@ use Rattle.bf_words.specs.declared.request.WordFault.{WordFault}
 use Rattle.bf_words.specs.declared.request.WordFault.TheVariants.{At}
 use Rattle.bf_words.specs.declared.request.WordFault.TheVariants as words
 use Rattle.bf_words.specs.Words as asked
-use Rattle.bf_program.specs.declared.answer.Cut.{Cut}
-use Rattle.bf_program.specs.declared.answer.Cut.TheVariants.{Read, Shelf, NoMemory}
+use Rattle.bf_program.specs.declared.answer.Fault.{Fault}
+use Rattle.bf_program.specs.declared.answer.Fault.TheVariants.{Read, Shelf, NoMemory}
 use Rattle.bf_program.specs.declared.ready.Ready.{Ready}
-use Rattle.bf_program.specs.Answers.{Met, HasFailed, OutputOf, IsUnread, IsUnloaded, IsDue, Answers, IsWhole, HasCause, given_to}
+use Rattle.bf_program.specs.Answers.{OutputOf, IsUnread, IsUnloaded, IsDue, Answers, IsWhole, HasCause}
+use Rattle.bf_program.specs.Devices.{Met, HasFailed, given_in}
 use Rattle.bf_program.specs.Searching.{AllTold, Tells, Concludes, IsConcluded, IsRefused}
 
 -- a whole answer has its cause
 pub whole_cause : (asks : Bool) (before : ℕ) (after : Tested) (s : Status) → IsWhole s → HasCause asks before after s
-whole_cause asks before after status.ReadFault w = w
-whole_cause asks before after status.WriteFault w = w
-whole_cause asks before after status.NoMemory w = w
-whole_cause asks before after status.ShelfFault w = w
-whole_cause asks before after status.Done w = w
-whole_cause asks before after (status.Usage word) w = w
-whole_cause asks before after status.OnlySkipped w = w
-whole_cause asks before after status.MergeBaseBad w = w
-whole_cause asks before after status.GoodNotAncestor w = w
-whole_cause asks before after status.BothSides w = w
-whole_cause asks before after status.Aborted w = w
-whole_cause asks before after (status.StreamRefused line kind) w = w
-whole_cause asks before after (status.NameRefused word fault) w = w
-whole_cause asks before after (status.TooLarge what) w = w
-whole_cause asks before after (status.LogRefused line) w = w
 whole_cause asks before after (status.TestFault place) w = absurd w
-whole_cause asks before after status.NoFile w = w
-whole_cause asks before after status.Waiting w = w
+whole_cause asks before after other w = w
 
 -- ---- what was written
 
 -- the whole text of an output
-written_whole : (met : Met) (text : List ℕ) (s : Status) → s ≢ status.ReadFault → s ≢ status.ShelfFault → OutputOf met.given met.left s text
-    → Appends met.before met.after text → Answers met s
+written_whole : (met : Met) (text : List ℕ) (s : Status) → s ≢ status.ReadFault → s ≢ status.ShelfFault → OutputOf met s text
+    → Appends met.sink.before met.sink.after text → Answers met s
 written_whole met text status.ReadFault r f o a = absurd (r refl)
 written_whole met text status.ShelfFault r f o a = absurd (f refl)
-written_whole met text status.WriteFault r f o a = (text, inl (status.WriteFault, o), AppendsFront-all met.before met.after text a)
-written_whole met text status.NoMemory r f o a = inr (text, inl (status.NoMemory, o), AppendsFront-all met.before met.after text a)
-written_whole met text status.Done r f o a = (text, o, a)
-written_whole met text (status.Usage word) r f o a = (text, o, a)
-written_whole met text status.OnlySkipped r f o a = (text, o, a)
-written_whole met text status.MergeBaseBad r f o a = (text, o, a)
-written_whole met text status.GoodNotAncestor r f o a = (text, o, a)
-written_whole met text status.BothSides r f o a = (text, o, a)
-written_whole met text status.Aborted r f o a = (text, o, a)
-written_whole met text (status.StreamRefused line kind) r f o a = (text, o, a)
-written_whole met text (status.NameRefused word fault) r f o a = (text, o, a)
-written_whole met text (status.TooLarge what) r f o a = (text, o, a)
-written_whole met text (status.LogRefused line) r f o a = (text, o, a)
-written_whole met text (status.TestFault place) r f o a = (text, o, a)
-written_whole met text status.NoFile r f o a = (text, o, a)
-written_whole met text status.Waiting r f o a = (text, o, a)
+written_whole met text status.WriteFault r f o a =
+    (text, inl (status.WriteFault, o), AppendsFront-all met.sink.before met.sink.after text a)
+written_whole met text status.NoMemory r f o a =
+    inr (text, inl (status.NoMemory, o), AppendsFront-all met.sink.before met.sink.after text a)
+written_whole met text other r f o a = (text, o, a)
 
 -- a front of a text that was due
 cut_answer : (met : Met) (text : List ℕ) (result : Status) → IsDue met text → (result ≡ status.WriteFault) ⊎ (result ≡ status.NoMemory)
-    → AppendsFront met.before met.after text → Answers met result
+    → AppendsFront met.sink.before met.sink.after text → Answers met result
 cut_answer met text result due (inl e) front = subst (Answers met) (sym e) (text, due, front)
 cut_answer met text result due (inr e) front = subst (Answers met) (sym e) (inr (text, due, front))
 
 -- an output was written, or a front of it, or nothing
 written_output : (met : Met) (result : Status) → result ≢ status.ReadFault → result ≢ status.ShelfFault
-    → IsConcluded (λ told. IsOutput met.given met.left told) met.before met.after result → Answers met result
+    → IsConcluded (λ told. IsOutput (given_in met) met.source.left told) met.sink.before met.sink.after result → Answers met result
 written_output met result r f (inl (told, is, inl (e, all))) =
     subst (Answers met) (sym e)
     (written_whole met told.text told.status (λ k. r (e ∙ k)) (λ k. f (e ∙ k)) is all)
@@ -86,25 +60,26 @@ mapped Is Other before after result h (inr rest) = inr rest
 
 -- ---- the words ask for something
 
-module _ (met : Met) (request : Request) (result : Status) (read : asked.request met.given.words ≡ Ok request) where
-  is_output : (told : Told) → IsOutputOf request.verb request met.given met.left told → IsOutput met.given met.left told
-  is_output told is = subst (λ (r : Result Request ℕ). IsOutputFor r met.given met.left told) (sym read) is
+module _ (met : Met) (request : Request) (result : Status) (read : asked.request met.words ≡ Ok request) where
+  is_output : (told : Told) → IsOutputOf request.verb request (given_in met) met.source.left told → IsOutput (given_in met) met.source.left told
+  is_output told is = subst (λ (r : Result Request ℕ). IsOutputFor r (given_in met) met.source.left told) (sym read) is
 
-  pub unread : IsTrue (reads_stream request.verb) → HasFailed met.stream → IsUnread met
+  pub unread : IsTrue (reads_stream request.verb) → HasFailed met.source.faults → IsUnread met
   unread h failed = (subst (λ (r : Result Request ℕ). IsTrue (reads r)) (sym read) h, failed)
 
-  pub unloaded : IsTrue (is_some request.replay) → HasFailed met.shelf → IsUnloaded met
+  pub unloaded : IsTrue (is_some request.replay) → HasFailed met.shelf.faults → IsUnloaded met
   unloaded h failed = (subst (λ (r : Result Request ℕ). IsTrue (asks_file r)) (sym read) h, failed)
 
-  pub answered : (ready : Result Ready Cut)
-      → IfOk ready (λ r. AllTold request met.given.words r (λ tested told. IsOutputOf request.verb request (given_to met.given.words met.given.files tested) met.left told))
+  pub answered : (ready : Result Ready Fault)
+      → IfOk ready (λ r. AllTold request met.words r
+      (λ tested told. IsOutputOf request.verb request (given_to met.words met.shelf.files tested) met.source.left told))
       → (IsErrOf ready Read → IsUnread met) → (IsErrOf ready Shelf → IsUnloaded met)
       → IfOk ready (λ _. (result ≢ status.ReadFault) × (result ≢ status.ShelfFault))
-      → Concludes request met.given.words met.given.tested ready met.before met.after result → Answers met result
+      → Concludes request met.words met.tester.after ready met.sink.before met.sink.after result → Answers met result
   answered (Ok ready) output no_read no_file own told =
       written_output met result own.0 own.1
-      (mapped (Tells request met.given.words met.given.tested ready) (λ t. IsOutput met.given met.left t) met.before met.after result
-      (λ t is. is_output t (output met.given.tested t is)) told)
+      (mapped (Tells request met.words met.tester.after ready) (λ t. IsOutput (given_in met) met.source.left t) met.sink.before met.sink.after result
+      (λ t is. is_output t (output met.tester.after t is)) told)
   answered (Err Read) output is_unread no_file own (inl (e, a)) = subst (Answers met) (sym e) (is_unread refl, a)
   answered (Err Read) output is_unread no_file own (inr (e, front)) = cut_answer met _ result (inr (inl (is_unread refl, refl))) e front
   answered (Err Shelf) output no_read is_unloaded own (inl (e, a)) = subst (Answers met) (sym e) (is_unloaded refl, a)
@@ -113,25 +88,25 @@ module _ (met : Met) (request : Request) (result : Status) (read : asked.request
 
 -- ---- the words are refused
 
-pub refused_words : (met : Met) (fault : WordFault) (word : ℕ) (result : Status) → fault ≡ At word → asked.request met.given.words ≡ Err word
-    → result ≢ status.ReadFault → result ≢ status.ShelfFault → IsRefused fault met.before met.after result → Answers met result
+pub refused_words : (met : Met) (fault : WordFault) (word : ℕ) (result : Status) → fault ≡ At word → asked.request met.words ≡ Err word
+    → result ≢ status.ReadFault → result ≢ status.ShelfFault → IsRefused fault met.sink.before met.sink.after result → Answers met result
 refused_words met fault word result is read r f refused =
     written_output met result r f
-    (mapped (λ told. told ≡ usage word) (λ t. IsOutput met.given met.left t) met.before met.after result
-    (λ t same. subst (λ (q : Result Request ℕ). IsOutputFor q met.given met.left t) (sym read) same)
-    (subst (λ (x : WordFault). IsRefused x met.before met.after result) is refused))
+    (mapped (λ told. told ≡ usage word) (λ t. IsOutput (given_in met) met.source.left t) met.sink.before met.sink.after result
+    (λ t same. subst (λ (q : Result Request ℕ). IsOutputFor q (given_in met) met.source.left t) (sym read) same)
+    (subst (λ (x : WordFault). IsRefused x met.sink.before met.sink.after result) is refused))
 
-pub refused_any : (met : Met) (fault : WordFault) (result : Status) → asked.IsRead (asked.request met.given.words) (Err fault)
-    → (result ≢ status.ReadFault) × (result ≢ status.ShelfFault) → IsRefused fault met.before met.after result → Answers met result
+pub refused_any : (met : Met) (fault : WordFault) (result : Status) → asked.IsRead (asked.request met.words) (Err fault)
+    → (result ≢ status.ReadFault) × (result ≢ status.ShelfFault) → IsRefused fault met.sink.before met.sink.after result → Answers met result
 refused_any met (At word) result read own refused = refused_words met (At word) word result refl read own.0 own.1 refused
 refused_any met words.NoMemory result read own (e, kept) = subst (Answers met) (sym e) (inl kept)
 
 -- ---- causes
 
 -- a read fault is answered only where the source failed
-pub read_cause : (met : Met) (result : Status) → Answers met result → result ≡ status.ReadFault → HasFailed met.stream
+pub read_cause : (met : Met) (result : Status) → Answers met result → result ≡ status.ReadFault → HasFailed met.source.faults
 read_cause met result answers e = (subst (Answers met) e answers).0.1
 
 -- a fault of the shelf is answered only where it failed
-pub shelf_cause : (met : Met) (result : Status) → Answers met result → result ≡ status.ShelfFault → HasFailed met.shelf
+pub shelf_cause : (met : Met) (result : Status) → Answers met result → result ≡ status.ShelfFault → HasFailed met.shelf.faults
 shelf_cause met result answers e = (subst (Answers met) e answers).0.1

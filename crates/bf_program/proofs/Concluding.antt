@@ -1,5 +1,6 @@
 -- From what a search tells, and what was written of it, to what the program answers.
-use Rattle.std.proofs.Common.{◌≡◌, ◌≢◌, ℕ, ◌≤◌, Bool, true, false, List, ◌++◌, Option, Some, None, Result, Ok, Err, IfOk, IfErr, ◌⊎◌, inl, inr, refl, sym, ap, subst, ◌∙◌}
+use Rattle.std.proofs.Common.{◌≡◌, ◌≢◌, ℕ, ◌≤◌, Bool, true, false, List, ◌++◌, Option, Some, None, Result, Ok, Err, IfOk, IfErr, ◌⊎◌, inl, inr, refl, sym, ap}
+use Rattle.std.proofs.Common.{subst, ◌∙◌}
 use Rattle.std.proofs.lemmas.List.{append_assoc}
 use Rattle.bf_history.specs.Meanings.{History}
 use Rattle.bf_farm.proofs.Asked.{rose_since}
@@ -31,7 +32,7 @@ use Rattle.bf_program.specs.Searching.{IsCutIn, IsToldSoFar, IsSearchSoFar, IsSe
 use Rattle.bf_program.specs.Tellings.{begun_of, told_of}
 use Rattle.bf_program.specs.Writes.{IsWritten}
 use Rattle.bf_program.specs.declared.answer.Answer.{Answer}
-use Rattle.bf_program.specs.declared.answer.Cut.{Cut}
+use Rattle.bf_program.specs.declared.answer.Fault.{Fault}
 use Rattle.bf_program.specs.declared.ready.Ready.{Ready}
 use Rattle.bf_program.specs.declared.ready.Ready.TheVariants.{Told as ToldAnswer, Search}
 use Rattle.bf_program.specs.declared.ready.Started.{Started}
@@ -41,53 +42,24 @@ use Rattle.bf_program.specs.declared.ready.Started.{Started}
 not_failed : (asks : Bool) (before : ℕ) (after : Tested) (s : Status) → HasCause asks before after s → ((place : ℕ) → IsFailedTest asks before after place → ⊥)
     → is_test_fault s ≡ false
 not_failed asks before after (status.TestFault place) cause never = absurd (never place cause)
-not_failed asks before after status.Done cause never = refl
-not_failed asks before after (status.Usage word) cause never = refl
-not_failed asks before after status.OnlySkipped cause never = refl
-not_failed asks before after status.MergeBaseBad cause never = refl
-not_failed asks before after status.GoodNotAncestor cause never = refl
-not_failed asks before after status.BothSides cause never = refl
-not_failed asks before after status.Aborted cause never = refl
-not_failed asks before after (status.StreamRefused line kind) cause never = refl
-not_failed asks before after (status.NameRefused word fault) cause never = refl
-not_failed asks before after (status.TooLarge what) cause never = refl
-not_failed asks before after (status.LogRefused line) cause never = refl
-not_failed asks before after status.ReadFault cause never = refl
-not_failed asks before after status.WriteFault cause never = refl
-not_failed asks before after status.ShelfFault cause never = refl
-not_failed asks before after status.NoMemory cause never = refl
-not_failed asks before after status.NoFile cause never = refl
-not_failed asks before after status.Waiting cause never = refl
+not_failed asks before after other cause never = refl
 
-pub whole_status : (asks : Bool) (before : ℕ) (after : Tested) (s : Status) → HasCause asks before after s → ((place : ℕ) → IsFailedTest asks before after place → ⊥)
+pub whole_status : (asks : Bool) (before : ℕ) (after : Tested) (s : Status) → HasCause asks before after s
+    → ((place : ℕ) → IsFailedTest asks before after place → ⊥)
     → IsWhole s
 whole_status asks before after (status.TestFault place) cause never = absurd (never place cause)
-whole_status asks before after status.Done cause never = tt
-whole_status asks before after (status.Usage word) cause never = tt
-whole_status asks before after status.OnlySkipped cause never = tt
-whole_status asks before after status.MergeBaseBad cause never = tt
-whole_status asks before after status.GoodNotAncestor cause never = tt
-whole_status asks before after status.BothSides cause never = tt
-whole_status asks before after status.Aborted cause never = tt
-whole_status asks before after (status.StreamRefused line kind) cause never = tt
-whole_status asks before after (status.NameRefused word fault) cause never = tt
-whole_status asks before after (status.TooLarge what) cause never = tt
-whole_status asks before after (status.LogRefused line) cause never = tt
-whole_status asks before after status.ReadFault cause never = absurd cause
-whole_status asks before after status.WriteFault cause never = absurd cause
-whole_status asks before after status.ShelfFault cause never = absurd cause
-whole_status asks before after status.NoMemory cause never = absurd cause
-whole_status asks before after status.NoFile cause never = tt
-whole_status asks before after status.Waiting cause never = tt
+whole_status asks before after other cause never = cause
 
-pub planned_so_far : (started : Started) (request : Request) (words : List (List ℕ)) (asks : Bool) (count : ℕ) (planned tested : Tested) (before after : Option (List ℕ))
+pub planned_so_far : (started : Started) (request : Request) (words : List (List ℕ)) (asks : Bool) (count : ℕ) (planned tested : Tested)
+    (before after : Option (List ℕ))
     (answer : Answer) → IsToldSoFar request planned started.history (begun_of started.first) before after answer
     → planned.plan ≡ Some (plan_of request words) → HasCause asks count planned answer.status → ((place : ℕ) → IsFailedTest asks count planned place → ⊥)
     → IsSearchSoFar Simulate started request words tested before after answer
 planned_so_far started request words asks count planned tested before after answer is told cause never = record {
   written = is.written;
   gained = is.gained;
-  tells = simulated_run request words planned started.history (begun_of started.first) _ told is.tells (not_failed asks count planned answer.status cause never);
+  tells = simulated_run request words planned started.history (begun_of started.first) _ told is.tells
+      (not_failed asks count planned answer.status cause never);
 }
 
 -- the log goes on
@@ -102,7 +74,8 @@ log_goes_on history first run whole before after goes front =
     (append_assoc first.entries run.entries goes.rest ∙ ap (λ (es : List Entry). first.entries ++ es) (sym goes.goes_on)))
     (AppendsFront-first before after (log_on history first run.entries) more front)
 
-pub planned_cut : (started : Started) (request : Request) (words : List (List ℕ)) (plan : Option (List Outcome)) (tested : Tested) (before after : Option (List ℕ))
+pub planned_cut : (started : Started) (request : Request) (words : List (List ℕ)) (plan : Option (List Outcome)) (tested : Tested)
+    (before after : Option (List ℕ))
     → IsCutIn plan started.history (begun_of started.first) before after → plan ≡ Some (plan_of request words)
     → IsSearchCut Simulate started request words tested before after
 planned_cut started request words plan tested before after cut told =
@@ -120,10 +93,12 @@ planned_cut started request words plan tested before after cut told =
 -- ---- by a command
 
 pub tested_so_far : (started : Started) (request : Request) (words : List (List ℕ)) (tested : Tested) (before after : Option (List ℕ)) (answer : Answer)
-    → IsToldSoFar request tested started.history (begun_of started.first) before after answer → IsSearchSoFar RunVerb started request words tested before after answer
+    → IsToldSoFar request tested started.history (begun_of started.first) before after answer
+    → IsSearchSoFar RunVerb started request words tested before after answer
 tested_so_far started request words tested before after answer is = record { written = is.written; gained = is.gained; tells = inl is.tells }
 
-pub tested_cut : (started : Started) (request : Request) (words : List (List ℕ)) (plan : Option (List Outcome)) (tested : Tested) (before after : Option (List ℕ))
+pub tested_cut : (started : Started) (request : Request) (words : List (List ℕ)) (plan : Option (List Outcome)) (tested : Tested)
+    (before after : Option (List ℕ))
     → IsCutIn plan started.history (begun_of started.first) before after → tested.plan ≡ plan → IsSearchCut RunVerb started request words tested before after
 tested_cut started request words plan tested before after cut same =
     let history = started.history in
@@ -140,7 +115,8 @@ tested_cut started request words plan tested before after cut same =
 
 -- ---- what was written
 
-pub concluded : (verb : Verb) (started : Started) (request : Request) (words : List (List ℕ)) (tested : Tested) (before mid after : Option (List ℕ)) (answer : Answer) (result : Status)
+pub concluded : (verb : Verb) (started : Started) (request : Request) (words : List (List ℕ)) (tested : Tested) (before mid after : Option (List ℕ))
+    (answer : Answer) (result : Status)
     → IsSearchSoFar verb started request words tested before mid answer → IsWritten mid after answer.text answer.status result
     → IsConcluded (IsSearched verb request words tested started.history (begun_of started.first)) before after result
 concluded verb started request words tested before mid after answer result is (inl (same, all)) =
@@ -148,14 +124,16 @@ concluded verb started request words tested before mid after answer result is (i
 concluded verb started request words tested before mid after answer result is (inr (cut, front)) =
     inl (_, is.tells, inr (cut, AppendsFront-second before mid after is.written answer.text is.gained front))
 
-pub concluded_cut : (verb : Verb) (started : Started) (request : Request) (words : List (List ℕ)) (tested : Tested) (before after : Option (List ℕ)) (result : Status)
+pub concluded_cut : (verb : Verb) (started : Started) (request : Request) (words : List (List ℕ)) (tested : Tested) (before after : Option (List ℕ))
+    (result : Status)
     → IsSearchCut verb started request words tested before after → (result ≡ status.WriteFault) ⊎ (result ≡ status.NoMemory)
     → IsConcluded (IsSearched verb request words tested started.history (begun_of started.first)) before after result
 concluded_cut verb started request words tested before after result is cut = inl (is.told, is.is, inr (cut, is.front))
 
 -- ---- of a result
 
-pub planned_told : {E : Type 0} (started : Started) (request : Request) (words : List (List ℕ)) (count : ℕ) (planned tested : Tested) (before after : Option (List ℕ))
+pub planned_told : {E : Type 0} (started : Started) (request : Request) (words : List (List ℕ)) (count : ℕ) (planned tested : Tested)
+    (before after : Option (List ℕ))
     (result : Result Answer E) → IfOk result (IsToldSoFar request planned started.history (begun_of started.first) before after)
     → planned.plan ≡ Some (plan_of request words) → IfOk result (λ answer. HasCause true count planned answer.status) → planned.failed ≡ None
     → IfOk result (IsSearchSoFar Simulate started request words tested before after)
@@ -168,26 +146,31 @@ pub planned_whole : {E : Type 0} (count : ℕ) (planned : Tested) (result : Resu
 planned_whole count planned (Err e) cause none = tt
 planned_whole count planned (Ok answer) cause none = whole_status true count planned answer.status cause (λ place f. cc (sym none ∙ f.failed))
 
-pub planned_cuts : {E : Type 0} (started : Started) (request : Request) (words : List (List ℕ)) (plan : Option (List Outcome)) (tested : Tested) (before after : Option (List ℕ))
-    (result : Result Answer E) → IfErr result (λ fault. IsCutIn plan started.history (begun_of started.first) before after) → plan ≡ Some (plan_of request words)
+pub planned_cuts : {E : Type 0} (started : Started) (request : Request) (words : List (List ℕ)) (plan : Option (List Outcome)) (tested : Tested)
+    (before after : Option (List ℕ))
+    (result : Result Answer E) → IfErr result (λ fault. IsCutIn plan started.history (begun_of started.first) before after)
+    → plan ≡ Some (plan_of request words)
     → IfErr result (λ fault. IsSearchCut Simulate started request words tested before after)
 planned_cuts started request words plan tested before after (Ok answer) cut told = tt
 planned_cuts started request words plan tested before after (Err e) cut told = planned_cut started request words plan tested before after cut told
 
-pub tested_told : {E : Type 0} (started : Started) (request : Request) (words : List (List ℕ)) (tested : Tested) (before after : Option (List ℕ)) (result : Result Answer E)
+pub tested_told : {E : Type 0} (started : Started) (request : Request) (words : List (List ℕ)) (tested : Tested) (before after : Option (List ℕ))
+    (result : Result Answer E)
     → IfOk result (IsToldSoFar request tested started.history (begun_of started.first) before after)
     → IfOk result (IsSearchSoFar RunVerb started request words tested before after)
 tested_told started request words tested before after (Err e) is = tt
 tested_told started request words tested before after (Ok answer) is = tested_so_far started request words tested before after answer is
 
-pub tested_cuts : {E : Type 0} (started : Started) (request : Request) (words : List (List ℕ)) (plan : Option (List Outcome)) (tested : Tested) (before after : Option (List ℕ))
+pub tested_cuts : {E : Type 0} (started : Started) (request : Request) (words : List (List ℕ)) (plan : Option (List Outcome)) (tested : Tested)
+    (before after : Option (List ℕ))
     (result : Result Answer E) → IfErr result (λ fault. IsCutIn plan started.history (begun_of started.first) before after) → tested.plan ≡ plan
     → IfErr result (λ fault. IsSearchCut RunVerb started request words tested before after)
 tested_cuts started request words plan tested before after (Ok answer) cut same = tt
 tested_cuts started request words plan tested before after (Err e) cut same = tested_cut started request words plan tested before after cut same
 
 -- nothing was written, and the words were not tested
-pub none_cut : (verb : Verb) (started : Started) (request : Request) (words : List (List ℕ)) (plan : Option (List Outcome)) (tested : Tested) (held : Option (List ℕ))
+pub none_cut : (verb : Verb) (started : Started) (request : Request) (words : List (List ℕ)) (plan : Option (List Outcome)) (tested : Tested)
+    (held : Option (List ℕ))
     → verb ≡ RunVerb → tested.plan ≡ plan → IsSearchCut verb started request words tested held held
 none_cut verb started request words plan tested held is same =
     subst (λ (v : Verb). IsSearchCut v started request words tested held held) (sym is)
@@ -269,21 +252,22 @@ refused_written meaning answer before after result is written = inl (told_of ans
 
 -- ---- as it was matched
 
-pub sound_search : (request : Request) (ready : Result Ready Cut) (found : Ready) (started : Started) → ready ≡ Ok found → found ≡ Search started
+pub sound_search : (request : Request) (ready : Result Ready Fault) (found : Ready) (started : Started) → ready ≡ Ok found → found ≡ Search started
     → IfOk ready (IsSound request) → verb_of started.means ≡ request.verb
 sound_search request ready found started is of sound =
-    (subst (IsSound request) of (subst (λ (r : Result Ready Cut). IfOk r (IsSound request)) is sound)).1
+    (subst (IsSound request) of (subst (λ (r : Result Ready Fault). IfOk r (IsSound request)) is sound)).1
 
-pub sound_answer : (request : Request) (ready : Result Ready Cut) (found : Ready) (answer : Answer) → ready ≡ Ok found → found ≡ ToldAnswer answer
+pub sound_answer : (request : Request) (ready : Result Ready Fault) (found : Ready) (answer : Answer) → ready ≡ Ok found → found ≡ ToldAnswer answer
     → IfOk ready (IsSound request) → IsWhole answer.status
 sound_answer request ready found answer is of sound =
-    subst (IsSound request) of (subst (λ (r : Result Ready Cut). IfOk r (IsSound request)) is sound)
+    subst (IsSound request) of (subst (λ (r : Result Ready Fault). IfOk r (IsSound request)) is sound)
 
-pub concludes : (request : Request) (words : List (List ℕ)) (tested : Tested) (ready : Result Ready Cut) (found matched : Ready) (before after : Option (List ℕ)) (result : Status)
+pub concludes : (request : Request) (words : List (List ℕ)) (tested : Tested) (ready : Result Ready Fault) (found matched : Ready)
+    (before after : Option (List ℕ)) (result : Status)
     → ready ≡ Ok found → found ≡ matched → IsConcluded (Tells request words tested matched) before after result
     → Concludes request words tested ready before after result
 concludes request words tested ready found matched before after result is of told =
-    subst (λ (r : Result Ready Cut). Concludes request words tested r before after result) (sym (is ∙ ap (λ (r : Ready). Ok r) of)) told
+    subst (λ (r : Result Ready Fault). Concludes request words tested r before after result) (sym (is ∙ ap (λ (r : Ready). Ok r) of)) told
 
 pub if_ok : {T E : Type 0} (P : Type 0) (result : Result T E) → P → IfOk result (λ t. P)
 if_ok P (Ok t) p = p

@@ -43,7 +43,8 @@ skips_refused shown request words file history first skips stop result step give
     (subst (λ (ps : List ℕ). IsStep shown (Err stop) (all_meant history words ps)) given step)))
 
 -- memory ran out
-pub step_without_memory : (meant : Result Begun Told) (result : Result Beginning Stop) → IsErr result → IsErrAnd result (λ e. e ≡ NoMemory) → IsStep begun_of result meant
+pub step_without_memory : (meant : Result Begun Told) (result : Result Beginning Stop) → IsErr result → IsErrAnd result (λ e. e ≡ NoMemory)
+    → IsStep begun_of result meant
 step_without_memory meant result is same =
     at_error (λ (r : Result Beginning Stop). IsStep begun_of r meant) (λ e. e ≡ NoMemory) result is same
     (λ e at. subst (λ (s : Stop). IsStep begun_of (Err s) meant) (sym at) tt)

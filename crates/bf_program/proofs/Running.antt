@@ -1,5 +1,6 @@
 -- A search on its way: from its beginning, over its legs, to what it tells.
-use Rattle.std.proofs.Common.{◌≡◌, ◌≢◌, ℕ, ◌≤◌, Bool, true, false, List, [], ◌∷◌, ◌++◌, length, map, replicate, Option, Some, None, option_map, unwrap_or, Result, Ok, Err, IfOk, IfErr, refl, sym, ap, subst, ◌∙◌}
+use Rattle.std.proofs.Common.{◌≡◌, ◌≢◌, ℕ, ◌≤◌, Bool, true, false, List, [], ◌∷◌, ◌++◌, length, map, replicate, Option, Some, None, option_map, unwrap_or}
+use Rattle.std.proofs.Common.{Result, Ok, Err, IfOk, IfErr, refl, sym, ap, subst, ◌∙◌}
 use Rattle.std.specs.List.{flat_map}
 use Rattle.std.proofs.lemmas.Grind.{flat_map-append}
 use Rattle.std.proofs.lemmas.List.{append_assoc, append-nil, length-replicate}
@@ -20,7 +21,7 @@ use Rattle.bf_search.specs.declared.farm.Event.{Event}
 use Rattle.bf_search.specs.declared.outcomes.Outcome.{Outcome}
 use Rattle.bf_search.specs.Farm.{end_of}
 use Rattle.bf_search.specs.Outcomes.{outcomes_of_table}
-use Rattle.bf_search.specs.Run.{End, Leg, Run, ended, seq}
+use Rattle.bf_search.specs.Run.{End, Leg, Run, ended, one_at_a_time}
 use Rattle.bf_search.specs.State.{Search, IsSearchOver}
 use Rattle.bf_state.specs.Runs.{in_sequence}
 use Rattle.bf_state.specs.Session.{Session, IsSearchBelow}
@@ -55,8 +56,10 @@ begun_trace : (is_asked : Bool) (history : History) → trace_begun is_asked ≡
 begun_trace true history = refl
 begun_trace false history = refl
 
-pub text_begun : (commits same_commits : Commits) (sides same_sides : Sides) (known same_known : Known) (entries same_entries : List Entry) (text before : List ℕ)
-    → text ≡ before ++ log_from commits sides known entries → before ≡ [] → commits ≡ same_commits → sides ≡ same_sides → known ≡ same_known → entries ≡ same_entries
+pub text_begun : (commits same_commits : Commits) (sides same_sides : Sides) (known same_known : Known) (entries same_entries : List Entry)
+    (text before : List ℕ)
+    → text ≡ before ++ log_from commits sides known entries → before ≡ [] → commits ≡ same_commits → sides ≡ same_sides → known ≡ same_known
+    → entries ≡ same_entries
     → text ≡ log_from same_commits same_sides same_known same_entries
 text_begun commits same_commits sides same_sides known same_known entries same_entries text before e none c s k es =
     e
@@ -110,15 +113,22 @@ begun_running request tested history first running none state table known text t
 
 -- ---- one leg more
 
+-- what is no other ending is that of a leg after its marks
+leg_ended : (e : Ending) → (e ≢ ending.Leg → ⊥) → e ≡ ending.Leg
+leg_ended ending.Leg no_other = refl
+leg_ended other no_other = absurd (no_other (λ k. cc k))
+
 known_joined : (known : Known) (xs ys : List Entry) → known_after_all known (xs ++ ys) ≡ known_after_all (known_after_all known xs) ys
 known_joined known [] ys = refl
 known_joined known (x ∷ xs) ys = known_joined (known_after known x) xs ys
 
 -- the trace after one whole leg more
-trace_more : (is_asked : Bool) (history : History) (whole : List (List Event)) (events : List Event) (old new : Option (List ℕ)) → old ≡ trace_so_far is_asked history whole
+trace_more : (is_asked : Bool) (history : History) (whole : List (List Event)) (events : List Event) (old new : Option (List ℕ))
+    → old ≡ trace_so_far is_asked history whole
     → new ≡ option_map (λ lines. lines ++ leg_line) (option_map (λ lines. lines ++ event_lines (commits_of history) events) old)
     → new ≡ trace_so_far is_asked history (whole ++ events ∷ [])
-trace_more false history whole events old new is e = e ∙ ap (λ (t : Option (List ℕ)). option_map (λ lines. lines ++ leg_line) (option_map (λ lines. lines ++ event_lines (commits_of history) events) t)) is
+trace_more false history whole events old new is e = e ∙ ap
+    (λ (t : Option (List ℕ)). option_map (λ lines. lines ++ leg_line) (option_map (λ lines. lines ++ event_lines (commits_of history) events) t)) is
 trace_more true history whole events old new is e =
     let lines = event_lines (commits_of history) events in
     let before = flat_map (whole_leg (commits_of history)) whole in
@@ -131,14 +141,17 @@ trace_more true history whole events old new is e =
 -- the text with the trace of all legs
 text_traced : (is_asked : Bool) (history : History) (whole : List (List Event)) (last : List Event) (old new : Option (List ℕ)) (s : Status) (text : List ℕ)
     → old ≡ trace_so_far is_asked history whole → new ≡ option_map (λ lines. lines ++ event_lines (commits_of history) last) old
-    → record { status = s; text = text ++ unwrap_or new [] } ≡ traced_if is_asked history (record { whole = whole; last = last }) (record { status = s; text = text })
+    → record { status = s; text = text ++ unwrap_or new [] } ≡ traced_if is_asked history (record { whole = whole; last = last })
+    (record { status = s; text = text })
 text_traced false history whole last old new s text is e =
     ap (λ (t : List ℕ). record { status = s; text = t })
-    (ap (λ (t : Option (List ℕ)). text ++ unwrap_or t []) (e ∙ ap (λ (t : Option (List ℕ)). option_map (λ lines. lines ++ event_lines (commits_of history) last) t) is)
+    (ap (λ (t : Option (List ℕ)). text ++ unwrap_or t [])
+    (e ∙ ap (λ (t : Option (List ℕ)). option_map (λ lines. lines ++ event_lines (commits_of history) last) t) is)
     ∙ append-nil text)
 text_traced true history whole last old new s text is e =
     ap (λ (t : List ℕ). record { status = s; text = t })
-    (ap (λ (t : Option (List ℕ)). text ++ unwrap_or t []) (e ∙ ap (λ (t : Option (List ℕ)). option_map (λ lines. lines ++ event_lines (commits_of history) last) t) is))
+    (ap (λ (t : Option (List ℕ)). text ++ unwrap_or t [])
+    (e ∙ ap (λ (t : Option (List ℕ)). option_map (λ lines. lines ++ event_lines (commits_of history) last) t) is))
 
 module _ (request : Request) (before after : Tested) (history : History) (first : Begun) (written : List ℕ) (running : Running) (report : Report)
     (is : IsRunning request before history first written running)
@@ -166,7 +179,8 @@ module _ (request : Request) (before after : Tested) (history : History) (first 
       ∙ ap (λ (t : List ℕ). t ++ log_from commits report.state.terms running.telling.known report.entries.items) is.log
       ∙ ap (λ (s : Sides). log_on history first is.run.entries ++ log_from commits s running.telling.known report.entries.items) terms
       ∙ ap (λ (k : Known). log_on history first is.run.entries ++ log_from commits first.sides k report.entries.items) is.known
-      ∙ ap (λ (es : List Entry). log_on history first is.run.entries ++ log_from commits first.sides (known_after_all first.known (first.entries ++ is.run.entries)) es) ran.entries
+      ∙ ap (λ (es : List Entry). log_on history first is.run.entries ++ log_from commits first.sides
+      (known_after_all first.known (first.entries ++ is.run.entries)) es) ran.entries
       ∙ sym (log_joined commits first.sides first.known (first.entries ++ is.run.entries) leg.entries)
       ∙ ap (λ (es : List Entry). log_from commits first.sides first.known es) (append_assoc first.entries is.run.entries leg.entries)
 
@@ -183,7 +197,8 @@ module _ (request : Request) (before after : Tested) (history : History) (first 
       → IsReady history.parents history.names before.plan after.answers report.state report.table
       → next.telling.text ≡ running.telling.text ++ log_from (commits_of history) report.state.terms running.telling.known report.entries.items
       → next.telling.known ≡ known_after_all running.telling.known report.entries.items
-      → next.telling.trace ≡ option_map (λ lines. lines ++ leg_line) (option_map (λ lines. lines ++ event_lines (commits_of history) report.events.items) running.telling.trace)
+      → next.telling.trace ≡ option_map (λ lines. lines ++ leg_line)
+      (option_map (λ lines. lines ++ event_lines (commits_of history) report.events.items) running.telling.trace)
       → IsRunning request after history first written next
   running_on next e state table ready text known trace =
       let stand : record { search = leg.search; table = report.table } ≡ stand_of next.standing =
@@ -191,10 +206,12 @@ module _ (request : Request) (before after : Tested) (history : History) (first 
       record {
         whole = is.whole ++ report.events.items ∷ [];
         run = so_far;
-        between = subst (λ (plan : Option (List Outcome)). IsBetween course plan after.answers (stand_of next.standing) (is.whole ++ report.events.items ∷ []) so_far) (sym same_plan)
+        between = subst (λ (plan : Option (List Outcome)). IsBetween course plan after.answers (stand_of next.standing) (is.whole ++ report.events.items ∷ [])
+            so_far) (sym same_plan)
             (subst (λ (s : Stand). IsBetween course before.plan after.answers s (is.whole ++ report.events.items ∷ []) so_far) stand
             (leads.between is.whole is.run is.between e));
-        ready = subst (λ (plan : Option (List Outcome)). IsReady history.parents history.names plan after.answers next.standing.state next.standing.table) (sym same_plan)
+        ready = subst (λ (plan : Option (List Outcome)). IsReady history.parents history.names plan after.answers next.standing.state next.standing.table)
+            (sym same_plan)
             (subst (λ (t : List (Option Outcome)). IsReady history.parents history.names before.plan after.answers next.standing.state t) (sym table)
             (subst (λ (s : Session). IsReady history.parents history.names before.plan after.answers s report.table) (sym state) ready));
         over = is.over;
@@ -212,14 +229,16 @@ module _ (request : Request) (before after : Tested) (history : History) (first 
       → IsTested request after history first (record { status = status; text = written ++ answer })
   running_over text trace status answer other text_is trace_is status_is answer_is =
       let over : IsOver course after.plan after.answers report.table (record { whole = is.whole; last = report.events.items }) so_far =
-      subst (λ (plan : Option (List Outcome)). IsOver course plan after.answers report.table (record { whole = is.whole; last = report.events.items }) so_far) (sym same_plan)
+      subst (λ (plan : Option (List Outcome)). IsOver course plan after.answers report.table (record { whole = is.whole; last = report.events.items }) so_far)
+      (sym same_plan)
       (leads.over is.whole is.run is.between other) in
       let log = log_on history first so_far.entries in
       let ends = lines_at_end (commits_of history) first.sides so_far.end in
       record {
         table = report.table;
         legs = record { whole = is.whole; last = report.events.items };
-        over = subst (λ (r : Run). IsOver course after.plan after.answers report.table (record { whole = is.whole; last = report.events.items }) r) over.is over;
+        over = subst (λ (r : Run). IsOver course after.plan after.answers report.table (record { whole = is.whole; last = report.events.items }) r) over.is
+            over;
         planned = front_if_told after.plan history first report.table over.known.planned;
         tells =
             ap (λ (t : List ℕ). record { status = status; text = written ++ t }) answer_is
@@ -232,7 +251,8 @@ module _ (request : Request) (before after : Tested) (history : History) (first 
             ∙ ap (λ (e : End). log ++ lines_at_end (commits_of history) first.sides e) ran.ending))
             ∙ ap (λ (s : Status). record { status = s; text = (log ++ ends) ++ unwrap_or trace [] })
             (status_is ∙ ap status_at_end ran.ending)
-            ∙ text_traced request.trace history is.whole report.events.items running.telling.trace trace (status_at_end so_far.end) (log ++ ends) is.trace trace_is
+            ∙ text_traced request.trace history is.whole report.events.items running.telling.trace trace (status_at_end so_far.end) (log ++ ends) is.trace
+            trace_is
             ∙ ap (λ (r : Run). traced_if request.trace history (record { whole = is.whole; last = report.events.items }) (told_of_run history first r)) over.is;
       }
 
@@ -244,27 +264,20 @@ module _ (request : Request) (before after : Tested) (history : History) (first 
       → told.trace ≡ option_map (λ lines. lines ++ event_lines (commits_of history) report.events.items) running.telling.trace
       → (report.ending ≡ ending.Leg → IsOnWith told report gone) → (report.ending ≢ ending.Leg → IsOverWith history told report gone)
       → IsGone request after history first written gone
-  gone_on told (On next) ready text known trace on over = by_ending report.ending refl
-    where
-      by_ending : (e : Ending) → report.ending ≡ e → IsRunning request after history first written next
-      by_ending ending.Leg e =
-          let (state, table, same_text, same_known, same_trace) = on e in
-          running_on next e state table ready (same_text ∙ text) (same_known ∙ known)
-          (same_trace ∙ ap (λ (t : Option (List ℕ)). option_map (λ lines. lines ++ leg_line) t) trace)
-      by_ending (ending.FirstBad p) e = absurd (over (λ k. cc (sym e ∙ k)))
-      by_ending (ending.OnlySkipped ps) e = absurd (over (λ k. cc (sym e ∙ k)))
-      by_ending (ending.MergeBaseBad p) e = absurd (over (λ k. cc (sym e ∙ k)))
-      by_ending (ending.GoodNotAncestor p) e = absurd (over (λ k. cc (sym e ∙ k)))
-      by_ending (ending.BothSides p) e = absurd (over (λ k. cc (sym e ∙ k)))
-      by_ending (ending.Aborted p outcome) e = absurd (over (λ k. cc (sym e ∙ k)))
-      by_ending (ending.TestFault p) e = absurd (over (λ k. cc (sym e ∙ k)))
+  gone_on told (On next) ready text known trace on over =
+      let e = leg_ended report.ending over in
+      let (state, table, same_text, same_known, same_trace) = on e in
+      running_on next e state table ready (same_text ∙ text) (same_known ∙ known)
+      (same_trace ∙ ap (λ (t : Option (List ℕ)). option_map (λ lines. lines ++ leg_line) t) trace)
   gone_on told (Over answer) ready text known trace on over =
       let other : report.ending ≢ ending.Leg = λ e. on e in
       running_over told.text told.trace answer.status answer.text other text trace (over other).0 (over other).1
 
 -- a failed test has its cause
-pub gone_cause : (before : ℕ) (after : Tested) (history : History) (report : Report) (told : Telling) (gone : Gone) → HasFault before after.faults after.failed report
-    → (report.ending ≡ ending.Leg → IsOnWith told report gone) → (report.ending ≢ ending.Leg → IsOverWith history told report gone) → HasGoneCause before after gone
+pub gone_cause : (before : ℕ) (after : Tested) (history : History) (report : Report) (told : Telling) (gone : Gone)
+    → HasFault before after.faults after.failed report
+    → (report.ending ≡ ending.Leg → IsOnWith told report gone) → (report.ending ≢ ending.Leg → IsOverWith history told report gone)
+    → HasGoneCause before after gone
 gone_cause before after history report told (On next) fault on over = tt
 gone_cause before after history report told (Over answer) fault on over =
     by_end report.ending refl (over (λ e. on e)).0
@@ -276,23 +289,18 @@ gone_cause before after history report told (Over answer) fault on over =
     by_end (ending.TestFault p) e is =
         subst (HasCause true before after) (sym (is ∙ ap (λ (x : Ending). status_at_end (end_of x)) e))
         (record { asked = refl; rose = (fault p e).0; failed = (fault p e).1 })
-    by_end ending.Leg e is = by_ask status.Done tt (is ∙ ap (λ (x : Ending). status_at_end (end_of x)) e)
-    by_end (ending.FirstBad p) e is = by_ask status.Done tt (is ∙ ap (λ (x : Ending). status_at_end (end_of x)) e)
-    by_end (ending.OnlySkipped ps) e is = by_ask status.OnlySkipped tt (is ∙ ap (λ (x : Ending). status_at_end (end_of x)) e)
-    by_end (ending.MergeBaseBad p) e is = by_ask status.MergeBaseBad tt (is ∙ ap (λ (x : Ending). status_at_end (end_of x)) e)
-    by_end (ending.GoodNotAncestor p) e is = by_ask status.GoodNotAncestor tt (is ∙ ap (λ (x : Ending). status_at_end (end_of x)) e)
-    by_end (ending.BothSides p) e is = by_ask status.BothSides tt (is ∙ ap (λ (x : Ending). status_at_end (end_of x)) e)
-    by_end (ending.Aborted p outcome) e is = by_ask status.Aborted tt (is ∙ ap (λ (x : Ending). status_at_end (end_of x)) e)
+    by_end other e is = by_ask (status_at_end (end_of other)) tt (is ∙ ap (λ (x : Ending). status_at_end (end_of x)) e)
 
 -- ---- cut short
 
 -- a front of what was about to be written is a front of the log on what is known
-pub running_cut : (request : Request) (tested : Tested) (history : History) (first : Begun) (written : List ℕ) (running : Running) (before mid after : Option (List ℕ))
+pub running_cut : (request : Request) (tested : Tested) (history : History) (first : Begun) (written : List ℕ) (running : Running)
+    (before mid after : Option (List ℕ))
     → IsRunning request tested history first written running → Appends before mid written → AppendsFront mid after running.telling.text
     → IsCutIn tested.plan history first before after
 running_cut request tested history first written running before mid after is gained front =
     let table = running.standing.table in
-    let rest = seq history.parents is.run.search (outcomes_of_table table) 0 in
+    let rest = one_at_a_time history.parents is.run.search (outcomes_of_table table) 0 in
     let whole : run_on history first table ≡ in_sequence is.run rest = is.between.goes_on (outcomes_of_table table) (part_same (outcomes_of_table table)) in
     let more = log_from (commits_of history) first.sides (known_after_all first.known (first.entries ++ is.run.entries)) rest.entries in
     let text : (written ++ running.telling.text) ++ more ≡ log_on history first (run_on history first table).entries =
@@ -333,7 +341,8 @@ same_course request search first leg workers = λ i. record {
 pub goes : {E : Type 0} (request : Request) (before after : Tested) (search : Searched) (first : Begun) (written : List ℕ) (running : Running) (report : Report)
     (told : Telling) (result : Result Gone E) → request.leg ≡ search.leg → request.workers ≡ search.workers → after.plan ≡ before.plan
     → ((s : Search) → IsLegRun (course_from search s) running.standing.state report)
-    → ((s : Search) → IsSearchOver search.history.now.parents s → LeadsOn (course_from search s) before.plan before.answers after.answers (stand_of running.standing) report)
+    → ((s : Search) → IsSearchOver search.history.now.parents s
+    → LeadsOn (course_from search s) before.plan before.answers after.answers (stand_of running.standing) report)
     → IsReady search.history.now.parents search.history.now.names before.plan after.answers report.state report.table
     → told.text ≡ running.telling.text ++ log_from (commits_of search.history.now) report.state.terms running.telling.known report.entries.items
     → told.known ≡ known_after_all running.telling.known report.entries.items
@@ -359,29 +368,20 @@ goes_cause before after history report told (Err e) fault on over = tt
 goes_cause before after history report told (Ok gone) fault on over = gone_cause before after history report told gone fault on over
 
 -- the next leg is ready
-pub next_ready : {E : Type 0} (told : Option (List Outcome)) (answers : List Answer) (history : History) (report : Report) (telling : Telling) (result : Result Gone E)
+pub next_ready : {E : Type 0} (told : Option (List Outcome)) (answers : List Answer) (history : History) (report : Report) (telling : Telling)
+    (result : Result Gone E)
     → IsReady history.parents history.names told answers report.state report.table
     → IfOk result (λ gone. report.ending ≡ ending.Leg → IsOnWith telling report gone)
     → IfOk result (λ gone. report.ending ≢ ending.Leg → IsOverWith history telling report gone)
     → IfOk result (IsNextReady history told answers)
 next_ready told answers history report telling (Err e) ready on over = tt
 next_ready told answers history report telling (Ok (Over answer)) ready on over = tt
-next_ready told answers history report telling (Ok (On next)) ready on over = by_ending report.ending refl
+next_ready told answers history report telling (Ok (On next)) ready on over = moved (on (leg_ended report.ending over))
   where
     moved : IsOnWith telling report (On next) → IsReady history.parents history.names told answers next.standing.state next.standing.table
     moved (state, table, text, known, trace) =
         subst (λ (t : List (Option Outcome)). IsReady history.parents history.names told answers next.standing.state t) (sym table)
         (subst (λ (s : Session). IsReady history.parents history.names told answers s report.table) (sym state) ready)
-
-    by_ending : (e : Ending) → report.ending ≡ e → IsReady history.parents history.names told answers next.standing.state next.standing.table
-    by_ending ending.Leg e = moved (on e)
-    by_ending (ending.FirstBad p) e = absurd (over (λ k. cc (sym e ∙ k)))
-    by_ending (ending.OnlySkipped ps) e = absurd (over (λ k. cc (sym e ∙ k)))
-    by_ending (ending.MergeBaseBad p) e = absurd (over (λ k. cc (sym e ∙ k)))
-    by_ending (ending.GoodNotAncestor p) e = absurd (over (λ k. cc (sym e ∙ k)))
-    by_ending (ending.BothSides p) e = absurd (over (λ k. cc (sym e ∙ k)))
-    by_ending (ending.Aborted p outcome) e = absurd (over (λ k. cc (sym e ∙ k)))
-    by_ending (ending.TestFault p) e = absurd (over (λ k. cc (sym e ∙ k)))
 
 -- ---- through all legs
 
@@ -413,20 +413,4 @@ cause_since first before after (status.TestFault place) le cause = record {
   rose = rose_since first before after.faults le cause.rose;
   failed = cause.failed;
 }
-cause_since first before after status.ReadFault le cause = cause
-cause_since first before after status.WriteFault le cause = cause
-cause_since first before after status.NoMemory le cause = cause
-cause_since first before after status.ShelfFault le cause = cause
-cause_since first before after status.Done le cause = cause
-cause_since first before after (status.Usage word) le cause = cause
-cause_since first before after status.OnlySkipped le cause = cause
-cause_since first before after status.MergeBaseBad le cause = cause
-cause_since first before after status.GoodNotAncestor le cause = cause
-cause_since first before after status.BothSides le cause = cause
-cause_since first before after status.Aborted le cause = cause
-cause_since first before after (status.StreamRefused line kind) le cause = cause
-cause_since first before after (status.NameRefused word fault) le cause = cause
-cause_since first before after (status.TooLarge what) le cause = cause
-cause_since first before after (status.LogRefused line) le cause = cause
-cause_since first before after status.NoFile le cause = cause
-cause_since first before after status.Waiting le cause = cause
+cause_since first before after other le cause = cause

@@ -1,5 +1,6 @@
 -- Skips one after the other, and the places of entries.
-use Rattle.std.proofs.Common.{◌≡◌, ℕ, ◌+◌, ◌<◌, ◌≤◌, Bool, List, [], ◌∷◌, ◌++◌, length, drop, map, get_or, Option, Some, None, IfSome, Result, Ok, Err, OnOk, sym, ap, subst, ◌∙◌}
+use Rattle.std.proofs.Common.{◌≡◌, ℕ, ◌+◌, ◌<◌, ◌≤◌, Bool, List, [], ◌∷◌, ◌++◌, length, drop, map, get_or, Option, Some, None, IfSome, Result, Ok, Err, OnOk}
+use Rattle.std.proofs.Common.{sym, ap, subst, ◌∙◌}
 use Rattle.std.proofs.lemmas.List.{drop_all}
 use Rattle.std.proofs.lemmas.List.Elements.{All-append, All-filter, All-map, All-push}
 use Rattle.std.specs.List.{All, range_with_len}
@@ -8,7 +9,7 @@ use Rattle.bf_log.specs.declared.state.Standing.{Standing}
 use Rattle.bf_log.specs.StateLines.{AreStanding}
 use Rattle.bf_search.specs.State.{Search}
 use Rattle.bf_state.specs.Session.{IsSearchBelow}
-use Rattle.bf_log.specs.Labels.{IsEntryWithin}
+use Rattle.bf_search.specs.Within.{IsEntryWithin}
 use Rattle.bf_search.specs.declared.entries.Entry.{Entry}
 use Rattle.bf_search.specs.declared.entries.Entry.TheVariants.{Marked, SkippedBase}
 use Rattle.bf_search.specs.declared.outcomes.Mark.TheVariants.{Skip}

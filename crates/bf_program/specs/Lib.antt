@@ -1,3 +1,4 @@
+pub mod Devices
 pub mod Answers
 pub mod Steps
 pub mod Tellings
@@ -6,3 +7,4 @@ pub mod Writes
 pub mod Files
 pub mod Searching
 pub mod Printing
+pub mod Lines

@@ -7,6 +7,7 @@ use Rattle.bf_shelf.specs.declared.shelf.ShelfFile.{ShelfFile}
 use Rattle.bf_words.specs.declared.request.Request.{Request}
 use Rattle.bf_words.specs.declared.verb.Verb.TheVariants.{Simulate}
 use Rattle.bf_words.specs.Words as asked
+use Rattle.bf_program.specs.Devices.{Met}
 
 -- the sink gained a text that begins with the log of the search over these bytes, behind the file that the words name
 abbrev pub GainsLog : Request → List (List ℕ) → List ℕ → List ShelfFile → Option (List ℕ) → Option (List ℕ) → Type 0
@@ -15,13 +16,12 @@ GainsLog request words bytes files before after =
 
 -- Where the words ask for `simulate`, the source tells its bytes and the shelf its files, and the status is that of a
 -- search that came to its end, the sink gained its log.
-abbrev pub PrintsLog : List (List ℕ) → Option (List ℕ) → Option (List ShelfFile) → Option (List ℕ)
-    → Option (List ℕ) → Status → Type 0
-PrintsLog words left told_files before after status =
+abbrev pub PrintsLog : Met → Status → Type 0
+PrintsLog met status =
     (request : Request) (bytes : List ℕ) (files : List ShelfFile)
-    → asked.request words ≡ Ok request
+    → asked.request met.words ≡ Ok request
     → request.verb ≡ Simulate
-    → left ≡ Some bytes
-    → told_files ≡ Some files
+    → met.source.left ≡ Some bytes
+    → met.shelf.files ≡ Some files
     → EndsSearch status
-    → GainsLog request words bytes files before after
+    → GainsLog request met.words bytes files met.sink.before met.sink.after

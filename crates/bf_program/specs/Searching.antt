@@ -1,5 +1,5 @@
 -- A search on its way from its beginning to its answer.
-use Rattle.std.specs.Prelude.{◌≡◌, ℕ, Bool, true, List, [], ◌++◌, length, if◌then◌else◌, Option, Some, None, Result, Ok, Err, ◌⊎◌}
+use Rattle.std.specs.Prelude.{◌≡◌, ◌≢◌, ℕ, Bool, true, List, [], ◌++◌, length, if◌then◌else◌, Option, Some, None, Result, Ok, Err, IfOk, IfErr, ◌⊎◌}
 use Rattle.std.specs.List.{flat_map}
 use Rattle.std.specs.Option.{option_map, unwrap_or}
 use Rattle.bf_farm.specs.declared.report.Report.{Report}
@@ -12,12 +12,14 @@ use Rattle.bf_output.specs.Beginning.{Begun, commits_of, log_on}
 use Rattle.bf_output.specs.Output.{IsSearched}
 use Rattle.bf_output.specs.Refusals.{file_fault, read_fault, usage}
 use Rattle.bf_output.specs.Tested.{Tested, IsTested, IsFrontIfTold, run_on, status_at_end, lines_at_end}
-use Rattle.bf_output.specs.Told.{Told}
+use Rattle.bf_output.specs.Told.{Told, told_by}
 use Rattle.bf_output.specs.Traces.{course_of, whole_leg}
 use Rattle.bf_output.specs.declared.status.Status.{Status}
 use Rattle.bf_output.specs.declared.status.Status.TheVariants.{ReadFault, ShelfFault, NoMemory as OutOfMemory}
 use Rattle.bf_runs.specs.Courses.{stand_of}
+use Rattle.bf_runs.specs.declared.case.Search.{Search as Searched}
 use Rattle.bf_runs.specs.Legs.{IsBetween, IsReady}
+use Rattle.bf_search.specs.declared.farm.Ending.TheVariants as ending
 use Rattle.bf_search.specs.declared.farm.Event.{Event}
 use Rattle.bf_search.specs.declared.outcomes.Outcome.{Outcome}
 use Rattle.bf_search.specs.Farm.{end_of}
@@ -30,12 +32,17 @@ use Rattle.bf_words.specs.declared.request.WordFault.TheVariants.{At}
 use Rattle.bf_words.specs.declared.request.WordFault.TheVariants as words
 use Rattle.bf_words.specs.declared.verb.Verb.{Verb}
 use Rattle.bf_words.specs.declared.verb.Verb.TheVariants.{Simulate, Run as RunVerb}
-use Rattle.bf_program.specs.Answers.{IsWhole, HasCause}
-use Rattle.bf_program.specs.Tellings.{begun_of, told_of, AreWithin}
+use Rattle.bf_program.specs.Answers.{IsWhole, IsWholeAnswer, HasCause}
+use Rattle.bf_program.specs.Devices.{SinkMet, TesterMet}
+use Rattle.bf_program.specs.Steps.{IsStep}
+use Rattle.bf_program.specs.Tellings.{begun_of, told_of, AreWithin, Says}
 use Rattle.bf_program.specs.Writes.{IsWritten}
 use Rattle.bf_program.specs.declared.answer.Answer.{Answer}
-use Rattle.bf_program.specs.declared.answer.Cut.{Cut}
-use Rattle.bf_program.specs.declared.answer.Cut.TheVariants.{Read, Shelf, NoMemory}
+use Rattle.bf_program.specs.declared.answer.Fault.{Fault}
+use Rattle.bf_program.specs.declared.answer.Stop.{Stop}
+use Rattle.bf_program.specs.declared.begin.Beginning.{Beginning}
+use Rattle.bf_program.specs.declared.line.Line.{Line}
+use Rattle.bf_program.specs.declared.answer.Fault.TheVariants.{Read, Shelf, NoMemory}
 use Rattle.bf_program.specs.declared.ready.Means.{Means}
 use Rattle.bf_program.specs.declared.ready.Means.TheVariants.{Plan, Command}
 use Rattle.bf_program.specs.declared.ready.Ready.{Ready}
@@ -64,7 +71,7 @@ AllTold request words ready Is = (tested : Tested) (told : Told) → Tells reque
 
 -- an answer that says this
 abbrev pub IsToldBy : Ready → Told → Type 0
-IsToldBy (ToldAnswer answer) told = told_of answer ≡ told
+IsToldBy (ToldAnswer answer) told = Says told answer
 IsToldBy (Search started) told = ⊥
 
 -- a search over its own history, with both ends
@@ -78,6 +85,18 @@ pub record IsStarted (started : Started) : Type 0 where
 abbrev pub IsSound : Request → Ready → Type 0
 IsSound request (ToldAnswer answer) = IsWhole answer.status
 IsSound request (Search started) = IsStarted started × (verb_of started.means ≡ request.verb)
+
+-- a step of a command that is refused or gave its answer is told as it is, and is sound
+abbrev pub TellsStep : Result Answer Stop → Result Ready Fault → Type 0
+TellsStep step result =
+    (meant : Result Told Told) → IsStep told_of step meant → IfOk result (λ ready. IsToldBy ready (told_by meant))
+
+abbrev pub KeepsSound : Result Answer Stop → Result Ready Fault → Type 0
+KeepsSound step result =
+    (meant : Result Told Told)
+    → IsStep told_of step meant
+    → IfOk step IsWholeAnswer
+    → (request : Request) → IfOk result (IsSound request)
 
 -- ---- between two legs
 
@@ -108,10 +127,34 @@ IsGone request tested history first written (On running) = IsRunning request tes
 IsGone request tested history first written (Over answer) =
     IsTested request tested history first (record { status = answer.status; text = written ++ answer.text })
 
+-- the first leg, or the next one, may begin
+abbrev pub IsLegReady : History → Tested → Running → Type 0
+IsLegReady history tested running =
+    IsReady history.parents history.names tested.plan tested.answers running.standing.state running.standing.table
+
 -- a next leg may begin
 abbrev pub IsNextReady : History → Option (List Outcome) → List Answered → Gone → Type 0
 IsNextReady history told answers (On running) = IsReady history.parents history.names told answers running.standing.state running.standing.table
 IsNextReady history told answers (Over answer) = Unit {0}
+
+-- a leg leaves a search of which the next leg may begin
+abbrev pub LeavesReady : {E : Type 0} → Searched → TesterMet → Result Gone E → Type 0
+LeavesReady search tester result =
+    IfOk result (IsNextReady search.history.now tester.before.plan tester.after.answers)
+
+-- a leg leads a run on that has come so far, whatever search the run is of
+abbrev pub LeadsRunOn : {E : Type 0} → Searched → Running → TesterMet → Result Gone E → Type 0
+LeadsRunOn search running tester result =
+    (request : Request) (first : Begun) (written : List ℕ)
+    → request.leg ≡ search.leg
+    → request.workers ≡ search.workers
+    → IsRunning request tester.before search.history.now first written running
+    → IfOk result (IsGone request tester.after search.history.now first written)
+
+-- a search of which nothing is written has begun to run
+abbrev pub BeginsRun : {E : Type 0} → Line → History → Beginning → Result Running E → Type 0
+BeginsRun line history first result =
+    (tested : Tested) → tested.answers ≡ [] → IfOk result (IsRunning line.request.now tested history (begun_of first) [])
 
 -- a told leg that ended after its marks leads to the next one: the line of its end is told
 abbrev pub IsOnWith : Telling → Report → Gone → Type 0
@@ -128,10 +171,20 @@ IsOverWith history telling report (Over answer) =
     (answer.status ≡ status_at_end (end_of report.ending))
     × (answer.text ≡ (telling.text ++ lines_at_end (commits_of history) report.state.terms (end_of report.ending)) ++ unwrap_or telling.trace [])
 
+-- where a leg that was told leads
+abbrev pub LeadsOnWith : Telling → Report → Gone → Type 0
+LeadsOnWith telling report gone = report.ending ≡ ending.Leg → IsOnWith telling report gone
+
+abbrev pub LeadsOverWith : History → Telling → Report → Gone → Type 0
+LeadsOverWith history telling report gone = report.ending ≢ ending.Leg → IsOverWith history telling report gone
+
 -- the answer after the last leg has its cause
 abbrev pub HasGoneCause : ℕ → Tested → Gone → Type 0
 HasGoneCause before tested (On running) = Unit {0}
 HasGoneCause before tested (Over answer) = HasCause true before tested answer.status
+
+abbrev pub IsGoneCaused : TesterMet → Gone → Type 0
+IsGoneCaused tester gone = HasGoneCause tester.before.faults tester.after gone
 
 -- ---- what was written
 
@@ -160,18 +213,68 @@ pub record IsCutIn (told : Option (List Outcome)) (history : History) (first : B
   pub planned : IsFrontIfTold told history first (run_on history first table)
   pub front : AppendsFront before after (log_on history first (run_on history first table).entries)
 
+-- what a run tells behind what was written of it, whatever search the run is of
+abbrev pub TellsRest : {E : Type 0} → Searched → Running → TesterMet → SinkMet → Result Answer E → Type 0
+TellsRest search running tester sink result =
+    (request : Request) (first : Begun)
+    → request.leg ≡ search.leg
+    → request.workers ≡ search.workers
+    → IsRunning request tester.before search.history.now first [] running
+    → IfOk result (IsToldSoFar request tester.after search.history.now first sink.before sink.after)
+
+-- where it is cut short, a front of its log was written
+abbrev pub CutsRest : {E : Type 0} → Searched → Running → Tested → SinkMet → Result Answer E → Type 0
+CutsRest search running tested sink result =
+    (request : Request) (first : Begun)
+    → request.leg ≡ search.leg
+    → request.workers ≡ search.workers
+    → IsRunning request tested search.history.now first [] running
+    → IfErr result (λ fault. IsCutIn tested.plan search.history.now first sink.before sink.after)
+
+-- what was written and this answer are what a search tells that has begun
+abbrev pub TellsRun : Line → Started → Tested → SinkMet → Answer → Type 0
+TellsRun line started tested sink answer =
+    IsToldSoFar line.request.now tested started.history (begun_of started.first) sink.before sink.after answer
+
+-- where it is cut short, a front of its log was written
+abbrev pub CutsRun : {E : Type 0} → Started → Option (List Outcome) → SinkMet → Result Answer E → Type 0
+CutsRun started told sink result =
+    IfErr result (λ fault. IsCutIn told started.history (begun_of started.first) sink.before sink.after)
+
+-- what was written and this answer are what the command tells of its search
+abbrev pub TellsSearch : Verb → Line → Started → Tested → SinkMet → Answer → Type 0
+TellsSearch verb line started tested sink answer =
+    IsSearchSoFar verb started line.request.now line.words.now tested sink.before sink.after answer
+
+-- where it is cut short, a front of what the command tells was written
+abbrev pub CutsSearch : {E : Type 0} → Verb → Line → Started → Tested → SinkMet → Result Answer E → Type 0
+CutsSearch verb line started tested sink result =
+    IfErr result (λ fault. IsSearchCut verb started line.request.now line.words.now tested sink.before sink.after)
+
 -- something that may be told was written, or a front of it; or memory ran out before all
 abbrev pub IsConcluded : (Told → Type 0) → Option (List ℕ) → Option (List ℕ) → Status → Type 0
 IsConcluded IsTold before after result =
     ((told : Told) × IsTold told × IsWritten before after told.text told.status result)
     ⊎ ((result ≡ OutOfMemory) × Keeps before after)
 
+-- what the command of a line tells of its search was written, or a front of it; or memory ran out before all
+abbrev pub ConcludesSearch : Line → Started → Tested → SinkMet → Status → Type 0
+ConcludesSearch line started tested sink result =
+    IsConcluded
+    (IsSearched line.request.now.verb line.request.now line.words.now tested started.history (begun_of started.first))
+    sink.before sink.after result
+
 -- what is told before the tests or by them was written, or the line of what stood in its way
-abbrev pub Concludes : Request → List (List ℕ) → Tested → Result Ready Cut → Option (List ℕ) → Option (List ℕ) → Status → Type 0
+abbrev pub Concludes : Request → List (List ℕ) → Tested → Result Ready Fault → Option (List ℕ) → Option (List ℕ) → Status → Type 0
 Concludes request words tested (Ok ready) before after result = IsConcluded (Tells request words tested ready) before after result
 Concludes request words tested (Err Read) before after result = IsWritten before after read_fault.text ReadFault result
 Concludes request words tested (Err Shelf) before after result = IsWritten before after file_fault.text ShelfFault result
 Concludes request words tested (Err NoMemory) before after result = (result ≡ OutOfMemory) × Keeps before after
+
+-- the same of a line
+abbrev pub ConcludesLine : Line → Tested → Result Ready Fault → SinkMet → Status → Type 0
+ConcludesLine line tested ready sink result =
+    Concludes line.request.now line.words.now tested ready sink.before sink.after result
 
 -- the refusal of the words was written, or memory ran out
 abbrev pub IsRefused : WordFault → Option (List ℕ) → Option (List ℕ) → Status → Type 0

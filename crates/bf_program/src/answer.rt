@@ -1,6 +1,6 @@
 //! What the program is about to write.
 ghost use Rattle.std.specs.Prelude.{◌≡◌};
-ghost use Rattle.bf_program.specs.declared.answer.Cut.TheVariants as cuts;
+ghost use Rattle.bf_program.specs.declared.answer.Fault.TheVariants as cuts;
 ghost use Rattle.bf_program.specs.declared.answer.Stop.TheVariants as stops;
 
 use bf_io::Bytes;
@@ -17,7 +17,7 @@ pub(crate) struct Answer {
 
 /// Why there is no answer.
 #[derive(Clone, Copy, Debug, PartialEq, Eq, Error)]
-pub(crate) enum Cut {
+pub(crate) enum Fault {
     /// The stream could not be read.
     #[error("the stream could not be read")]
     Read,
@@ -29,19 +29,19 @@ pub(crate) enum Cut {
     NoMemory,
 }
 
-impl From<AllocError> for Cut {
+impl From<AllocError> for Fault {
     ghost from_gives = { λ _ e. e ≡ cuts.NoMemory };
 
-    fn from(_: AllocError) -> Cut {
-        Cut::NoMemory
+    fn from(_: AllocError) -> Fault {
+        Fault::NoMemory
     }
 }
 
-impl<T: Drop> From<AllocFailed<T>> for Cut {
+impl<T: Drop> From<AllocFailed<T>> for Fault {
     ghost from_gives = { λ _ e. e ≡ cuts.NoMemory };
 
-    fn from(_: AllocFailed<T>) -> Cut {
-        Cut::NoMemory
+    fn from(_: AllocFailed<T>) -> Fault {
+        Fault::NoMemory
     }
 }
 

@@ -3,9 +3,11 @@ ghost use Rattle.std.specs.Prelude.{◌≡◌, ◌<◌, length, All, IfOk};
 ghost use Rattle.std.specs.Option.{ForSome};
 ghost use Rattle.bf_guesses.specs.Ends.{HasEnds};
 ghost use Rattle.bf_output.specs.Beginning as beginning;
-ghost use Rattle.bf_program.specs.Files.{file_given, given_of};
+ghost use Rattle.bf_output.specs.Beginning.{begun_by_words};
+ghost use Rattle.bf_program.specs.Files.{given_of};
+ghost use Rattle.bf_program.specs.Lines.{begun_by_line, begun_with_line};
 ghost use Rattle.bf_program.specs.Steps.{IsStep};
-ghost use Rattle.bf_program.specs.Tellings.{begun_of, AreWithin};
+ghost use Rattle.bf_program.specs.Tellings.{begun_of, AreWithin, IsBegun};
 
 use crate::answer::Stop;
 use crate::file::{LogFile, replay_file};
@@ -44,7 +46,7 @@ pub(crate) fn between_ends(
 ) -> Result<Beginning, AllocError>
     requires bad { ForSome bad (λ p. p < len) }
     requires goods { All (λ p. p < len) goods.now }
-    ensures begun { IfOk result (λ first. begun_of first ≡ beginning.between_ends request.now len bad goods.now) }
+    ensures begun { IfOk result (IsBegun (beginning.between_ends request.now len bad goods.now)) }
     ensures len { IfOk result (λ first. first.state.len ≡ len) }
     ensures places { IfOk result AreWithin }
 {
@@ -75,7 +77,7 @@ fn begin_by_words(
     words: &[Word],
     history: &History,
 ) -> Result<Beginning, Stop>
-    ensures step { IsStep begun_of result (beginning.begun_by_words request.now words.now history.now) }
+    ensures step { IsStep begun_of result (begun_by_words request.now words.now history.now) }
     ensures len { IfOk result (λ first. first.state.len ≡ length history.now.parents) }
     ensures places { IfOk result AreWithin }
 {
@@ -116,7 +118,7 @@ fn begin_first(
     reach: &Reach,
 ) -> Result<Beginning, Stop>
     requires { reach.now ≡ history.now.parents }
-    ensures step { IsStep begun_of result (beginning.begun_by line.entry.request.now line.entry.words.now (file_given file.entry) history.now) }
+    ensures step { IsStep begun_of result (begun_by_line line.entry file.entry history.now) }
     ensures len { IfOk result (λ first. first.state.len ≡ length history.now.parents) }
     ensures places { IfOk result AreWithin }
 {
@@ -148,7 +150,7 @@ pub(crate) fn begin(
     reach: &Reach,
 ) -> Result<Beginning, Stop>
     requires { reach.now ≡ history.now.parents }
-    ensures step { IsStep begun_of result (beginning.begun_with_skips line.entry.request.now line.entry.words.now (file_given file.entry) history.now) }
+    ensures step { IsStep begun_of result (begun_with_line line.entry file.entry history.now) }
     ensures len { IfOk result (λ first. first.state.len ≡ length history.now.parents) }
     ensures places { IfOk result AreWithin }
     ensures ends { IfOk result (λ first. HasEnds first.state.search) }

@@ -3,12 +3,13 @@ ghost use Rattle.std.specs.Prelude.{◌≡◌, ◌≤◌, length, is_some, IsTru
 ghost use Rattle.std.specs.Option.{option_map};
 ghost use Rattle.bf_io.specs.Causes.{FailsOnlyAt};
 ghost use Rattle.bf_output.specs.Logs as logs;
+ghost use Rattle.bf_output.specs.Logs.{replayed_by};
 ghost use Rattle.bf_reading.specs.Reading as reading;
-ghost use Rattle.bf_replay.specs.Meaning.{replay_in, replayed_of, AreWithin as AreEntriesWithin, HasLength};
+ghost use Rattle.bf_replay.specs.Meaning.{replayed_of, AreWithin as AreEntriesWithin, HasLength};
 ghost use Rattle.bf_program.specs.Files.{file_given, given_of, IsFileOf};
 ghost use Rattle.bf_program.specs.Steps.{IsStep};
 
-use crate::answer::{Cut, Stop};
+use crate::answer::{Fault, Stop};
 use crate::named::word_at;
 use crate::refusals::{log_refusal, no_file, too_long};
 use bf_import::History;
@@ -65,11 +66,11 @@ pub(crate) fn load_file<F: Shelf>(
     words: &[Word],
     replay: Option<u32>,
     shelf: &mut F,
-) -> Result<Option<LogFile>, Cut>
+) -> Result<Option<LogFile>, Fault>
     ensures file { IfOk result (IsFileOf (F.files shelf.old) words.now replay) }
-    ensures cause { FailsOnlyAt Cut.Shelf (F.faults shelf.old) (F.faults shelf.new) result }
-    ensures asked { IsErrOf result Cut.Shelf → IsTrue (is_some replay) }
-    ensures no_read { IsErrOf result Cut.Read → ⊥ }
+    ensures cause { FailsOnlyAt Fault.Shelf (F.faults shelf.old) (F.faults shelf.new) result }
+    ensures asked { IsErrOf result Fault.Shelf → IsTrue (is_some replay) }
+    ensures no_read { IsErrOf result Fault.Read → ⊥ }
 {
     let Some(index) = replay else {
         return Ok(None);
@@ -78,8 +79,8 @@ pub(crate) fn load_file<F: Shelf>(
         Ok(bytes) => Ok(Some(LogFile::Text(LogText { bytes }))),
         Err(LoadFault::Missing) => Ok(Some(LogFile::Missing)),
         Err(LoadFault::TooLong) => Ok(Some(LogFile::TooLong)),
-        Err(LoadFault::Failed) => Err(Cut::Shelf),
-        Err(LoadFault::NoMemory) => Err(Cut::NoMemory),
+        Err(LoadFault::Failed) => Err(Fault::Shelf),
+        Err(LoadFault::NoMemory) => Err(Fault::NoMemory),
     }
 }
 
@@ -125,7 +126,7 @@ fn replay_lines(
     lines: &[LogLine],
 ) -> Result<Replayed, Stop>
     requires { reach.now ≡ history.now.parents }
-    ensures step { IsStep replayed_of result (logs.replayed_or_refusal (replay_in history.now lines.now)) }
+    ensures step { IsStep replayed_of result (replayed_by history.now lines.now) }
     ensures len { IfOk result (HasLength (length history.now.parents)) }
     ensures within { IfOk result (AreEntriesWithin (length history.now.parents)) }
 {

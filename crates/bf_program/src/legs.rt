@@ -1,17 +1,14 @@
 //! The legs of a search: after each the lines so far go out.
-ghost use Rattle.std.specs.Prelude.{◌≡◌, ◌≢◌, ◌≤◌, false, true, [], length, List, ℕ, IfOk, IfErr};
-ghost use Rattle.bf_farm.specs.Reports.{manner_by};
-ghost use Rattle.bf_io.specs.Causes.{FailsOnlyAt};
-ghost use Rattle.bf_output.specs.Beginning.{Begun};
-ghost use Rattle.bf_output.specs.Tested.{Tested, tested_by};
-ghost use Rattle.bf_program.specs.Answers.{HasCause};
-ghost use Rattle.bf_program.specs.Searching.{IsStarted, IsRunning, IsGone, IsNextReady, IsOnWith, IsOverWith, IsCutIn, HasGoneCause, IsToldSoFar};
-ghost use Rattle.bf_program.specs.Tellings.{begun_of, AreWithin};
-ghost use Rattle.bf_runs.specs.Legs.{IsReady};
-ghost use Rattle.bf_runs.specs.Within.{IsEndingWithin};
-ghost use Rattle.bf_search.specs.declared.farm.Ending.TheVariants as ending;
+ghost use Rattle.std.specs.Prelude.{◌≡◌, ◌≤◌, false, true, [], length, IfOk};
 ghost use Rattle.bf_guesses.specs.Ends.{HasEnds};
-ghost use Rattle.bf_words.specs.declared.request.Request.{Request as Asked};
+ghost use Rattle.bf_io.specs.Causes.{FailsOnlyAt};
+ghost use Rattle.bf_output.specs.Tested.{tested_by};
+ghost use Rattle.bf_program.specs.Answers.{IsCaused};
+ghost use Rattle.bf_program.specs.Devices.{KeepsManner, met_sink, met_tester};
+ghost use Rattle.bf_program.specs.Searching.{BeginsRun, IsGoneCaused, IsLegReady, IsStarted, LeadsOnWith, LeadsOverWith, LeadsRunOn, LeavesReady};
+ghost use Rattle.bf_program.specs.Searching.{CutsRest, CutsRun, TellsRest, TellsRun};
+ghost use Rattle.bf_program.specs.Tellings.{AreWithin};
+ghost use Rattle.bf_search.specs.Within.{IsEndingWithin};
 
 use crate::answer::Answer;
 use crate::begin::Beginning;
@@ -49,7 +46,7 @@ fn begin_running(line: Line<'_>, history: &History, first: Beginning) -> Result<
     requires len { first.state.len ≡ length history.now.parents }
     requires places { AreWithin first }
     requires ends { HasEnds first.state.search }
-    ensures { (tested : Tested) → tested.answers ≡ [] → IfOk result (IsRunning line.entry.request.now tested history.now (begun_of first) []) }
+    ensures { BeginsRun line.entry history.now first result }
 {
     // What the length tells is needed: the places of the search are places of the history.
     let _places = first.state.len();
@@ -67,8 +64,8 @@ fn begin_running(line: Line<'_>, history: &History, first: Beginning) -> Result<
 /// The next leg, or the answer, once a leg is told.
 fn gone_with(telling: Telling, history: &History, report: Report) -> Result<Gone, AllocError>
     requires { IsEndingWithin (length history.now.parents) report.ending }
-    ensures on { IfOk result (λ gone. report.ending ≡ ending.Leg → IsOnWith telling report gone) }
-    ensures over { IfOk result (λ gone. report.ending ≢ ending.Leg → IsOverWith history.now telling report gone) }
+    ensures on { IfOk result (LeadsOnWith telling report) }
+    ensures over { IfOk result (LeadsOverWith history.now telling report) }
 {
     let Report {
         ending,
@@ -96,13 +93,14 @@ fn go_on<R: Host, T: Tester>(
     tester: &mut T,
 ) -> Result<Gone, AllocError>
     requires reach { search.reach.now ≡ search.history.now.parents }
-    requires ready { IsReady search.history.now.parents search.history.now.names (T.told tester.old) (T.answers tester.old) running.standing.state running.standing.table }
+    requires ready { IsLegReady search.history.now (tested_by T.Tester tester.old) running }
     requires is_split { T.is_split tester.old ≡ false }
-    ensures goes { (request : Asked) (first : Begun) (written : List ℕ) → request.leg ≡ search.entry.leg → request.workers ≡ search.entry.workers → IsRunning request (tested_by T.told T.command T.is_lenient T.answers T.faults T.failed T.is_split tester.old) search.entry.history.now first written running → IfOk result (IsGone request (tested_by T.told T.command T.is_lenient T.answers T.faults T.failed T.is_split tester.new) search.entry.history.now first written) }
-    ensures next { IfOk result (IsNextReady search.entry.history.now (T.told tester.old) (T.answers tester.new)) }
+    ensures goes { LeadsRunOn search.entry running
+        (met_tester T.Tester tester.old tester.new) result }
+    ensures next { LeavesReady search.entry (met_tester T.Tester tester.old tester.new) result }
     ensures later { T.faults tester.old ≤ T.faults tester.new }
-    ensures cause { IfOk result (HasGoneCause (T.faults tester.old) (tested_by T.told T.command T.is_lenient T.answers T.faults T.failed T.is_split tester.new)) }
-    ensures manner { manner_by T.told T.command T.is_lenient T.grounds T.recalled tester.new ≡ manner_by T.told T.command T.is_lenient T.grounds T.recalled tester.old }
+    ensures cause { IfOk result (IsGoneCaused (met_tester T.Tester tester.old tester.new)) }
+    ensures manner { KeepsManner T.Tester tester.old tester.new }
     ensures is_split { T.is_split tester.new ≡ false }
 {
     let Running {
@@ -125,13 +123,15 @@ fn go_through<R: Host, T: Tester, K: Sink>(
     out: &mut K,
 ) -> Result<Answer, SinkFault>
     requires reach { search.reach.now ≡ search.history.now.parents }
-    requires ready { IsReady search.history.now.parents search.history.now.names (T.told tester.old) (T.answers tester.old) running.standing.state running.standing.table }
+    requires ready { IsLegReady search.history.now (tested_by T.Tester tester.old) running }
     requires is_split { T.is_split tester.old ≡ false }
-    ensures told { (request : Asked) (first : Begun) → request.leg ≡ search.entry.leg → request.workers ≡ search.entry.workers → IsRunning request (tested_by T.told T.command T.is_lenient T.answers T.faults T.failed T.is_split tester.old) search.entry.history.now first [] running → IfOk result (IsToldSoFar request (tested_by T.told T.command T.is_lenient T.answers T.faults T.failed T.is_split tester.new) search.entry.history.now first (K.held out.old) (K.held out.new)) }
-    ensures cut { (request : Asked) (first : Begun) → request.leg ≡ search.entry.leg → request.workers ≡ search.entry.workers → IsRunning request (tested_by T.told T.command T.is_lenient T.answers T.faults T.failed T.is_split tester.old) search.entry.history.now first [] running → IfErr result (λ fault. IsCutIn (T.told tester.old) search.entry.history.now first (K.held out.old) (K.held out.new)) }
-    ensures cause { IfOk result (λ answer. HasCause true (T.faults tester.old) (tested_by T.told T.command T.is_lenient T.answers T.faults T.failed T.is_split tester.new) answer.status) }
+    ensures told { TellsRest search.entry running (met_tester T.Tester tester.old tester.new)
+        (met_sink K.Sink out.old out.new) result }
+    ensures cut { CutsRest search.entry running (tested_by T.Tester tester.old)
+        (met_sink K.Sink out.old out.new) result }
+    ensures cause { IfOk result (IsCaused true (met_tester T.Tester tester.old tester.new)) }
     ensures write { FailsOnlyAt SinkFault.Failed (K.faults out.old) (K.faults out.new) result }
-    ensures manner { manner_by T.told T.command T.is_lenient T.grounds T.recalled tester.new ≡ manner_by T.told T.command T.is_lenient T.grounds T.recalled tester.old }
+    ensures manner { KeepsManner T.Tester tester.old tester.new }
     ensures is_split { T.is_split tester.new ≡ false }
 {
     let mut running = running;
@@ -157,11 +157,12 @@ pub(crate) fn run_legs<R: Host, T: Tester, K: Sink>(
     requires started { IsStarted started }
     requires fresh { T.answers tester.old ≡ [] }
     requires is_split { T.is_split tester.old ≡ false }
-    ensures told { IfOk result (IsToldSoFar line.entry.request.now (tested_by T.told T.command T.is_lenient T.answers T.faults T.failed T.is_split tester.new) started.history (begun_of started.first) (K.held out.old) (K.held out.new)) }
-    ensures cut { IfErr result (λ fault. IsCutIn (T.told tester.old) started.history (begun_of started.first) (K.held out.old) (K.held out.new)) }
-    ensures cause { IfOk result (λ answer. HasCause true (T.faults tester.old) (tested_by T.told T.command T.is_lenient T.answers T.faults T.failed T.is_split tester.new) answer.status) }
+    ensures told { IfOk result (TellsRun line.entry started (tested_by T.Tester tester.new)
+        (met_sink K.Sink out.old out.new)) }
+    ensures cut { CutsRun started (T.told tester.old) (met_sink K.Sink out.old out.new) result }
+    ensures cause { IfOk result (IsCaused true (met_tester T.Tester tester.old tester.new)) }
     ensures write { FailsOnlyAt SinkFault.Failed (K.faults out.old) (K.faults out.new) result }
-    ensures manner { manner_by T.told T.command T.is_lenient T.grounds T.recalled tester.new ≡ manner_by T.told T.command T.is_lenient T.grounds T.recalled tester.old }
+    ensures manner { KeepsManner T.Tester tester.old tester.new }
     ensures is_split { T.is_split tester.new ≡ false }
 {
     let Started {

@@ -1,8 +1,8 @@
 //! The command `gen`, and the stream that a number gives.
 ghost use Rattle.std.specs.Prelude.{◌≡◌, IfOk};
 ghost use Rattle.bf_output.specs.Gen as made;
-ghost use Rattle.bf_program.specs.Answers.{IsWhole};
-ghost use Rattle.bf_program.specs.Tellings.{told_of};
+ghost use Rattle.bf_program.specs.Answers.{IsWholeAnswer};
+ghost use Rattle.bf_program.specs.Tellings.{Says};
 
 use crate::answer::Answer;
 use bf_io::{Bytes, PlainSink};
@@ -23,8 +23,8 @@ pub(crate) fn made_stream(alloc: Global, request: &Request) -> Result<Bytes, All
 
 /// The answer of `gen`.
 pub(crate) fn generate(alloc: Global, request: &Request) -> Result<Answer, AllocError>
-    ensures tells { IfOk result (λ answer. told_of answer ≡ made.generated request.now) }
-    ensures whole { IfOk result (λ answer. IsWhole answer.status) }
+    ensures tells { IfOk result (Says (made.generated request.now)) }
+    ensures whole { IfOk result IsWholeAnswer }
 {
     Ok(Answer {
         status: Status::Done,

@@ -3,6 +3,7 @@ ghost use Rattle.std.specs.Prelude.{◌≡◌, ◌<◌, length, All, IfOk, IfErr
 ghost use Rattle.std.specs.Option.{ForSome};
 ghost use Rattle.bf_words.specs.Words as line;
 ghost use Rattle.bf_output.specs.Beginning as beginning;
+ghost use Rattle.bf_output.specs.Beginning.{all_named};
 ghost use Rattle.bf_program.specs.Steps.{IsStep, RefusesName};
 
 use crate::answer::Stop;
@@ -62,14 +63,13 @@ pub(crate) fn named_if_given(
 }
 
 /// The places that words name, in their order.
-
 pub(crate) fn all_named(
     alloc: Global,
     history: &History,
     words: &[Word],
     indexes: &[u32],
 ) -> Result<Places, Stop>
-    ensures step { IsStep (λ ps. ps) result (beginning.all_named history.now words.now indexes.now) }
+    ensures step { IsStep (λ ps. ps) result (all_named history.now words.now indexes.now) }
     ensures within { IfOk result (λ ps. All (λ p. p < length history.now.parents) ps) }
 {
     let mut places = Places::new(alloc);

@@ -1,11 +1,11 @@
 //! The command `next`.
 ghost use Rattle.std.specs.Prelude.{◌≡◌, ◌++◌, length, IfOk, OnOk};
-ghost use Rattle.bf_search.specs.State as searches;
-ghost use Rattle.bf_output.specs.Next as next;
-ghost use Rattle.bf_program.specs.Answers.{IsWhole};
-ghost use Rattle.bf_program.specs.Files.{file_given};
+ghost use Rattle.bf_output.specs.Next.{asked_entries};
+ghost use Rattle.bf_program.specs.Answers.{IsWholeAnswer};
 ghost use Rattle.bf_program.specs.Steps.{IsStep};
-ghost use Rattle.bf_program.specs.Tellings.{begun_of, told_of, AreWithin};
+ghost use Rattle.bf_program.specs.Lines.{asked_in, next_of_line};
+ghost use Rattle.bf_program.specs.Tellings.{begun_of, told_of, AreWithin, Says};
+ghost use Rattle.bf_search.specs.Ends.{end_entries};
 
 use crate::answer::{Answer, Stop};
 use crate::begin::{Beginning, begin};
@@ -27,8 +27,8 @@ pub(crate) fn next(
     file: Option<&LogFile>,
     history: &History,
 ) -> Result<Answer, Stop>
-    ensures step { IsStep told_of result (next.next_told line.entry.request.now line.entry.words.now (file_given file.entry) history.now) }
-    ensures whole { IfOk result (λ answer. IsWhole answer.status) }
+    ensures step { IsStep told_of result (next_of_line line.entry file.entry history.now) }
+    ensures whole { IfOk result IsWholeAnswer }
 {
     let reach = Reach::build(alloc, history.graph())?;
     let first = begin(alloc, line, file, history, &reach)?;
@@ -37,7 +37,7 @@ pub(crate) fn next(
 
 /// Adds the entries of an ask: the skipped merge bases that it passes over, and its end.
 fn push_asked(entries: &mut Vec<Entry>, step: &Step) -> Result<(), AllocError>
-    ensures { OnOk result (entries.new.items ≡ entries.old.items ++ next.asked_entries step.now) }
+    ensures { OnOk result (entries.new.items ≡ entries.old.items ++ asked_entries step.now) }
 {
     for base in step.warned.as_slice() {
         entries.push(Entry::SkippedBase { place: *base })?;
@@ -47,7 +47,7 @@ fn push_asked(entries: &mut Vec<Entry>, step: &Step) -> Result<(), AllocError>
 
 /// Adds the entry of an ask that ends the search.
 fn push_end(entries: &mut Vec<Entry>, ask: &Ask) -> Result<(), AllocError>
-    ensures { OnOk result (entries.new.items ≡ entries.old.items ++ next.end_entries ask.now) }
+    ensures { OnOk result (entries.new.items ≡ entries.old.items ++ end_entries ask.now) }
 {
     match ask {
         Ask::FirstBad(place) => entries.push(Entry::FirstBadFound { place: *place })?,
@@ -70,8 +70,8 @@ fn ask_once(
     requires reach { reach.now ≡ history.now.parents }
     requires len { first.state.len ≡ length history.now.parents }
     requires places { AreWithin first }
-    ensures tells { IfOk result (λ answer. told_of answer ≡ next.asked_once history.now (begun_of first) (searches.ask history.now.parents first.state.search).step) }
-    ensures whole { IfOk result (λ answer. IsWhole answer.status) }
+    ensures tells { IfOk result (Says (asked_in history.now (begun_of first))) }
+    ensures whole { IfOk result IsWholeAnswer }
 {
     let Beginning {
         mut state,

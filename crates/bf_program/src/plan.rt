@@ -1,7 +1,7 @@
 //! The plan of outcomes that a word writes.
-ghost use Rattle.std.specs.Prelude.{◌≡◌, false, [], Some, IfOk};
+ghost use Rattle.std.specs.Prelude.{◌≡◌, false, [], IfOk};
 ghost use Rattle.bf_words.specs.Words.{word_or};
-ghost use Rattle.bf_output.specs.Simulate as simulate;
+ghost use Rattle.bf_program.specs.Lines.{TellsPlan};
 ghost use Rattle.bf_program.specs.Steps.{HasPlan};
 
 use crate::line::Line;
@@ -23,7 +23,7 @@ fn letters_of(words: &[Word], index: Option<u32>) -> &[u8]
 /// A tester of the plan that the words write, read as `--lenient-exit` has it.
 pub(crate) fn tester_of(alloc: Global, line: Line<'_>) -> Result<PlanTester, AllocError>
     requires plan { HasPlan line.request.now line.words.now }
-    ensures told { IfOk result (λ tester. ⟦<PlanTester as Tester>⟧.told tester ≡ Some (simulate.plan_of line.entry.request.now line.entry.words.now)) }
+    ensures told { IfOk result (TellsPlan ⟦<PlanTester as Tester>⟧ line.entry) }
     ensures fresh { IfOk result (λ tester. ⟦<PlanTester as Tester>⟧.answers tester ≡ []) }
     ensures is_split { IfOk result (λ tester. ⟦<PlanTester as Tester>⟧.is_split tester ≡ false) }
 {

@@ -1,13 +1,11 @@
 //! What stands before the tests: the order of the refusals.
-ghost use Rattle.std.specs.Prelude.{◌≡◌, is_some, IfOk, IsErrOf, IsTrue};
+ghost use Rattle.std.specs.Prelude.{is_some, IfOk, IsErrOf, IsTrue};
 ghost use Rattle.bf_io.specs.Causes.{FailsOnlyAt};
-ghost use Rattle.bf_output.specs.Gen.{made_stream};
-ghost use Rattle.bf_output.specs.Output as output;
-ghost use Rattle.bf_program.specs.Answers.{given_to};
-ghost use Rattle.bf_program.specs.Files.{file_given};
-ghost use Rattle.bf_program.specs.Searching.{AllTold, IsSound};
+ghost use Rattle.bf_output.specs.Output.{reads_stream};
+ghost use Rattle.bf_program.specs.Lines.{TellsOutput, TellsHistory, TellsFile, TellsMade, TellsStream};
+ghost use Rattle.bf_program.specs.Searching.{IsSound};
 
-use crate::answer::Cut;
+use crate::answer::Fault;
 use crate::file::{LogFile, lent, load_file};
 use crate::line::Line;
 use crate::made::{generate, made_stream};
@@ -27,13 +25,13 @@ pub(crate) fn prepare<S: Source, F: Shelf>(
     line: Line<'_>,
     stream: &mut S,
     shelf: &mut F,
-) -> Result<Ready, Cut>
-    ensures output { IfOk result (λ ready. AllTold line.entry.request.now line.entry.words.now ready (λ tested told. output.IsOutputOf line.entry.request.now.verb line.entry.request.now (given_to line.entry.words.now (F.files shelf.old) tested) (S.left stream.old) told)) }
+) -> Result<Ready, Fault>
+    ensures output { IfOk result (TellsOutput line.entry (F.files shelf.old) (S.left stream.old)) }
     ensures sound { IfOk result (IsSound line.entry.request.now) }
-    ensures reads { IsErrOf result Cut.Read → IsTrue (output.reads_stream line.entry.request.now.verb) }
-    ensures cause { FailsOnlyAt Cut.Read (S.faults stream.old) (S.faults stream.new) result }
-    ensures asks { IsErrOf result Cut.Shelf → IsTrue (is_some line.entry.request.now.replay) }
-    ensures file { FailsOnlyAt Cut.Shelf (F.faults shelf.old) (F.faults shelf.new) result }
+    ensures reads { IsErrOf result Fault.Read → IsTrue (reads_stream line.entry.request.now.verb) }
+    ensures cause { FailsOnlyAt Fault.Read (S.faults stream.old) (S.faults stream.new) result }
+    ensures asks { IsErrOf result Fault.Shelf → IsTrue (is_some line.entry.request.now.replay) }
+    ensures file { FailsOnlyAt Fault.Shelf (F.faults shelf.old) (F.faults shelf.new) result }
 {
     match line.request.verb {
         Verb::Simulate | Verb::Run | Verb::Next | Verb::Replay => {
@@ -45,12 +43,12 @@ pub(crate) fn prepare<S: Source, F: Shelf>(
 }
 
 /// The same over the stream that a number gives. It is read from memory, so no read fails.
-fn prepare_made<F: Shelf>(line: Line<'_>, shelf: &mut F) -> Result<Ready, Cut>
-    ensures output { IfOk result (λ ready. AllTold line.entry.request.now line.entry.words.now ready (λ tested told. output.IsOverBytes line.entry.request.now (given_to line.entry.words.now (F.files shelf.old) tested) (made_stream line.entry.request.now) told)) }
+fn prepare_made<F: Shelf>(line: Line<'_>, shelf: &mut F) -> Result<Ready, Fault>
+    ensures output { IfOk result (TellsMade line.entry (F.files shelf.old)) }
     ensures sound { IfOk result (IsSound line.entry.request.now) }
-    ensures no_read { IsErrOf result Cut.Read → ⊥ }
-    ensures asks { IsErrOf result Cut.Shelf → IsTrue (is_some line.entry.request.now.replay) }
-    ensures file { FailsOnlyAt Cut.Shelf (F.faults shelf.old) (F.faults shelf.new) result }
+    ensures no_read { IsErrOf result Fault.Read → ⊥ }
+    ensures asks { IsErrOf result Fault.Shelf → IsTrue (is_some line.entry.request.now.replay) }
+    ensures file { FailsOnlyAt Fault.Shelf (F.faults shelf.old) (F.faults shelf.new) result }
 {
     let mut made = PlainSource::new(made_stream(line.alloc, line.request)?);
     prepare_stream(line, &mut made, shelf)
@@ -61,12 +59,12 @@ fn prepare_stream<S: Source, F: Shelf>(
     line: Line<'_>,
     stream: &mut S,
     shelf: &mut F,
-) -> Result<Ready, Cut>
-    ensures output { IfOk result (λ ready. AllTold line.entry.request.now line.entry.words.now ready (λ tested told. output.IsOverStream line.entry.request.now (given_to line.entry.words.now (F.files shelf.old) tested) (S.left stream.old) told)) }
+) -> Result<Ready, Fault>
+    ensures output { IfOk result (TellsStream line.entry (F.files shelf.old) (S.left stream.old)) }
     ensures sound { IfOk result (IsSound line.entry.request.now) }
-    ensures cause { FailsOnlyAt Cut.Read (S.faults stream.old) (S.faults stream.new) result }
-    ensures asks { IsErrOf result Cut.Shelf → IsTrue (is_some line.entry.request.now.replay) }
-    ensures file { FailsOnlyAt Cut.Shelf (F.faults shelf.old) (F.faults shelf.new) result }
+    ensures cause { FailsOnlyAt Fault.Read (S.faults stream.old) (S.faults stream.new) result }
+    ensures asks { IsErrOf result Fault.Shelf → IsTrue (is_some line.entry.request.now.replay) }
+    ensures file { FailsOnlyAt Fault.Shelf (F.faults shelf.old) (F.faults shelf.new) result }
 {
     match import(line.alloc, stream, Limits::standard()) {
         Ok(history) => prepare_over(line, history, shelf),
@@ -75,23 +73,23 @@ fn prepare_stream<S: Source, F: Shelf>(
 }
 
 /// The same over a history: the file that the words name is loaded first.
-fn prepare_over<F: Shelf>(line: Line<'_>, history: History, shelf: &mut F) -> Result<Ready, Cut>
-    ensures output { IfOk result (λ ready. AllTold line.entry.request.now line.entry.words.now ready (λ tested told. output.IsOver line.entry.request.now (given_to line.entry.words.now (F.files shelf.old) tested) history told)) }
+fn prepare_over<F: Shelf>(line: Line<'_>, history: History, shelf: &mut F) -> Result<Ready, Fault>
+    ensures output { IfOk result (TellsHistory line.entry (F.files shelf.old) history) }
     ensures sound { IfOk result (IsSound line.entry.request.now) }
-    ensures no_read { IsErrOf result Cut.Read → ⊥ }
-    ensures asks { IsErrOf result Cut.Shelf → IsTrue (is_some line.entry.request.now.replay) }
-    ensures file { FailsOnlyAt Cut.Shelf (F.faults shelf.old) (F.faults shelf.new) result }
+    ensures no_read { IsErrOf result Fault.Read → ⊥ }
+    ensures asks { IsErrOf result Fault.Shelf → IsTrue (is_some line.entry.request.now.replay) }
+    ensures file { FailsOnlyAt Fault.Shelf (F.faults shelf.old) (F.faults shelf.new) result }
 {
     let file = load_file(line.words, line.request.replay, shelf)?;
     prepare_command(line, lent(&file), history)
 }
 
 /// The same over a history and the file that the words name.
-fn prepare_command(line: Line<'_>, file: Option<&LogFile>, history: History) -> Result<Ready, Cut>
-    ensures tells { IfOk result (λ ready. AllTold line.entry.request.now line.entry.words.now ready (λ tested told. output.IsOverFile line.entry.request.now.verb line.entry.request.now line.entry.words.now tested (file_given file.entry) history told)) }
+fn prepare_command(line: Line<'_>, file: Option<&LogFile>, history: History) -> Result<Ready, Fault>
+    ensures tells { IfOk result (TellsFile line.entry file.entry history) }
     ensures sound { IfOk result (IsSound line.entry.request.now) }
-    ensures no_read { IsErrOf result Cut.Read → ⊥ }
-    ensures no_shelf { IsErrOf result Cut.Shelf → ⊥ }
+    ensures no_read { IsErrOf result Fault.Read → ⊥ }
+    ensures no_shelf { IsErrOf result Fault.Shelf → ⊥ }
 {
     let alloc = line.alloc;
     match line.request.verb {

@@ -1,16 +1,9 @@
 //! What is answered before any commit is tested, or the search that is to be tested.
-ghost use Rattle.std.specs.Prelude.{◌≡◌, Result, IfOk, IsErrOf};
-ghost use Rattle.bf_output.specs.Beginning as beginning;
-ghost use Rattle.bf_output.specs.Output as output;
-ghost use Rattle.bf_output.specs.Told.{Told, told_by};
-ghost use Rattle.bf_program.specs.Answers.{IsWhole};
-ghost use Rattle.bf_program.specs.Files.{file_given};
-ghost use Rattle.bf_program.specs.Searching.{AllTold, IsSound, IsToldBy, verb_of};
-ghost use Rattle.bf_program.specs.Steps.{IsStep};
-ghost use Rattle.bf_program.specs.Tellings.{told_of};
-ghost use Rattle.bf_words.specs.declared.request.Request.{Request};
+ghost use Rattle.std.specs.Prelude.{◌≡◌, IfOk, IsErrOf};
+ghost use Rattle.bf_program.specs.Lines.{TellsSearchFrom};
+ghost use Rattle.bf_program.specs.Searching.{IsSound, KeepsSound, TellsStep, verb_of};
 
-use crate::answer::{Answer, Cut, Stop};
+use crate::answer::{Answer, Fault, Stop};
 use crate::begin::{Beginning, begin};
 use crate::file::LogFile;
 use crate::line::Line;
@@ -48,12 +41,12 @@ pub(crate) fn start(
     file: Option<&LogFile>,
     history: History,
     means: Means,
-) -> Result<Ready, Cut>
+) -> Result<Ready, Fault>
     requires asked { verb_of means ≡ line.request.now.verb }
-    ensures tells { IfOk result (λ ready. AllTold line.entry.request.now line.entry.words.now ready (λ tested told. output.IsSearchedFrom (beginning.begun_with_skips line.entry.request.now line.entry.words.now (file_given file.entry) history) (verb_of means) line.entry.request.now line.entry.words.now tested history told)) }
+    ensures tells { IfOk result (TellsSearchFrom line.entry file.entry history means) }
     ensures sound { IfOk result (IsSound line.entry.request.now) }
-    ensures no_read { IsErrOf result Cut.Read → ⊥ }
-    ensures no_shelf { IsErrOf result Cut.Shelf → ⊥ }
+    ensures no_read { IsErrOf result Fault.Read → ⊥ }
+    ensures no_shelf { IsErrOf result Fault.Shelf → ⊥ }
 {
     let reach = Reach::build(line.alloc, history.graph())?;
     match begin(line.alloc, line, file, &history, &reach) {
@@ -68,14 +61,14 @@ pub(crate) fn start(
 }
 
 /// What a command answers that tests nothing, or its refusal.
-pub(crate) fn told(step: Result<Answer, Stop>) -> Result<Ready, Cut>
-    ensures tells { (meant : Result Told Told) → IsStep told_of step meant → IfOk result (λ ready. IsToldBy ready (told_by meant)) }
-    ensures sound { (meant : Result Told Told) → IsStep told_of step meant → IfOk step (λ answer. IsWhole answer.status) → (request : Request) → IfOk result (IsSound request) }
-    ensures no_read { IsErrOf result Cut.Read → ⊥ }
-    ensures no_shelf { IsErrOf result Cut.Shelf → ⊥ }
+pub(crate) fn told(step: Result<Answer, Stop>) -> Result<Ready, Fault>
+    ensures tells { TellsStep step result }
+    ensures sound { KeepsSound step result }
+    ensures no_read { IsErrOf result Fault.Read → ⊥ }
+    ensures no_shelf { IsErrOf result Fault.Shelf → ⊥ }
 {
     match step {
         Ok(answer) | Err(Stop::Refused(answer)) => Ok(Ready::Told(answer)),
-        Err(Stop::NoMemory) => Err(Cut::NoMemory),
+        Err(Stop::NoMemory) => Err(Fault::NoMemory),
     }
 }

@@ -1,11 +1,12 @@
 //! The answers that are refusals.
-ghost use Rattle.std.specs.Prelude.{◌≡◌, ◌++◌, length, is_some, IfOk, OnOk, IsErrOf};
+ghost use Rattle.std.specs.Prelude.{◌≡◌, ◌++◌, IfOk, OnOk, IsErrOf};
 ghost use Rattle.bf_output.specs.Refusals as refusals;
 ghost use Rattle.bf_output.specs.Statuses as words;
-ghost use Rattle.bf_program.specs.Answers.{IsWhole};
-ghost use Rattle.bf_program.specs.Tellings.{told_of};
+ghost use Rattle.bf_program.specs.Answers.{IsWholeAnswer};
+ghost use Rattle.bf_program.specs.Lines.{waiting_in};
+ghost use Rattle.bf_program.specs.Tellings.{Says};
 
-use crate::answer::{Answer, Cut};
+use crate::answer::{Answer, Fault};
 use crate::tell::sides_of;
 use bf_grammar::{Limit, StreamFault};
 use bf_history::ImportFault;
@@ -17,11 +18,11 @@ use bf_state::State;
 use std::alloc::{AllocError, Global};
 
 /// The answer to a stream that gave no history.
-pub(crate) fn refusal(alloc: Global, fault: ImportFault) -> Result<Answer, Cut>
-    ensures tells { IfOk result (λ answer. told_of answer ≡ refusals.refusal fault) }
-    ensures whole { IfOk result (λ answer. IsWhole answer.status) }
-    ensures read { IsErrOf result Cut.Read → fault ≡ ImportFault.Stream StreamFault.Read }
-    ensures no_shelf { IsErrOf result Cut.Shelf → ⊥ }
+pub(crate) fn refusal(alloc: Global, fault: ImportFault) -> Result<Answer, Fault>
+    ensures tells { IfOk result (Says (refusals.refusal fault)) }
+    ensures whole { IfOk result IsWholeAnswer }
+    ensures read { IsErrOf result Fault.Read → fault ≡ ImportFault.Stream StreamFault.Read }
+    ensures no_shelf { IsErrOf result Fault.Shelf → ⊥ }
 {
     match fault {
         ImportFault::Stream(fault) => refusal_of_stream(alloc, fault),
@@ -30,33 +31,33 @@ pub(crate) fn refusal(alloc: Global, fault: ImportFault) -> Result<Answer, Cut>
         ImportFault::BadPath { line } => refused_at(alloc, line, StreamKind::BadPath),
         ImportFault::Unsupported { line } => refused_at(alloc, line, StreamKind::Unsupported),
         ImportFault::TooLarge { what } => too_large(alloc, what),
-        ImportFault::NoMemory => Err(Cut::NoMemory),
+        ImportFault::NoMemory => Err(Fault::NoMemory),
     }
 }
 
-fn refusal_of_stream(alloc: Global, fault: StreamFault) -> Result<Answer, Cut>
-    ensures tells { IfOk result (λ answer. told_of answer ≡ refusals.refusal_of_stream fault) }
-    ensures whole { IfOk result (λ answer. IsWhole answer.status) }
-    ensures read { IsErrOf result Cut.Read → fault ≡ StreamFault.Read }
-    ensures no_shelf { IsErrOf result Cut.Shelf → ⊥ }
+fn refusal_of_stream(alloc: Global, fault: StreamFault) -> Result<Answer, Fault>
+    ensures tells { IfOk result (Says (refusals.refusal_of_stream fault)) }
+    ensures whole { IfOk result IsWholeAnswer }
+    ensures read { IsErrOf result Fault.Read → fault ≡ StreamFault.Read }
+    ensures no_shelf { IsErrOf result Fault.Shelf → ⊥ }
 {
     match fault {
         StreamFault::Syntax { line } => refused_at(alloc, line, StreamKind::Syntax),
         StreamFault::Unsupported { line } => refused_at(alloc, line, StreamKind::Unsupported),
         StreamFault::Truncated { line } => refused_at(alloc, line, StreamKind::Truncated),
         StreamFault::NoDone { line } => refused_at(alloc, line, StreamKind::NoDone),
-        StreamFault::Read => Err(Cut::Read),
+        StreamFault::Read => Err(Fault::Read),
         StreamFault::TooLarge { what } => too_large(alloc, what),
-        StreamFault::NoMemory => Err(Cut::NoMemory),
+        StreamFault::NoMemory => Err(Fault::NoMemory),
     }
 }
 
 #[tactic(auto, unfolding(bf_output::specs::Refusals::refused_at))]
-fn refused_at(alloc: Global, line: u64, kind: StreamKind) -> Result<Answer, Cut>
-    ensures tells { IfOk result (λ answer. told_of answer ≡ refusals.refused_at line kind) }
-    ensures whole { IfOk result (λ answer. IsWhole answer.status) }
-    ensures no_read { IsErrOf result Cut.Read → ⊥ }
-    ensures no_shelf { IsErrOf result Cut.Shelf → ⊥ }
+fn refused_at(alloc: Global, line: u64, kind: StreamKind) -> Result<Answer, Fault>
+    ensures tells { IfOk result (Says (refusals.refused_at line kind)) }
+    ensures whole { IfOk result IsWholeAnswer }
+    ensures no_read { IsErrOf result Fault.Read → ⊥ }
+    ensures no_shelf { IsErrOf result Fault.Shelf → ⊥ }
 {
     let mut text = Bytes::from_slice(alloc, b"stream refused at line ")?;
     put_decimal(&mut text, line)?;
@@ -70,11 +71,11 @@ fn refused_at(alloc: Global, line: u64, kind: StreamKind) -> Result<Answer, Cut>
 }
 
 #[tactic(auto, unfolding(bf_output::specs::Refusals::too_large))]
-fn too_large(alloc: Global, what: Limit) -> Result<Answer, Cut>
-    ensures tells { IfOk result (λ answer. told_of answer ≡ refusals.too_large what) }
-    ensures whole { IfOk result (λ answer. IsWhole answer.status) }
-    ensures no_read { IsErrOf result Cut.Read → ⊥ }
-    ensures no_shelf { IsErrOf result Cut.Shelf → ⊥ }
+fn too_large(alloc: Global, what: Limit) -> Result<Answer, Fault>
+    ensures tells { IfOk result (Says (refusals.too_large what)) }
+    ensures whole { IfOk result IsWholeAnswer }
+    ensures no_read { IsErrOf result Fault.Read → ⊥ }
+    ensures no_shelf { IsErrOf result Fault.Shelf → ⊥ }
 {
     let mut text = Bytes::from_slice(alloc, b"too large: ")?;
     text.append(word_of_limit(what))?;
@@ -88,8 +89,8 @@ fn too_large(alloc: Global, what: Limit) -> Result<Answer, Cut>
 /// The answer to a name that means no commit.
 #[tactic(auto, unfolding(bf_output::specs::Refusals::name_refused))]
 pub(crate) fn name_refusal(alloc: Global, word: u32, fault: NameFault) -> Result<Answer, AllocError>
-    ensures tells { IfOk result (λ answer. told_of answer ≡ refusals.name_refused word fault) }
-    ensures whole { IfOk result (λ answer. IsWhole answer.status) }
+    ensures tells { IfOk result (Says (refusals.name_refused word fault)) }
+    ensures whole { IfOk result IsWholeAnswer }
 {
     let mut text = Bytes::from_slice(alloc, b"name refused at word ")?;
     put_decimal(&mut text, u64::from(word))?;
@@ -105,8 +106,8 @@ pub(crate) fn name_refusal(alloc: Global, word: u32, fault: NameFault) -> Result
 /// The answer to a log that is refused at a line.
 #[tactic(auto, unfolding(bf_output::specs::Refusals::log_refused))]
 pub(crate) fn log_refusal(alloc: Global, line: u32) -> Result<Answer, AllocError>
-    ensures tells { IfOk result (λ answer. told_of answer ≡ refusals.log_refused line) }
-    ensures whole { IfOk result (λ answer. IsWhole answer.status) }
+    ensures tells { IfOk result (Says (refusals.log_refused line)) }
+    ensures whole { IfOk result IsWholeAnswer }
 {
     let mut text = Bytes::from_slice(alloc, b"log refused at line ")?;
     put_decimal(&mut text, u64::from(line))?;
@@ -119,8 +120,8 @@ pub(crate) fn log_refusal(alloc: Global, line: u32) -> Result<Answer, AllocError
 
 /// The answer where the file of a log is missing.
 pub(crate) fn no_file(alloc: Global) -> Result<Answer, AllocError>
-    ensures tells { IfOk result (λ answer. told_of answer ≡ refusals.no_file) }
-    ensures whole { IfOk result (λ answer. IsWhole answer.status) }
+    ensures tells { IfOk result (Says refusals.no_file) }
+    ensures whole { IfOk result IsWholeAnswer }
 {
     Ok(Answer {
         status: Status::NoFile,
@@ -131,8 +132,8 @@ pub(crate) fn no_file(alloc: Global) -> Result<Answer, AllocError>
 /// The answer where the file of a log is longer than a log may be.
 #[tactic(auto, unfolding(bf_output::specs::Refusals::too_large))]
 pub(crate) fn too_long(alloc: Global) -> Result<Answer, AllocError>
-    ensures tells { IfOk result (λ answer. told_of answer ≡ refusals.too_large Limit.Log) }
-    ensures whole { IfOk result (λ answer. IsWhole answer.status) }
+    ensures tells { IfOk result (Says (refusals.too_large Limit.Log)) }
+    ensures whole { IfOk result IsWholeAnswer }
 {
     Ok(Answer {
         status: Status::TooLarge { what: Limit::Log },
@@ -185,8 +186,8 @@ fn put_name_fault(out: &mut Bytes, fault: NameFault) -> Result<(), AllocError>
 /// The answer to words that are in no form.
 #[tactic(auto, unfolding(bf_output::specs::Refusals::usage))]
 pub(crate) fn usage(alloc: Global, word: u32) -> Result<Answer, AllocError>
-    ensures tells { IfOk result (λ answer. told_of answer ≡ refusals.usage word) }
-    ensures whole { IfOk result (λ answer. IsWhole answer.status) }
+    ensures tells { IfOk result (Says (refusals.usage word)) }
+    ensures whole { IfOk result IsWholeAnswer }
 {
     let mut text = Bytes::from_slice(alloc, b"usage fault at word ")?;
     put_decimal(&mut text, u64::from(word))?;
@@ -200,8 +201,8 @@ pub(crate) fn usage(alloc: Global, word: u32) -> Result<Answer, AllocError>
 /// The answer of a search that waits for an end.
 #[tactic(auto, unfolding(bf_output::specs::Refusals::waiting))]
 pub(crate) fn waiting(alloc: Global, state: &State) -> Result<Answer, AllocError>
-    ensures tells { IfOk result (λ answer. told_of answer ≡ refusals.waiting state.now.terms (is_some state.now.search.bad) (length state.now.search.goods)) }
-    ensures whole { IfOk result (λ answer. IsWhole answer.status) }
+    ensures tells { IfOk result (Says (waiting_in state.now)) }
+    ensures whole { IfOk result IsWholeAnswer }
 {
     let mut text = Bytes::new(alloc);
     let goods = state.goods.len() as u64;

@@ -1,11 +1,11 @@
 //! The command `replay`.
-ghost use Rattle.std.specs.Prelude.{◌≡◌, length, IfOk};
+ghost use Rattle.std.specs.Prelude.{length, IfOk};
 ghost use Rattle.bf_output.specs.Replay as replay;
 ghost use Rattle.bf_replay.specs.Meaning.{replayed_of, AreWithin as AreEntriesWithin, HasLength};
-ghost use Rattle.bf_program.specs.Answers.{IsWhole};
+ghost use Rattle.bf_program.specs.Answers.{IsWholeAnswer};
 ghost use Rattle.bf_program.specs.Files.{file_given, given_of};
 ghost use Rattle.bf_program.specs.Steps.{IsStep};
-ghost use Rattle.bf_program.specs.Tellings.{told_of};
+ghost use Rattle.bf_program.specs.Tellings.{told_of, Says};
 
 use crate::answer::{Answer, Stop};
 use crate::file::{LogFile, replay_file};
@@ -27,7 +27,7 @@ pub(crate) fn replay_log(
     history: &History,
 ) -> Result<Answer, Stop>
     ensures step { IsStep told_of result (replay.replay_told (file_given file.entry) history.now) }
-    ensures whole { IfOk result (λ answer. IsWhole answer.status) }
+    ensures whole { IfOk result IsWholeAnswer }
 {
     match file {
         Some(file) => replay_given(alloc, file, history),
@@ -38,7 +38,7 @@ pub(crate) fn replay_log(
 /// The normal log of the log in a file, and its state.
 fn replay_given(alloc: Global, file: &LogFile, history: &History) -> Result<Answer, Stop>
     ensures step { IsStep told_of result (replay.file_told (given_of file.now) history.now) }
-    ensures whole { IfOk result (λ answer. IsWhole answer.status) }
+    ensures whole { IfOk result IsWholeAnswer }
 {
     let reach = Reach::build(alloc, history.graph())?;
     let replayed = replay_file(alloc, history, &reach, file)?;
@@ -49,8 +49,8 @@ fn replay_given(alloc: Global, file: &LogFile, history: &History) -> Result<Answ
 fn normal_log(alloc: Global, history: &History, replayed: &Replayed) -> Result<Answer, AllocError>
     requires len { HasLength (length history.now.parents) replayed.now }
     requires within { AreEntriesWithin (length history.now.parents) replayed.now }
-    ensures tells { IfOk result (λ answer. told_of answer ≡ replay.normal_log history.now (replayed_of replayed.now)) }
-    ensures whole { IfOk result (λ answer. IsWhole answer.status) }
+    ensures tells { IfOk result (Says (replay.normal_log history.now (replayed_of replayed.now))) }
+    ensures whole { IfOk result IsWholeAnswer }
 {
     let state = &replayed.state;
     let _len = state.len();

@@ -2,9 +2,9 @@
 ghost use Rattle.std.specs.Prelude.{◌≡◌, ◌<◌, ◌++◌, length, count_by, codes, All, IfOk, OnOk};
 ghost use Rattle.std.specs.Option.{ForSome};
 ghost use Rattle.bf_output.specs.Sample as sample;
-ghost use Rattle.bf_output.specs.Simulate.{run_over};
-ghost use Rattle.bf_program.specs.Answers.{IsWhole};
-ghost use Rattle.bf_program.specs.Tellings.{begun_of, told_of};
+ghost use Rattle.bf_program.specs.Answers.{IsWholeAnswer};
+ghost use Rattle.bf_program.specs.Lines.{sampled_from};
+ghost use Rattle.bf_program.specs.Tellings.{begun_of, IsBegun, Says};
 
 use crate::answer::Answer;
 use crate::begin::{Beginning, between_ends};
@@ -24,8 +24,8 @@ pub(crate) fn sample(
     request: &Request,
     history: &History,
 ) -> Result<Answer, AllocError>
-    ensures tells { IfOk result (λ answer. told_of answer ≡ sample.sampled request.now history.now) }
-    ensures whole { IfOk result (λ answer. IsWhole answer.status) }
+    ensures tells { IfOk result (Says (sample.sampled request.now history.now)) }
+    ensures whole { IfOk result IsWholeAnswer }
 {
     let reach = Reach::build(alloc, history.graph())?;
     let first = whole_search(alloc, request, history.len())?;
@@ -50,7 +50,7 @@ fn first_places(len: u32) -> &'static [u32]
 
 /// The search between the first commit and the last one.
 fn whole_search(alloc: Global, request: &Request, len: u32) -> Result<Beginning, AllocError>
-    ensures begun { IfOk result (λ first. begun_of first ≡ sample.whole_search request.now len) }
+    ensures begun { IfOk result (IsBegun (sample.whole_search request.now len)) }
     ensures len { IfOk result (λ first. first.state.len ≡ len) }
 {
     between_ends(alloc, request, len, last_place(len), first_places(len))
@@ -109,8 +109,8 @@ fn run(
 ) -> Result<Answer, AllocError>
     requires reach { reach.now ≡ history.now.parents }
     requires len { first.state.len ≡ length history.now.parents }
-    ensures tells { IfOk result (λ answer. told_of answer ≡ sample.summed_up request.now history.now (begun_of first) (run_over history.now (begun_of first) (sample.plan_of_sample request.now.count))) }
-    ensures whole { IfOk result (λ answer. IsWhole answer.status) }
+    ensures tells { IfOk result (Says (sampled_from request.now history.now (begun_of first))) }
+    ensures whole { IfOk result IsWholeAnswer }
 {
     let Beginning { mut state, .. } = first;
     let plan = plan_of_sample(alloc, request.count)?;

@@ -1,13 +1,13 @@
 //! Searches: the commands `simulate` and `run`.
-ghost use Rattle.std.specs.Prelude.{◌≡◌, ◌≢◌, ℕ, true, false, [], IfOk, IfErr};
+ghost use Rattle.std.specs.Prelude.{◌≡◌, ◌≢◌, true, false, [], IfOk};
 ghost use Rattle.bf_io.specs.Causes.{FailsOnlyAt, Rose};
-ghost use Rattle.bf_output.specs.Output as output;
 ghost use Rattle.bf_output.specs.Tested as tested;
 ghost use Rattle.bf_output.specs.Tested.{Tested, tested_by};
-ghost use Rattle.bf_program.specs.Answers.{HasCause, IsFailedTest, IsWhole};
-ghost use Rattle.bf_program.specs.Searching.{IsStarted, IsConcluded, IsSearchSoFar, IsSearchCut, verb_of};
+ghost use Rattle.bf_program.specs.Answers.{IsCaused, IsWholeAnswer};
+ghost use Rattle.bf_program.specs.Devices.{met_sink, met_tester};
+ghost use Rattle.bf_program.specs.Lines.{HasTestCauseIn, IsCausedIn, IsUsedIn, IsUsedToTest};
+ghost use Rattle.bf_program.specs.Searching.{IsStarted, ConcludesSearch, TellsSearch, CutsSearch, verb_of};
 ghost use Rattle.bf_program.specs.Steps.{HasPlan};
-ghost use Rattle.bf_program.specs.Tellings.{begun_of};
 ghost use Rattle.bf_words.specs.declared.verb.Verb.TheVariants as Verb;
 
 use crate::answer::Answer;
@@ -43,12 +43,13 @@ pub(crate) fn search<R: Host, T: Tester, K: Sink>(
     requires asked { verb_of started.means ≡ line.request.now.verb }
     requires fresh { T.answers tester.old ≡ [] }
     requires is_split { T.is_split tester.old ≡ false }
-    ensures told { IsConcluded (output.IsSearched line.entry.request.now.verb line.entry.request.now line.entry.words.now (tested_by T.told T.command T.is_lenient T.answers T.faults T.failed T.is_split tester.new) started.history (begun_of started.first)) (K.held out.old) (K.held out.new) result }
-    ensures test { (place : ℕ) → result ≡ Status.TestFault place → IsFailedTest (output.is_run line.entry.request.now.verb) (T.faults tester.old) (tested_by T.told T.command T.is_lenient T.answers T.faults T.failed T.is_split tester.new) place }
+    ensures told { ConcludesSearch line.entry started (tested_by T.Tester tester.new)
+        (met_sink K.Sink out.old out.new) result }
+    ensures test { HasTestCauseIn line.entry (met_tester T.Tester tester.old tester.new) result }
     ensures write { result ≡ Status.WriteFault → Rose (K.faults out.old) (K.faults out.new) }
     ensures own { (result ≢ Status.ReadFault) × (result ≢ Status.ShelfFault) }
     ensures is_split { T.is_split tester.new ≡ false }
-    ensures used { output.IsUsedIf (output.is_run line.entry.request.now.verb) line.entry.request.now line.entry.words.now (tested_by T.told T.command T.is_lenient T.answers T.faults T.failed T.is_split tester.old) (tested_by T.told T.command T.is_lenient T.answers T.faults T.failed T.is_split tester.new) }
+    ensures used { IsUsedIn line.entry (met_tester T.Tester tester.old tester.new) }
 {
     match search_by(rt, line, started, tester, out) {
         Ok(answer) => say(out, answer.text.as_slice(), answer.status),
@@ -69,11 +70,14 @@ fn search_by<R: Host, T: Tester, K: Sink>(
     requires asked { verb_of started.means ≡ line.request.now.verb }
     requires fresh { T.answers tester.old ≡ [] }
     requires is_split { T.is_split tester.old ≡ false }
-    ensures told { IfOk result (IsSearchSoFar line.entry.request.now.verb started line.entry.request.now line.entry.words.now (tested_by T.told T.command T.is_lenient T.answers T.faults T.failed T.is_split tester.new) (K.held out.old) (K.held out.new)) }
-    ensures cut { IfErr result (λ fault. IsSearchCut line.entry.request.now.verb started line.entry.request.now line.entry.words.now (tested_by T.told T.command T.is_lenient T.answers T.faults T.failed T.is_split tester.new) (K.held out.old) (K.held out.new)) }
-    ensures cause { IfOk result (λ answer. HasCause (output.is_run line.entry.request.now.verb) (T.faults tester.old) (tested_by T.told T.command T.is_lenient T.answers T.faults T.failed T.is_split tester.new) answer.status) }
+    ensures told { IfOk result (TellsSearch line.entry.request.now.verb line.entry started
+        (tested_by T.Tester tester.new) (met_sink K.Sink out.old out.new)) }
+    ensures cut { CutsSearch line.entry.request.now.verb line.entry started
+        (tested_by T.Tester tester.new) (met_sink K.Sink out.old out.new) result }
+    ensures cause { IfOk result (IsCausedIn line.entry
+        (met_tester T.Tester tester.old tester.new)) }
     ensures write { FailsOnlyAt SinkFault.Failed (K.faults out.old) (K.faults out.new) result }
-    ensures used { output.IsUsedIf (output.is_run line.entry.request.now.verb) line.entry.request.now line.entry.words.now (tested_by T.told T.command T.is_lenient T.answers T.faults T.failed T.is_split tester.old) (tested_by T.told T.command T.is_lenient T.answers T.faults T.failed T.is_split tester.new) }
+    ensures used { IsUsedIn line.entry (met_tester T.Tester tester.old tester.new) }
     ensures is_split { T.is_split tester.new ≡ false }
 {
     match started.means {
@@ -91,9 +95,11 @@ fn search_by_plan<R: Host, K: Sink>(
 ) -> Result<Answer, SinkFault>
     requires plan { HasPlan line.request.now line.words.now }
     requires started { IsStarted started }
-    ensures told { (tested : Tested) → IfOk result (IsSearchSoFar Verb.Simulate started line.entry.request.now line.entry.words.now tested (K.held out.old) (K.held out.new)) }
-    ensures cut { (tested : Tested) → IfErr result (λ fault. IsSearchCut Verb.Simulate started line.entry.request.now line.entry.words.now tested (K.held out.old) (K.held out.new)) }
-    ensures whole { IfOk result (λ answer. IsWhole answer.status) }
+    ensures told { (tested : Tested) → IfOk result (TellsSearch Verb.Simulate line.entry started
+        tested (met_sink K.Sink out.old out.new)) }
+    ensures cut { (tested : Tested) → CutsSearch Verb.Simulate line.entry started
+        tested (met_sink K.Sink out.old out.new) result }
+    ensures whole { IfOk result IsWholeAnswer }
     ensures write { FailsOnlyAt SinkFault.Failed (K.faults out.old) (K.faults out.new) result }
 {
     let mut tester = tester_of(line.alloc, line)?;
@@ -111,11 +117,13 @@ fn search_by_command<R: Host, T: Tester, K: Sink>(
     requires started { IsStarted started }
     requires fresh { T.answers tester.old ≡ [] }
     requires is_split { T.is_split tester.old ≡ false }
-    ensures told { IfOk result (IsSearchSoFar Verb.Run started line.entry.request.now line.entry.words.now (tested_by T.told T.command T.is_lenient T.answers T.faults T.failed T.is_split tester.new) (K.held out.old) (K.held out.new)) }
-    ensures cut { IfErr result (λ fault. IsSearchCut Verb.Run started line.entry.request.now line.entry.words.now (tested_by T.told T.command T.is_lenient T.answers T.faults T.failed T.is_split tester.new) (K.held out.old) (K.held out.new)) }
-    ensures cause { IfOk result (λ answer. HasCause true (T.faults tester.old) (tested_by T.told T.command T.is_lenient T.answers T.faults T.failed T.is_split tester.new) answer.status) }
+    ensures told { IfOk result (TellsSearch Verb.Run line.entry started
+        (tested_by T.Tester tester.new) (met_sink K.Sink out.old out.new)) }
+    ensures cut { CutsSearch Verb.Run line.entry started
+        (tested_by T.Tester tester.new) (met_sink K.Sink out.old out.new) result }
+    ensures cause { IfOk result (IsCaused true (met_tester T.Tester tester.old tester.new)) }
     ensures write { FailsOnlyAt SinkFault.Failed (K.faults out.old) (K.faults out.new) result }
-    ensures used { tested.IsUsed line.entry.request.now line.entry.words.now (tested_by T.told T.command T.is_lenient T.answers T.faults T.failed T.is_split tester.old) (tested_by T.told T.command T.is_lenient T.answers T.faults T.failed T.is_split tester.new) }
+    ensures used { IsUsedToTest line.entry (met_tester T.Tester tester.old tester.new) }
     ensures is_split { T.is_split tester.new ≡ false }
 {
     tester.prepare(command_of(line), line.request.lenient)?;

@@ -1,11 +1,9 @@
 //! The commits that are skipped before a search.
-ghost use Rattle.std.specs.Prelude.{◌≡◌, ◌<◌, ◌++◌, ◌∷◌, [], length, map, All, IfOk, OnOk};
-ghost use Rattle.bf_search.specs.declared.entries.Entry.TheVariants.{Marked, SkippedBase};
-ghost use Rattle.bf_search.specs.declared.outcomes.Mark.TheVariants.{Skip};
+ghost use Rattle.std.specs.Prelude.{◌≡◌, ◌<◌, ◌++◌, length, All, IfOk, OnOk};
 ghost use Rattle.bf_search.specs.Candidates.{places_of};
-ghost use Rattle.bf_output.specs.Beginning as beginning;
+ghost use Rattle.bf_output.specs.Beginning.{all_meant, skip_entries};
 ghost use Rattle.bf_program.specs.Steps.{IsStep};
-ghost use Rattle.bf_program.specs.Tellings.{begun_of, KeepsWithin};
+ghost use Rattle.bf_program.specs.Tellings.{KeepsWithin, SkipsPlace, SkipsPlaces};
 
 use crate::answer::Stop;
 use crate::begin::Beginning;
@@ -28,7 +26,6 @@ fn add_places(alloc: Global, row: &Row, places: &mut Vec<u32>) -> Result<(), All
 }
 
 /// The places that words of `--skip` mean: those of each word by place, in the order of the words.
-
 pub(crate) fn all_meant(
     alloc: Global,
     history: &History,
@@ -37,7 +34,7 @@ pub(crate) fn all_meant(
     indexes: &[u32],
 ) -> Result<Vec<u32>, Stop>
     requires { reach.now ≡ history.now.parents }
-    ensures step { IsStep (λ ps. ps.items) result (beginning.all_meant history.now words.now indexes.now) }
+    ensures step { IsStep (λ ps. ps.items) result (all_meant history.now words.now indexes.now) }
     ensures within { IfOk result (λ ps. All (λ p. p < length history.now.parents) ps.items) }
 {
     let mut places = Vec::new(alloc);
@@ -50,7 +47,7 @@ pub(crate) fn all_meant(
 
 /// Adds the entry of a skip, with the skipped merge bases to warn of before it.
 fn push_skip(entries: &mut Vec<Entry>, warned: &[u32], place: u32) -> Result<(), AllocError>
-    ensures { OnOk result (entries.new.items ≡ entries.old.items ++ (map SkippedBase warned.now ++ Marked Skip place ∷ [])) }
+    ensures { OnOk result (entries.new.items ≡ entries.old.items ++ skip_entries warned.now place) }
 {
     for base in warned {
         entries.push(Entry::SkippedBase { place: *base })?;
@@ -67,7 +64,7 @@ impl Beginning {
     fn skip(&mut self, reach: &Reach, place: u32) -> Result<(), AllocError>
         requires len { length reach.now ≡ self.old.state.len }
         requires place { place < self.old.state.len }
-        ensures begun { OnOk result (begun_of self.new ≡ beginning.with_skip reach.now (begun_of self.old) place) }
+        ensures begun { OnOk result (SkipsPlace reach.now place self.old self.new) }
         ensures len { OnOk result (self.new.state.len ≡ self.old.state.len) }
         ensures places { OnOk result (KeepsWithin self.old self.new) }
     {
@@ -80,7 +77,7 @@ impl Beginning {
     pub(crate) fn skip_all(&mut self, reach: &Reach, places: &[u32]) -> Result<(), AllocError>
         requires len { length reach.now ≡ self.old.state.len }
         requires places { All (λ p. p < self.old.state.len) places.now }
-        ensures begun { OnOk result (begun_of self.new ≡ beginning.with_skips reach.now (begun_of self.old) places.now) }
+        ensures begun { OnOk result (SkipsPlaces reach.now places.now self.old self.new) }
         ensures len { OnOk result (self.new.state.len ≡ self.old.state.len) }
         ensures places { OnOk result (KeepsWithin self.old self.new) }
     {

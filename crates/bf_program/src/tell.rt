@@ -3,10 +3,10 @@ ghost use Rattle.std.specs.Prelude.{◌≡◌, ◌<◌, ◌++◌, length, All, I
 ghost use Rattle.bf_alone.specs.Rest.{ending_of};
 ghost use Rattle.bf_alone.specs.Within.{IsEndingWithin};
 ghost use Rattle.bf_log.specs.Labels as labels;
-ghost use Rattle.bf_texts.specs.Texts as texts;
 ghost use Rattle.bf_output.specs.Beginning as beginning;
 ghost use Rattle.bf_output.specs.Simulate as simulate;
 ghost use Rattle.bf_program.specs.Answers.{IsWhole};
+ghost use Rattle.bf_program.specs.Telling.{answer_lines_of};
 
 use bf_alone::Ending;
 use bf_import::History;
@@ -48,7 +48,7 @@ pub(crate) fn write_end(
     out: &mut Bytes,
 ) -> Result<(), AllocError>
     requires { IsEndingWithin (length commits.names.now) end.now }
-    ensures { OnOk result (out.new ≡ out.old ++ texts.answer_lines (labels.commits_of commits.entry) (labels.sides_of sides.entry) (ending_of end.now)) }
+    ensures { OnOk result (out.new ≡ out.old ++ answer_lines_of commits.entry sides.entry end.now) }
 {
     match end {
         Ending::Answered(ask) => write_ask(commits, sides, ask, out),

@@ -1,15 +1,10 @@
 //! The text of a search while its commits are tested.
-ghost use Rattle.std.specs.Prelude.{◌≡◌, ◌++◌, length, All, [], Some, IfOk, OnOk, OnErr};
-ghost use Rattle.std.specs.Option.{option_map, unwrap_or};
-ghost use Rattle.bf_log.specs.Labels as labels;
-ghost use Rattle.bf_log.specs.Trace as trace;
-ghost use Rattle.bf_logs.specs.Written.{known_after_all};
-ghost use Rattle.bf_output.specs.Beginning as beginning;
-ghost use Rattle.bf_output.specs.Tested.{status_at_end, lines_at_end};
-ghost use Rattle.bf_program.specs.Telling.{trace_begun};
-ghost use Rattle.bf_runs.specs.Within.{IsEndingWithin};
+ghost use Rattle.std.specs.Prelude.{◌≡◌, length, All, [], IfOk, OnOk};
+ghost use Rattle.bf_search.specs.Within.{IsEntryWithin};
+ghost use Rattle.bf_output.specs.Tested.{status_at_end};
+ghost use Rattle.bf_program.specs.Telling.{AddsLines, AddsEvents, AddsLegLines, AddsLegEvents, AddsLegLine, AddsEnd, EndsText, LearnsEntries, trace_begun};
+ghost use Rattle.bf_search.specs.Within.{IsEndingWithin};
 ghost use Rattle.bf_search.specs.Farm.{end_of};
-ghost use Rattle.bf_texts.specs.Texts as texts;
 
 use crate::answer::Answer;
 use crate::tell::{commits_of, sides_of, status_of, write_end};
@@ -60,9 +55,9 @@ impl Telling {
         state: &State,
         entries: &[Entry],
     ) -> Result<(), AllocError>
-        requires { All (labels.IsEntryWithin (length history.now.parents)) entries.now }
-        ensures text { OnOk result (self.new.text ≡ self.old.text ++ texts.log_from (beginning.commits_of history.now) state.now.terms self.old.known entries.now) }
-        ensures known { OnOk result (self.new.known ≡ known_after_all self.old.known entries.now) }
+        requires { All (IsEntryWithin (length history.now.parents)) entries.now }
+        ensures text { OnOk result (AddsLines history.now state.now entries.now self.old self.new) }
+        ensures known { OnOk result (LearnsEntries entries.now self.old self.new) }
         ensures trace { self.new.trace ≡ self.old.trace }
     {
         let sides = sides_of(&state.terms);
@@ -77,7 +72,7 @@ impl Telling {
 
     /// Adds the events of a leg to the trace.
     pub fn add_events(&mut self, commits: Commits<'_>, events: &[Event]) -> Result<(), AllocError>
-        ensures trace { OnOk result (self.new.trace ≡ option_map (λ lines. lines ++ trace.event_lines (labels.commits_of commits.entry) events.now) self.old.trace) }
+        ensures trace { OnOk result (AddsEvents commits.entry events.now self.old self.new) }
         ensures known { self.new.known ≡ self.old.known }
         ensures text { self.new.text ≡ self.old.text }
     {
@@ -89,10 +84,10 @@ impl Telling {
 
     /// Adds the lines and the events of a leg.
     pub fn add_leg(&mut self, history: &History, report: &Report) -> Result<(), AllocError>
-        requires { All (labels.IsEntryWithin (length history.now.parents)) report.now.entries.items }
-        ensures text { OnOk result (self.new.text ≡ self.old.text ++ texts.log_from (beginning.commits_of history.now) report.now.state.terms self.old.known report.now.entries.items) }
-        ensures known { OnOk result (self.new.known ≡ known_after_all self.old.known report.now.entries.items) }
-        ensures trace { OnOk result (self.new.trace ≡ option_map (λ lines. lines ++ trace.event_lines (beginning.commits_of history.now) report.now.events.items) self.old.trace) }
+        requires { All (IsEntryWithin (length history.now.parents)) report.now.entries.items }
+        ensures text { OnOk result (AddsLegLines history.now report.now self.old self.new) }
+        ensures known { OnOk result (LearnsEntries report.now.entries.items self.old self.new) }
+        ensures trace { OnOk result (AddsLegEvents history.now report.now self.old self.new) }
     {
         self.add_entries(history, &report.state, report.entries.as_slice())?;
         self.add_events(commits_of(history), report.events.as_slice())
@@ -100,7 +95,7 @@ impl Telling {
 
     /// Adds the end of a leg to the trace.
     pub fn end_leg(&mut self) -> Result<(), AllocError>
-        ensures trace { OnOk result (self.new.trace ≡ option_map (λ lines. lines ++ trace.leg_line) self.old.trace) }
+        ensures trace { OnOk result (AddsLegLine self.old self.new) }
         ensures known { self.new.known ≡ self.old.known }
         ensures text { self.new.text ≡ self.old.text }
     {
@@ -119,7 +114,7 @@ impl Telling {
     ) -> Result<Answer, AllocError>
         requires { IsEndingWithin (length commits.names.now) ending }
         ensures status { IfOk result (λ answer. answer.status ≡ status_at_end (end_of ending)) }
-        ensures text { IfOk result (λ answer. answer.text ≡ (self.text ++ lines_at_end (labels.commits_of commits.entry) (labels.sides_of sides.entry) (end_of ending)) ++ unwrap_or self.trace []) }
+        ensures text { IfOk result (EndsText commits.entry sides.entry ending self) }
     {
         let Telling {
             mut text,
@@ -143,7 +138,7 @@ fn write_ending(
 ) -> Result<Status, AllocError>
     requires { IsEndingWithin (length commits.names.now) ending }
     ensures status { IfOk result (λ status. status ≡ status_at_end (end_of ending)) }
-    ensures text { IfOk result (λ status. text.new ≡ text.old ++ lines_at_end (labels.commits_of commits.entry) (labels.sides_of sides.entry) (end_of ending)) }
+    ensures text { IfOk result (λ _. AddsEnd commits.entry sides.entry ending text.old text.new) }
 {
     match told_end(ending) {
         Ok(end) => {

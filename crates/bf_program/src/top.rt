@@ -1,15 +1,15 @@
 //! The top call.
 ghost use Rattle.std.specs.Prelude.{◌≡◌, ◌≢◌, ℕ, [], false, IfOk};
 ghost use Rattle.bf_io.specs.Causes.{Rose};
-ghost use Rattle.bf_words.specs.Words as asked;
-ghost use Rattle.bf_output.specs.Output as output;
 ghost use Rattle.bf_output.specs.Tested.{tested_by};
-ghost use Rattle.bf_program.specs.Answers.{Answers, IsComplete, IsFailedTest, given_to};
+ghost use Rattle.bf_program.specs.Answers.{Answers, HasTestCauseBy, IsComplete, IsUsedBy};
+ghost use Rattle.bf_program.specs.Devices.{met, met_shelf, met_sink, met_source, met_tester};
+ghost use Rattle.bf_program.specs.Lines.{HasTestCauseIn, IsUsedIn};
 ghost use Rattle.bf_program.specs.Printing.{PrintsLog};
-ghost use Rattle.bf_program.specs.Searching.{IsSound, Concludes, IsRefused};
+ghost use Rattle.bf_program.specs.Searching.{IsSound, ConcludesLine, IsRefused};
 ghost use Rattle.bf_program.specs.Steps.{HasPlan};
 
-use crate::answer::Cut;
+use crate::answer::Fault;
 use crate::line::Line;
 use crate::prepare::prepare;
 use crate::ready::Ready;
@@ -47,15 +47,20 @@ pub fn bisect_main<R: Host, S: Source, F: Shelf, T: Tester, K: Sink>(
 ) -> Status
     requires fresh { T.answers tester.old ≡ [] }
     requires whole { T.is_split tester.old ≡ false }
-    ensures answers { Answers (record { given = given_to words.now (F.files shelf.old) (tested_by T.told T.command T.is_lenient T.answers T.faults T.failed T.is_split tester.new); left = S.left stream.old; stream = record { before = S.faults stream.old; now = S.faults stream.new }; shelf = record { before = F.faults shelf.old; now = F.faults shelf.new }; before = K.held out.old; after = K.held out.new }) result }
-    ensures complete { IsComplete (record { given = given_to words.now (F.files shelf.old) (tested_by T.told T.command T.is_lenient T.answers T.faults T.failed T.is_split tester.new); left = S.left stream.old; stream = record { before = S.faults stream.old; now = S.faults stream.new }; shelf = record { before = F.faults shelf.old; now = F.faults shelf.new }; before = K.held out.old; after = K.held out.new }) (record { before = T.faults tester.old; now = T.faults tester.new }) (record { before = K.faults out.old; now = K.faults out.new }) result }
-    ensures log { PrintsLog words.now (S.left stream.old) (F.files shelf.old)
-        (K.held out.old) (K.held out.new) result }
+    ensures answers { Answers (met words.now (met_source S.Source stream.old stream.new)
+        (met_shelf F.Shelf shelf.old shelf.new) (met_tester T.Tester tester.old tester.new)
+        (met_sink K.Sink out.old out.new)) result }
+    ensures complete { IsComplete (met words.now (met_source S.Source stream.old stream.new)
+        (met_shelf F.Shelf shelf.old shelf.new) (met_tester T.Tester tester.old tester.new)
+        (met_sink K.Sink out.old out.new)) result }
+    ensures log { PrintsLog (met words.now (met_source S.Source stream.old stream.new)
+        (met_shelf F.Shelf shelf.old shelf.new) (met_tester T.Tester tester.old tester.new)
+        (met_sink K.Sink out.old out.new)) result }
     ensures read { result ≡ Status.ReadFault → Rose (S.faults stream.old) (S.faults stream.new) }
     ensures file { result ≡ Status.ShelfFault → Rose (F.faults shelf.old) (F.faults shelf.new) }
     ensures write { result ≡ Status.WriteFault → Rose (K.faults out.old) (K.faults out.new) }
-    ensures test { (place : ℕ) → result ≡ Status.TestFault place → IsFailedTest (output.tests (asked.request words.now)) (T.faults tester.old) (tested_by T.told T.command T.is_lenient T.answers T.faults T.failed T.is_split tester.new) place }
-    ensures used { output.IsUsedFor (asked.request words.now) words.now (tested_by T.told T.command T.is_lenient T.answers T.faults T.failed T.is_split tester.old) (tested_by T.told T.command T.is_lenient T.answers T.faults T.failed T.is_split tester.new) }
+    ensures test { HasTestCauseBy words.now (met_tester T.Tester tester.old tester.new) result }
+    ensures used { IsUsedBy words.now (met_tester T.Tester tester.old tester.new) }
     ensures is_split { T.is_split tester.new ≡ false }
 {
     match read_words(alloc, words) {
@@ -92,7 +97,7 @@ fn refuse_words<K: Sink>(alloc: Global, fault: WordFault, out: &mut K) -> Status
 fn conclude<R: Host, T: Tester, K: Sink>(
     rt: &R,
     line: Line<'_>,
-    ready: Result<Ready, Cut>,
+    ready: Result<Ready, Fault>,
     tester: &mut T,
     out: &mut K,
 ) -> Status
@@ -100,18 +105,19 @@ fn conclude<R: Host, T: Tester, K: Sink>(
     requires sound { IfOk ready (IsSound line.request.now) }
     requires fresh { T.answers tester.old ≡ [] }
     requires is_split { T.is_split tester.old ≡ false }
-    ensures told { Concludes line.entry.request.now line.entry.words.now (tested_by T.told T.command T.is_lenient T.answers T.faults T.failed T.is_split tester.new) ready (K.held out.old) (K.held out.new) result }
+    ensures told { ConcludesLine line.entry (tested_by T.Tester tester.new) ready
+        (met_sink K.Sink out.old out.new) result }
     ensures own { IfOk ready (λ _. (result ≢ Status.ReadFault) × (result ≢ Status.ShelfFault)) }
-    ensures test { (place : ℕ) → result ≡ Status.TestFault place → IsFailedTest (output.is_run line.entry.request.now.verb) (T.faults tester.old) (tested_by T.told T.command T.is_lenient T.answers T.faults T.failed T.is_split tester.new) place }
+    ensures test { HasTestCauseIn line.entry (met_tester T.Tester tester.old tester.new) result }
     ensures write { result ≡ Status.WriteFault → Rose (K.faults out.old) (K.faults out.new) }
-    ensures used { output.IsUsedIf (output.is_run line.entry.request.now.verb) line.entry.request.now line.entry.words.now (tested_by T.told T.command T.is_lenient T.answers T.faults T.failed T.is_split tester.old) (tested_by T.told T.command T.is_lenient T.answers T.faults T.failed T.is_split tester.new) }
+    ensures used { IsUsedIn line.entry (met_tester T.Tester tester.old tester.new) }
     ensures is_split { T.is_split tester.new ≡ false }
 {
     match ready {
         Ok(Ready::Search(started)) => search(rt, line, started, tester, out),
         Ok(Ready::Told(answer)) => say(out, answer.text.as_slice(), answer.status),
-        Err(Cut::Read) => say(out, b"read fault\n", Status::ReadFault),
-        Err(Cut::Shelf) => say(out, b"file fault\n", Status::ShelfFault),
-        Err(Cut::NoMemory) => Status::NoMemory,
+        Err(Fault::Read) => say(out, b"read fault\n", Status::ReadFault),
+        Err(Fault::Shelf) => say(out, b"file fault\n", Status::ShelfFault),
+        Err(Fault::NoMemory) => Status::NoMemory,
     }
 }

@@ -1,8 +1,8 @@
 //! Writing what is told.
 ghost use Rattle.std.specs.Prelude.{◌≡◌, ◌⊎◌, OnOk, OnErr};
-ghost use Rattle.bf_io.specs.Causes.{FailsOnlyAt, Rose};
+ghost use Rattle.bf_io.specs.Causes.{FailsOnlyAt};
 ghost use Rattle.bf_io.specs.Told.{Appends, AppendsFront};
-ghost use Rattle.bf_program.specs.Writes.{IsWritten};
+ghost use Rattle.bf_program.specs.Writes.{HasWriteCause, IsWritten};
 
 use bf_io::{Sink, SinkFault, write_whole};
 use bf_output::Status;
@@ -11,7 +11,7 @@ use bf_output::Status;
 /// some front of it was.
 pub fn say<K: Sink>(out: &mut K, text: &[u8], status: Status) -> Status
     ensures written { IsWritten (K.held out.old) (K.held out.new) text.now status result }
-    ensures cause { result ≡ Status.WriteFault → (status ≡ Status.WriteFault) ⊎ Rose (K.faults out.old) (K.faults out.new) }
+    ensures cause { HasWriteCause status (K.faults out.old) (K.faults out.new) result }
 {
     match write_and_flush(out, text) {
         Ok(()) => status,

@@ -1,5 +1,6 @@
 -- Lemmas on a walk along first parents.
-use Rattle.std.proofs.Common.{◌≡◌, ℕ, zero, suc, ◌<◌, ◌⊎◌, Bool, true, false, List, [], ◌∷◌, length, set, take, replicate, Option, Some, None, refl, ap, sym, ◌∙◌, subst, inl, inr, ⊎_elim, arith}
+use Rattle.std.proofs.Common.{◌≡◌, ℕ, zero, suc, ◌<◌, ◌⊎◌, Bool, true, false, List, [], ◌∷◌, length, set, take, replicate, Option, Some, None, refl, ap, sym}
+use Rattle.std.proofs.Common.{◌∙◌, subst, inl, inr, ⊎_elim, arith}
 use Rattle.std.proofs.lemmas.Bool.Decides.{same_from_decides}
 use Rattle.std.proofs.lemmas.List.{length-set, get_or-set_same, length-replicate}
 use Rattle.std.proofs.lemmas.List.Elements.{All-head}
@@ -40,7 +41,8 @@ only_first : (parent q : ℕ) → Contains (parent ∷ []) q → parent ≡ q
 only_first parent q (zero, l, e) = e
 only_first parent q (suc k, l, e) = absurd (omega arith)
 
-pub ChainTo-more : (graph : List (List ℕ)) (p : ℕ) (row : List Bool) (place : ℕ) (parents : List ℕ) → parents ≡ parents_of graph place → All (λ parent. parent < place) parents
+pub ChainTo-more : (graph : List (List ℕ)) (p : ℕ) (row : List Bool) (place : ℕ) (parents : List ℕ) → parents ≡ parents_of graph place
+    → All (λ parent. parent < place) parents
     → ChainTo graph p row (Some place) → ChainTo graph p (set row place true) (slice_get parents 0)
 ChainTo-more graph p row place parents are earlier c = record {
   same_length = length-set row place true ∙ c.same_length;
@@ -67,7 +69,8 @@ ChainTo-more graph p row place parents are earlier c = record {
     step_of : (parent : ℕ) → Contains (take 1 parents) parent → Reaches (in_mode graph true) p parent
     step_of parent h = Reaches-back c.ahead (subst (λ (x : List ℕ). Contains x parent) (sym firsts) h)
 
-    ahead_of : (ps : List ℕ) → ((parent : ℕ) → Contains (take 1 ps) parent → Reaches (in_mode graph true) p parent) → IfSome (slice_get ps 0) (λ next. Reaches (in_mode graph true) p next)
+    ahead_of : (ps : List ℕ) → ((parent : ℕ) → Contains (take 1 ps) parent → Reaches (in_mode graph true) p parent)
+        → IfSome (slice_get ps 0) (λ next. Reaches (in_mode graph true) p next)
     ahead_of [] h = tt
     ahead_of (parent ∷ ps) h = h parent (0, omega arith, refl)
 

@@ -1,5 +1,6 @@
 -- Lemmas on marks: what a walk keeps, and that at its end the row says what is reached.
-use Rattle.std.proofs.Common.{◌≡◌, ℕ, zero, suc, ◌+◌, ◌<◌, ◌≤◌, ◌⊎◌, Bool, true, false, List, [], ◌∷◌, ◌++◌, length, get_or, set, replicate, refl, ap, sym, ◌∙◌, subst, inl, inr, ⊎_elim, arith}
+use Rattle.std.proofs.Common.{◌≡◌, ℕ, zero, suc, ◌+◌, ◌<◌, ◌≤◌, ◌⊎◌, Bool, true, false, List, [], ◌∷◌, ◌++◌, length, get_or, set, replicate, refl, ap, sym, ◌∙◌}
+use Rattle.std.proofs.Common.{subst, inl, inr, ⊎_elim, arith}
 use Rattle.std.proofs.lemmas.Bool.{cases_eq, both_ways, false≢true}
 use Rattle.std.proofs.lemmas.Bool.Decides.{same_from_decides}
 use Rattle.std.proofs.lemmas.List.{length-set, get_or-set_same, length-replicate}
@@ -44,7 +45,8 @@ marked-kept row (p ∷ ps) q h = marked-kept (set row p true) ps q (set-kept row
 pub marked-true : (row : List Bool) (ps : List ℕ) (q : ℕ) → All (λ p. p < length row) ps → Contains ps q → is_in (marked row ps) q ≡ true
 marked-true row [] q all h = absurd (omega (arith, h.1))
 marked-true row (p ∷ ps) q all (zero, l, e) =
-    marked-kept (set row p true) ps q (subst (λ (x : ℕ). is_in (set row p true) x ≡ true) e (get_or-set_same row p true false (All-head (λ p. p < length row) p ps all)))
+    marked-kept (set row p true) ps q (subst (λ (x : ℕ). is_in (set row p true) x ≡ true) e
+    (get_or-set_same row p true false (All-head (λ p. p < length row) p ps all)))
 marked-true row (p ∷ ps) q all (suc k, l, e) =
     marked-true (set row p true) ps q (rw (length-set row p true) (All-tail (λ p. p < length row) p ps all)) (k, omega arith, e)
 
@@ -58,7 +60,8 @@ Marks-start graph row end below = record {
   closed = λ p q low h _. let l : p < end = below p h in absurd (omega arith);
 }
 
-pub Marks-skip : {graph : List (List ℕ)} {start row : List Bool} {low : ℕ} → (p : ℕ) → p + 1 ≡ low → is_in row p ≡ false → Marks graph start row low → Marks graph start row p
+pub Marks-skip : {graph : List (List ℕ)} {start row : List Bool} {low : ℕ} → (p : ℕ) → p + 1 ≡ low → is_in row p ≡ false → Marks graph start row low
+    → Marks graph start row p
 Marks-skip {graph} {start} {row} {low} p next unmarked m = record {
   same_length = m.same_length;
   reached = m.reached;
@@ -70,7 +73,8 @@ Marks-skip {graph} {start} {row} {low} p next unmarked m = record {
       (cases_eq r p);
 }
 
-pub Marks-more : {graph : List (List ℕ)} {start row : List Bool} {low : ℕ} → (p : ℕ) (parents : List ℕ) → parents ≡ parents_of graph p → p + 1 ≡ low → is_in row p ≡ true
+pub Marks-more : {graph : List (List ℕ)} {start row : List Bool} {low : ℕ} → (p : ℕ) (parents : List ℕ) → parents ≡ parents_of graph p → p + 1 ≡ low
+    → is_in row p ≡ true
     → All (λ parent. parent < p) parents → Marks graph start row low → Marks graph start (marked row parents) p
 Marks-more {graph} {start} {row} {low} p parents are next here earlier m = record {
   same_length = length-marked row parents ∙ m.same_length;
@@ -108,7 +112,8 @@ Marks-down {graph} {start} {row} {low} {high} l m = record {
 }
 
 -- what the marks reach is marked, as far down as the walk went
-pub Marks-complete : (graph : List (List ℕ)) (start row : List Bool) (low q : ℕ) → IsGraph graph → Marks graph start row low → low ≤ q + 1 → RowReaches graph start q → is_in row q ≡ true
+pub Marks-complete : (graph : List (List ℕ)) (start row : List Bool) (low q : ℕ) → IsGraph graph → Marks graph start row low → low ≤ q + 1
+    → RowReaches graph start q → is_in row q ≡ true
 Marks-complete graph start row low q g m l h =
     closed_under_reach graph (λ r. q ≤ r → is_in row r ≡ true)
     (λ p r here step up.
@@ -116,7 +121,8 @@ Marks-complete graph start row low q g m l h =
     m.closed p r (omega arith) (here (omega arith)) step)
     h.source h.leads.path q h.leads.leads (λ _. m.kept h.source h.is_source) (omega arith)
 
-pub Marks_decide : (graph : List (List ℕ)) (start row : List Bool) (low q : ℕ) → IsGraph graph → Marks graph start row low → low ≤ q + 1 → Decides (is_in row q) (RowReaches graph start q)
+pub Marks_decide : (graph : List (List ℕ)) (start row : List Bool) (low q : ℕ) → IsGraph graph → Marks graph start row low → low ≤ q + 1
+    → Decides (is_in row q) (RowReaches graph start q)
 Marks_decide graph start row low q g m l = (m.reached q, Marks-complete graph start row low q g m l)
 
 -- ---- a walk from one place
@@ -144,14 +150,16 @@ from_one graph n place q l h = record {
 }
 
 -- the answer at one place
-pub reaches-from_marks : (graph : List (List ℕ)) (row : List Bool) (n place low q : ℕ) → IsGraph graph → place < n → Marks graph (set (replicate n false) place true) row low → low ≤ q + 1 → is_in row q ≡ reaches graph place q
+pub reaches-from_marks : (graph : List (List ℕ)) (row : List Bool) (n place low q : ℕ) → IsGraph graph → place < n
+    → Marks graph (set (replicate n false) place true) row low → low ≤ q + 1 → is_in row q ≡ reaches graph place q
 reaches-from_marks graph row n place low q g l m down =
     same_from_decides (is_in row q) (reaches graph place q)
     (λ h. one_source graph n place q (m.reached q h), λ h. Marks-complete graph _ row low q g m down (from_one graph n place q l h))
     (reaches_decides graph place q g)
 
 -- the whole row
-pub row-from_marks : (graph : List (List ℕ)) (row : List Bool) (n place : ℕ) → IsGraph graph → n ≡ length graph → place < n → Marks graph (set (replicate n false) place true) row 0 → row ≡ reach_row graph place
+pub row-from_marks : (graph : List (List ℕ)) (row : List Bool) (n place : ℕ) → IsGraph graph → n ≡ length graph → place < n
+    → Marks graph (set (replicate n false) place true) row 0 → row ≡ reach_row graph place
 unfolding reach_row
 row-from_marks graph row n place g long l m =
     fill_by_all (λ q. reaches graph place q) row (length graph) false
@@ -167,7 +175,8 @@ several_sources graph n from q h =
     (λ k. record { source = h.source; among = k; leads = h.leads })
     (marked-tells (replicate n false) from h.source h.is_source)
 
-pub row_of-from_marks : (graph : List (List ℕ)) (row : List Bool) (n : ℕ) (from : List ℕ) → IsGraph graph → n ≡ length graph → All (λ p. p < n) from → Marks graph (marked (replicate n false) from) row 0 → row ≡ reach_row_of graph from
+pub row_of-from_marks : (graph : List (List ℕ)) (row : List Bool) (n : ℕ) (from : List ℕ) → IsGraph graph → n ≡ length graph → All (λ p. p < n) from
+    → Marks graph (marked (replicate n false) from) row 0 → row ≡ reach_row_of graph from
 unfolding reach_row_of
 row_of-from_marks graph row n from g long all m =
     fill_by_all (λ q. any_reaches graph from q) row (length graph) false
@@ -177,6 +186,10 @@ row_of-from_marks graph row n from g long all m =
       λ k. several_sources graph n from q (m.reached q k),
       λ (k : SomeReaches graph from q).
           Marks-complete graph _ row 0 q g m (omega arith)
-          (record { source = k.source; is_source = marked-true (replicate n false) from k.source (rw (length-replicate n false) all) k.among; leads = k.leads }),
+          (record {
+            source = k.source;
+            is_source = marked-true (replicate n false) from k.source (rw (length-replicate n false) all) k.among;
+            leads = k.leads;
+          }),
     )
     (any_reaches_decides graph from q g))

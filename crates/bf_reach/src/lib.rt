@@ -4,4 +4,5 @@
 mod marks;
 mod reach;
 
+pub use marks::{mark_all, true_places};
 pub use reach::Reach;

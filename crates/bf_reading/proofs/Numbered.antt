@@ -48,7 +48,8 @@ behind_none (Ok lines) = refl
 behind_passed : (front : List LogLine) (n : ℕ) (read : Result (List LogLine) ℕ) → behind_lines front (add_line n PassedOver read) ≡ behind_lines front read
 behind_passed front n read = refl
 
-behind_command : (front : List LogLine) (n : ℕ) (word : LogWord) (read : Result (List LogLine) ℕ) → behind_lines front (add_line n (Command word) read) ≡ behind_lines (front ++ record { line = n; word = word } ∷ []) read
+behind_command : (front : List LogLine) (n : ℕ) (word : LogWord) (read : Result (List LogLine) ℕ)
+    → behind_lines front (add_line n (Command word) read) ≡ behind_lines (front ++ record { line = n; word = word } ∷ []) read
 behind_command front n word (Err line) = refl
 behind_command front n word (Ok lines) = ap (λ (ls : List LogLine). Ok ls) (sym (append_assoc front (record { line = n; word = word } ∷ []) lines))
 
@@ -59,7 +60,8 @@ unfolding read_lines
 line_passed front n line lines h = ap (λ (l : Line). behind_lines front (add_line n l (read_lines (n + 1) lines))) h
 
 -- a command line
-pub line_read : (front lines_now : List LogLine) (n : ℕ) (line : List ℕ) (lines : List (List ℕ)) (command : LogLine) → read_line line ≡ Command command.word → command.line ≡ n → lines_now ≡ front ++ command ∷ []
+pub line_read : (front lines_now : List LogLine) (n : ℕ) (line : List ℕ) (lines : List (List ℕ)) (command : LogLine) → read_line line ≡ Command command.word
+    → command.line ≡ n → lines_now ≡ front ++ command ∷ []
     → behind_lines front (read_lines n (line ∷ lines)) ≡ behind_lines lines_now (read_lines (n + 1) lines)
 unfolding read_lines
 line_read front lines_now n line lines command h same is =
@@ -69,7 +71,8 @@ line_read front lines_now n line lines command h same is =
     ∙ ap (λ (ls : List LogLine). behind_lines ls (read_lines (n + 1) lines)) (sym is)
 
 -- a command line in no form
-pub line_refused : (fault : LogFault) (front : List LogLine) (n : ℕ) (line : List ℕ) (lines : List (List ℕ)) → IsNumberedRefusal n fault (read_line line) → IsLogRefusal fault (behind_lines front (read_lines n (line ∷ lines)))
+pub line_refused : (fault : LogFault) (front : List LogLine) (n : ℕ) (line : List ℕ) (lines : List (List ℕ)) → IsNumberedRefusal n fault (read_line line)
+    → IsLogRefusal fault (behind_lines front (read_lines n (line ∷ lines)))
 unfolding read_lines
 line_refused log_fault.NoMemory front n line lines h = tt
 line_refused (log_fault.Line m) front n line lines h =

@@ -1,9 +1,11 @@
 -- The words of a text, taken off its front one after the other.
-use Rattle.std.proofs.Common.{◌≡◌, ℕ, suc, ◌-◌, ◌<◌, ◌≤◌, ◌==◌, ◌||◌, not, cond, Bool, true, false, List, [], ◌∷◌, ◌++◌, length, take, drop, get_or, Option, Some, None, refl, sym, ap, ◌∙◌, append_assoc, append-nil, inl, inr, ◌⊎◌, arith}
+use Rattle.std.proofs.Common.{◌≡◌, ℕ, suc, ◌-◌, ◌<◌, ◌≤◌, ◌==◌, ◌||◌, not, cond, Bool, true, false, List, [], ◌∷◌, ◌++◌, length, take, drop, get_or, Option}
+use Rattle.std.proofs.Common.{Some, None, refl, sym, ap, ◌∙◌, append_assoc, append-nil, inl, inr, ◌⊎◌, arith}
 use Rattle.std.proofs.lemmas.Bool.{cond-true, cond-false, or_parts, eqb-true}
 use Rattle.std.specs.List.{list_any}
 use Rattle.std.proofs.lemmas.List.{take_rest}
-use Rattle.bf_reading.specs.Reading.{is_blank, is_escaped, past_blanks, Mode, Plain, Quoted, Escaped, Words, no_words, end_word, with_byte, in_mode, take_plain, take_byte, take_bytes, words_at_end, told_words, words_of}
+use Rattle.bf_reading.specs.Reading.{is_blank, is_escaped, past_blanks, Mode, Plain, Quoted, Escaped, Words, no_words, end_word, with_byte, in_mode, take_plain}
+use Rattle.bf_reading.specs.Reading.{take_byte, take_bytes, words_at_end, told_words, words_of}
 use Rattle.bf_reading.specs.Answers.{with_word, words_inside, words_quoted, begins_word, is_special}
 
 pub take_append : (ws : Words) (xs ys : List ℕ) → take_bytes ws (xs ++ ys) ≡ take_bytes (take_bytes ws xs) ys
@@ -26,10 +28,15 @@ behind_end front done (Some word) = append_assoc front done (word ∷ [])
 
 behind_plain : (front : List (List ℕ)) (ws : Words) (b : ℕ) → take_plain (behind_words front ws) b ≡ behind_words front (take_plain ws b)
 behind_plain front ws b =
-    ap (λ (done : List (List ℕ)). cond (is_blank b) (record { done = done; word = None; mode = Plain }) (cond (b == 39) (behind_words front (in_mode ws Quoted)) (cond (b == 92) (behind_words front (in_mode ws Escaped)) (behind_words front (with_byte ws b))))) (behind_end front ws.done ws.word)
-    ∙ ap (λ (x : Words). cond (is_blank b) (behind_words front (record { done = end_word ws.done ws.word; word = None; mode = Plain })) (cond (b == 39) (behind_words front (in_mode ws Quoted)) x)) (behind_cond front (b == 92) (in_mode ws Escaped) (with_byte ws b))
-    ∙ ap (λ (x : Words). cond (is_blank b) (behind_words front (record { done = end_word ws.done ws.word; word = None; mode = Plain })) x) (behind_cond front (b == 39) (in_mode ws Quoted) (cond (b == 92) (in_mode ws Escaped) (with_byte ws b)))
-    ∙ behind_cond front (is_blank b) (record { done = end_word ws.done ws.word; word = None; mode = Plain }) (cond (b == 39) (in_mode ws Quoted) (cond (b == 92) (in_mode ws Escaped) (with_byte ws b)))
+    ap (λ (done : List (List ℕ)). cond (is_blank b) (record { done = done; word = None; mode = Plain })
+    (cond (b == 39) (behind_words front (in_mode ws Quoted))
+    (cond (b == 92) (behind_words front (in_mode ws Escaped)) (behind_words front (with_byte ws b))))) (behind_end front ws.done ws.word)
+    ∙ ap (λ (x : Words). cond (is_blank b) (behind_words front (record { done = end_word ws.done ws.word; word = None; mode = Plain }))
+    (cond (b == 39) (behind_words front (in_mode ws Quoted)) x)) (behind_cond front (b == 92) (in_mode ws Escaped) (with_byte ws b))
+    ∙ ap (λ (x : Words). cond (is_blank b) (behind_words front (record { done = end_word ws.done ws.word; word = None; mode = Plain })) x)
+    (behind_cond front (b == 39) (in_mode ws Quoted) (cond (b == 92) (in_mode ws Escaped) (with_byte ws b)))
+    ∙ behind_cond front (is_blank b) (record { done = end_word ws.done ws.word; word = None; mode = Plain })
+    (cond (b == 39) (in_mode ws Quoted) (cond (b == 92) (in_mode ws Escaped) (with_byte ws b)))
 
 behind_byte : (front : List (List ℕ)) (mode : Mode) (ws : Words) (b : ℕ) → take_byte mode (behind_words front ws) b ≡ behind_words front (take_byte mode ws b)
 behind_byte front Plain ws b = behind_plain front ws b
@@ -73,7 +80,8 @@ unfolding past_blanks
 begun_behind_blanks [] = inl refl
 begun_behind_blanks (b ∷ bs) = by_blank (is_blank b) refl (begun_behind_blanks bs)
   where
-    by_blank : (t : Bool) → is_blank b ≡ t → (past_blanks bs ≡ []) ⊎ (begins_word (past_blanks bs) ≡ true) → (cond t (past_blanks bs) (b ∷ bs) ≡ []) ⊎ (begins_word (cond t (past_blanks bs) (b ∷ bs)) ≡ true)
+    by_blank : (t : Bool) → is_blank b ≡ t → (past_blanks bs ≡ []) ⊎ (begins_word (past_blanks bs) ≡ true)
+        → (cond t (past_blanks bs) (b ∷ bs) ≡ []) ⊎ (begins_word (cond t (past_blanks bs) (b ∷ bs)) ≡ true)
     by_blank true h rest = rest
     by_blank false h rest = inr (ap not h)
 
@@ -92,7 +100,8 @@ unfolding words_of words_inside take_bytes
 begun_inside [] h = cc
 begun_inside (b ∷ bs) h = by_blank (is_blank b) refl h
   where
-    by_blank : (t : Bool) → is_blank b ≡ t → not t ≡ true → told_words (take_bytes (take_plain no_words b) bs) ≡ told_words (take_bytes (take_plain (record { done = []; word = Some []; mode = Plain }) b) bs)
+    by_blank : (t : Bool) → is_blank b ≡ t → not t ≡ true
+        → told_words (take_bytes (take_plain no_words b) bs) ≡ told_words (take_bytes (take_plain (record { done = []; word = Some []; mode = Plain }) b) bs)
     by_blank true e k = cc
     by_blank false e k = ap (λ (x : Words). told_words (take_bytes x bs)) (cond-false (is_blank b) _ _ e ∙ sym (cond-false (is_blank b) _ _ e))
 
@@ -137,7 +146,8 @@ pub plain_run : (word xs ys : List ℕ) → list_any is_special xs ≡ false →
 unfolding words_inside take_bytes
 plain_run word [] ys h = ap (λ (w : List ℕ). words_inside w ys) (sym (append-nil word))
 plain_run word (x ∷ xs) ys h =
-    ap (λ (ws : Words). told_words (take_bytes ws (xs ++ ys))) (plain_byte (record { done = []; word = Some word; mode = Plain }) x (or_parts (is_special x) (list_any is_special xs) h).0)
+    ap (λ (ws : Words). told_words (take_bytes ws (xs ++ ys)))
+    (plain_byte (record { done = []; word = Some word; mode = Plain }) x (or_parts (is_special x) (list_any is_special xs) h).0)
     ∙ plain_run (word ++ x ∷ []) xs ys (or_parts (is_special x) (list_any is_special xs) h).1
     ∙ ap (λ (w : List ℕ). words_inside w ys) (append_assoc word (x ∷ []) xs)
 
@@ -195,20 +205,25 @@ pub escaped_in_front : (word new xs : List ℕ) → 1 ≤ length xs → is_escap
     → words_inside word (92 ∷ xs) ≡ words_inside new (take (length xs - 1) (drop 1 xs))
 unfolding rest_of
 escaped_in_front word new xs h is e =
-    ap (λ (ys : List ℕ). words_inside word (92 ∷ ys)) (first_and_rest xs h) ∙ escapes word (get_or xs 0 0) (rest_of xs) is ∙ ap (λ (w : List ℕ). words_inside w (rest_of xs)) (sym e)
+    ap (λ (ys : List ℕ). words_inside word (92 ∷ ys)) (first_and_rest xs h) ∙ escapes word (get_or xs 0 0) (rest_of xs) is ∙ ap
+    (λ (w : List ℕ). words_inside w (rest_of xs)) (sym e)
 
-pub not_escaped : (word new xs : List ℕ) → (length xs < 1) ⊎ (is_escaped (get_or xs 0 0) ≡ false) → new ≡ word ++ 92 ∷ [] → words_inside word (92 ∷ xs) ≡ words_inside new xs
+pub not_escaped : (word new xs : List ℕ) → (length xs < 1) ⊎ (is_escaped (get_or xs 0 0) ≡ false) → new ≡ word ++ 92 ∷ []
+    → words_inside word (92 ∷ xs) ≡ words_inside new xs
 not_escaped word new [] h e = backslash_ends word ∙ ap (λ (w : List ℕ). words_inside w []) (sym e)
 not_escaped word new (x ∷ xs) (inl h) e = absurd (omega arith)
 not_escaped word new (x ∷ xs) (inr h) e = backslash word x xs h ∙ ap (λ (w : List ℕ). words_inside w (x ∷ xs)) (sym e)
 
-pub plain_in_front : (word new text xs ys : List ℕ) → text ≡ xs ++ ys → list_any is_special xs ≡ false → new ≡ word ++ xs → words_inside word text ≡ words_inside new ys
+pub plain_in_front : (word new text xs ys : List ℕ) → text ≡ xs ++ ys → list_any is_special xs ≡ false → new ≡ word ++ xs
+    → words_inside word text ≡ words_inside new ys
 plain_in_front word new text xs ys is h e = ap (words_inside word) is ∙ plain_run word xs ys h ∙ ap (λ (w : List ℕ). words_inside w ys) (sym e)
 
-pub quoted_in_front : (word new text xs ys : List ℕ) → text ≡ xs ++ 39 ∷ ys → list_any (λ b. b == 39) xs ≡ false → new ≡ word ++ xs → words_quoted word text ≡ words_inside new ys
+pub quoted_in_front : (word new text xs ys : List ℕ) → text ≡ xs ++ 39 ∷ ys → list_any (λ b. b == 39) xs ≡ false → new ≡ word ++ xs
+    → words_quoted word text ≡ words_inside new ys
 quoted_in_front word new text xs ys is h e = ap (words_quoted word) is ∙ quoted_run word xs ys h ∙ ap (λ (w : List ℕ). words_inside w ys) (sym e)
 
-pub ends_in_front : (word xs : List ℕ) → (length xs < 1) ⊎ ((1 ≤ length xs) × (is_blank (get_or xs 0 0) ≡ true)) → words_inside word xs ≡ with_word word (words_of xs)
+pub ends_in_front : (word xs : List ℕ) → (length xs < 1) ⊎ ((1 ≤ length xs) × (is_blank (get_or xs 0 0) ≡ true))
+    → words_inside word xs ≡ with_word word (words_of xs)
 ends_in_front word [] h = ends_here word
 ends_in_front word (x ∷ xs) (inl h) = absurd (omega arith)
 ends_in_front word (x ∷ xs) (inr h) = ends_at_blank word x xs h.1
@@ -228,7 +243,8 @@ unfolding take_bytes words_of
 no_word text rest e h = blanks_passed text ∙ ap words_of (sym e ∙ empty_is_none rest h)
 
 pub begins_behind_blanks : (text rest : List ℕ) → rest ≡ past_blanks text → (length rest == 0) ≡ false → begins_word rest ≡ true
-begins_behind_blanks text rest e some = elim (begun_behind_blanks text) [ inl none ↦ absurd (some_is_some rest some (e ∙ none)) | inr begins ↦ ap begins_word e ∙ begins ]
+begins_behind_blanks text rest e some = elim (begun_behind_blanks text)
+    [ inl none ↦ absurd (some_is_some rest some (e ∙ none)) | inr begins ↦ ap begins_word e ∙ begins ]
 
 pub words_behind_blanks : (text rest : List ℕ) → rest ≡ past_blanks text → begins_word rest ≡ true → words_of text ≡ words_inside [] rest
 words_behind_blanks text rest e begins = blanks_passed text ∙ ap words_of (sym e) ∙ begun_inside rest begins

@@ -4,19 +4,22 @@ use Rattle.std.specs.List.{list_all}
 use Rattle.bf_reading.specs.declared.line.LogWord.TheVariants.{Start}
 use Rattle.bf_reading.specs.declared.start.StartLine.{StartLine}
 use Rattle.bf_reading.specs.declared.start.Wants.TheVariants.{AnyWord}
-use Rattle.bf_reading.specs.Reading.{and_then, with_new, with_old, take_value, take_word, end_start, read_start, read_mark, read_words, is_word, first_is_dash, nothing_started}
+use Rattle.bf_reading.specs.Reading.{and_then, with_new, with_old, take_value, take_word, end_start, read_start, read_mark, read_words, is_word, first_is_dash}
+use Rattle.bf_reading.specs.Reading.{nothing_started}
 use Rattle.bf_reading.specs.Answers.{with_word, IsRefusal}
 use Rattle.bf_reading.specs.declared.line.LineFault.{LineFault}
 use Rattle.bf_reading.specs.declared.line.LineFault.TheVariants as line_fault
 use Rattle.std.proofs.lemmas.Bool.{and_parts, not-true, cond-true, cond-false}
 
 -- a word is taken, and the words behind it follow
-pub word_taken : (words : Option (List (List ℕ))) (s t : StartLine) (w : List ℕ) → take_word s.wants s w ≡ Some t → and_then (with_word w words) (read_start s) ≡ and_then words (read_start t)
+pub word_taken : (words : Option (List (List ℕ))) (s t : StartLine) (w : List ℕ) → take_word s.wants s w ≡ Some t
+    → and_then (with_word w words) (read_start s) ≡ and_then words (read_start t)
 unfolding read_start
 word_taken None s t w h = refl
 word_taken (Some ws) s t w h = ap (λ (o : Option StartLine). and_then o (λ next. read_start next ws)) h
 
-pub word_refused : (fault : LineFault) (words : Option (List (List ℕ))) (s : StartLine) (w : List ℕ) → IsRefusal fault (take_word s.wants s w) → IsRefusal fault (and_then (with_word w words) (read_start s))
+pub word_refused : (fault : LineFault) (words : Option (List (List ℕ))) (s : StartLine) (w : List ℕ) → IsRefusal fault (take_word s.wants s w)
+    → IsRefusal fault (and_then (with_word w words) (read_start s))
 unfolding read_start
 word_refused line_fault.NoMemory words s w h = tt
 word_refused line_fault.NoForm None s w h = refl
@@ -27,10 +30,13 @@ unfolding read_start
 no_word_left s = refl
 
 -- a term in the same word as its option
-pub new_taken : (s t : StartLine) (one other : Option (List ℕ)) (x term : List ℕ) → one ≡ Some x → t ≡ with_new s term → term ≡ x → take_value s one other ≡ Some t
-new_taken s t one other x term h e f = ap (λ (o : Option (List ℕ)). take_value s o other) h ∙ ap (λ (y : List ℕ). Some (with_new s y)) (sym f) ∙ ap (λ (u : StartLine). Some u) (sym e)
+pub new_taken : (s t : StartLine) (one other : Option (List ℕ)) (x term : List ℕ) → one ≡ Some x → t ≡ with_new s term → term ≡ x
+    → take_value s one other ≡ Some t
+new_taken s t one other x term h e f = ap (λ (o : Option (List ℕ)). take_value s o other) h ∙ ap (λ (y : List ℕ). Some (with_new s y)) (sym f) ∙ ap
+    (λ (u : StartLine). Some u) (sym e)
 
-pub old_taken : (s t : StartLine) (one other : Option (List ℕ)) (x term : List ℕ) → one ≡ None → other ≡ Some x → t ≡ with_old s term → term ≡ x → take_value s one other ≡ Some t
+pub old_taken : (s t : StartLine) (one other : Option (List ℕ)) (x term : List ℕ) → one ≡ None → other ≡ Some x → t ≡ with_old s term → term ≡ x
+    → take_value s one other ≡ Some t
 old_taken s t one other x term n h e f =
     ap (λ (o : Option (List ℕ)). take_value s o other) n
     ∙ ap (take_value s None) h
@@ -43,12 +49,14 @@ pub no_first_word : and_then (Some []) read_words ≡ None
 unfolding read_words
 no_first_word = refl
 
-pub starts : (word : List ℕ) (words : Option (List (List ℕ))) → is_word (codes "start") word ≡ true → and_then (with_word word words) read_words ≡ and_then words (read_start nothing_started)
+pub starts : (word : List ℕ) (words : Option (List (List ℕ))) → is_word (codes "start") word ≡ true
+    → and_then (with_word word words) read_words ≡ and_then words (read_start nothing_started)
 unfolding read_words
 starts word None h = refl
 starts word (Some ws) h = cond-true (is_word (codes "start") word) _ _ h
 
-pub marks : (word : List ℕ) (words : Option (List (List ℕ))) → is_word (codes "start") word ≡ false → and_then (with_word word words) read_words ≡ and_then words (read_mark word)
+pub marks : (word : List ℕ) (words : Option (List (List ℕ))) → is_word (codes "start") word ≡ false
+    → and_then (with_word word words) read_words ≡ and_then words (read_mark word)
 unfolding read_words
 marks word None h = refl
 marks word (Some ws) h = cond-false (is_word (codes "start") word) _ _ h

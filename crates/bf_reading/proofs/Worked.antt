@@ -4,7 +4,8 @@ use Rattle.bf_reading.specs.declared.line.LogWord.TheVariants.{Start, MarkWord}
 use Rattle.bf_reading.specs.Reading.{lines_of, past_blanks, behind, command_text, take_bytes, words_of, read_start, read_words, read_lines, read_log}
 
 -- comments, other lines and blanks in front; a last line without LF
-printed : read_log (codes "# bad: [12] \n# good: [10] c0\ngit bisect start '12' '10'\n# skip: [11] c1\ngit bisect skip 11\n \t git-bisect\tgood  1'0'\nhello\n\ngit bisect bad 12")
+printed : read_log (codes
+    "# bad: [12] \n# good: [10] c0\ngit bisect start '12' '10'\n# skip: [11] c1\ngit bisect skip 11\n \t git-bisect\tgood  1'0'\nhello\n\ngit bisect bad 12")
     ≡ Ok (record { line = 3; word = Start false (None) (None) (codes "12" ∷ codes "10" ∷ []) }
     ∷ record { line = 5; word = MarkWord (codes "skip") (codes "11") }
     ∷ record { line = 6; word = MarkWord (codes "good") (codes "10") }

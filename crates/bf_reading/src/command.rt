@@ -1,7 +1,7 @@
 //! A line of a log.
 ghost use Rattle.std.specs.Prelude.{◌≡◌, Some, IfOk, IfErr};
 ghost use Rattle.bf_reading.specs.Reading as reading;
-ghost use Rattle.bf_reading.specs.Answers.{IsRefusal, IsLineRefusal, IsPart, line_of};
+ghost use Rattle.bf_reading.specs.Answers.{Refuses, IsLineRefusal, IsPart, command_in, mark_in, line_of};
 
 use crate::line::{LineFault, LogWord};
 use crate::start::{behind_either, is_word, read_start};
@@ -33,8 +33,8 @@ fn command_text(line: &[u8]) -> Option<&[u8]>
 
 /// Reads what stands behind the front of a command line.
 fn read_command(alloc: Global, text: &[u8]) -> Result<LogWord, LineFault>
-    ensures word { IfOk result (λ word. reading.and_then (reading.words_of text.now) reading.read_words ≡ Some word) }
-    ensures refused { IfErr result (λ fault. IsRefusal fault (reading.and_then (reading.words_of text.now) reading.read_words)) }
+    ensures word { IfOk result (λ word. command_in text.now ≡ Some word) }
+    ensures refused { Refuses result (command_in text.now) }
 {
     let Some((word, rest)) = next_word(alloc, text)? else {
         return Err(LineFault::NoForm);
@@ -48,8 +48,8 @@ fn read_command(alloc: Global, text: &[u8]) -> Result<LogWord, LineFault>
 
 /// Reads what follows the word of a mark: one name.
 fn read_mark(alloc: Global, term: Bytes, text: &[u8]) -> Result<LogWord, LineFault>
-    ensures word { IfOk result (λ word. reading.and_then (reading.words_of text.now) (reading.read_mark term) ≡ Some word) }
-    ensures refused { IfErr result (λ fault. IsRefusal fault (reading.and_then (reading.words_of text.now) (reading.read_mark term))) }
+    ensures word { IfOk result (λ word. mark_in term text.now ≡ Some word) }
+    ensures refused { Refuses result (mark_in term text.now) }
 {
     let Some((rev, rest)) = next_word(alloc, text)? else {
         return Err(LineFault::NoForm);

@@ -3,13 +3,11 @@
 
 mod command;
 mod line;
-mod lists;
 mod read;
 mod start;
 mod words;
 
-pub use line::{LogFault, LogLine, LogWord};
-pub use lists::{LogLines, Revs};
+pub use line::{LogFault, LogLine, LogLines, LogWord, Revs};
 pub use read::read_log;
 
 #[cfg(test)]

@@ -3,10 +3,15 @@ ghost use Rattle.std.specs.Prelude.{◌≡◌};
 ghost use Rattle.bf_reading.specs.declared.line.LogFault.TheVariants as faults;
 ghost use Rattle.bf_reading.specs.declared.line.LineFault.TheVariants as line_faults;
 
-use crate::lists::Revs;
-use bf_io::Bytes;
+use bf_io::{Bytes, List};
 use std::alloc::{AllocError, AllocFailed};
 use thiserror::Error;
+
+/// The names of a start line, in order.
+pub type Revs = List<Bytes>;
+
+/// The command lines of a log, in order.
+pub type LogLines = List<LogLine>;
 
 /// What a command line of a log says, as it is written: no name is looked up, and no word is tried as a term.
 #[derive(Debug, Drop)]

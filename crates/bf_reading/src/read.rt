@@ -1,11 +1,10 @@
 //! A whole log.
-ghost use Rattle.std.specs.Prelude.{◌≡◌, ◌≤◌, ◌<◌, ◌∷◌, [], length, Ok, IfOk, IfErr, IfSome, MatchOption};
+ghost use Rattle.std.specs.Prelude.{◌≡◌, ◌≤◌, ◌<◌, [], length, Ok, IfOk, IfErr, IfSome, MatchOption};
 ghost use Rattle.bf_reading.specs.Reading as reading;
-ghost use Rattle.bf_reading.specs.Answers.{IsLogRefusal, IsNumberedRefusal, unnumbered};
+ghost use Rattle.bf_reading.specs.Answers.{IsLogRefusal, RefusesLine, IsFirstLine, unnumbered};
 
 use crate::command::read_line;
-use crate::line::{LineFault, LogFault, LogLine};
-use crate::lists::LogLines;
+use crate::line::{LineFault, LogFault, LogLine, LogLines};
 use memchr::memchr;
 use std::alloc::Global;
 
@@ -36,7 +35,7 @@ pub fn read_log(alloc: Global, bytes: &[u8]) -> Result<LogLines, LogFault>
 fn read_numbered(alloc: Global, line: u32, text: &[u8]) -> Result<Option<LogLine>, LogFault>
     ensures line { IfOk result (λ command. reading.read_line text.now ≡ unnumbered command) }
     ensures number { IfOk result (λ command. IfSome command (λ command. command.line ≡ line)) }
-    ensures refused { IfErr result (λ fault. IsNumberedRefusal line fault (reading.read_line text.now)) }
+    ensures refused { RefusesLine result line (reading.read_line text.now) }
 {
     match read_line(alloc, text) {
         Ok(Some(word)) => Ok(Some(LogLine { line, word })),
@@ -48,7 +47,7 @@ fn read_numbered(alloc: Global, line: u32, text: &[u8]) -> Result<Option<LogLine
 
 /// The line in front of a text without its LF, and what stands behind it; none where no byte is left.
 fn first_line(text: &[u8]) -> Option<(&[u8], &[u8])>
-    ensures line { MatchOption result (text.now ≡ []) (λ p. reading.lines_of text.now ≡ p.0.now ∷ reading.lines_of p.1.now) }
+    ensures line { MatchOption result (text.now ≡ []) (λ p. IsFirstLine text.now p.0.now p.1.now) }
     ensures shorter { IfSome result (λ p. length p.1.now < length text.now) }
 {
     if text.is_empty() {

@@ -1,10 +1,9 @@
 //! A start line.
-ghost use Rattle.std.specs.Prelude.{◌≡◌, Some, IfOk, IfErr, OnOk};
+ghost use Rattle.std.specs.Prelude.{◌≡◌, Some, IfOk, OnOk};
 ghost use Rattle.bf_reading.specs.Reading as reading;
-ghost use Rattle.bf_reading.specs.Answers.{IsRefusal, IsPart};
+ghost use Rattle.bf_reading.specs.Answers.{Refuses, IsPart, start_in, after_word};
 
-use crate::line::{LineFault, LogWord};
-use crate::lists::Revs;
+use crate::line::{LineFault, LogWord, Revs};
 use crate::words::next_word;
 use bf_io::Bytes;
 use std::alloc::Global;
@@ -34,8 +33,8 @@ pub(crate) struct StartLine {
 
 /// Reads what follows the word `start`: options and names in any order.
 pub(crate) fn read_start(alloc: Global, text: &[u8]) -> Result<LogWord, LineFault>
-    ensures word { IfOk result (λ word. reading.and_then (reading.words_of text.now) (reading.read_start reading.nothing_started) ≡ Some word) }
-    ensures refused { IfErr result (λ fault. IsRefusal fault (reading.and_then (reading.words_of text.now) (reading.read_start reading.nothing_started))) }
+    ensures word { IfOk result (λ word. start_in text.now ≡ Some word) }
+    ensures refused { Refuses result (start_in text.now) }
 {
     let mut start = StartLine::new(alloc);
     let mut rest = text;
@@ -61,8 +60,8 @@ impl StartLine {
 
     /// Takes the next word.
     fn take_word(&mut self, alloc: Global, word: Bytes) -> Result<(), LineFault>
-        ensures taken { OnOk result (reading.take_word self.old.wants self.old word ≡ Some self.new) }
-        ensures refused { IfErr result (λ fault. IsRefusal fault (reading.take_word self.old.wants self.old word)) }
+        ensures taken { OnOk result (after_word self.old word ≡ Some self.new) }
+        ensures refused { Refuses result (after_word self.old word) }
     {
         match self.wants {
             Wants::AnyWord if word.as_slice().starts_with(b"-") => {
@@ -79,7 +78,7 @@ impl StartLine {
     /// Takes a word that begins with `-`.
     fn take_option(&mut self, alloc: Global, word: &[u8]) -> Result<(), LineFault>
         ensures taken { OnOk result (reading.take_option self.old word.now ≡ Some self.new) }
-        ensures refused { IfErr result (λ fault. IsRefusal fault (reading.take_option self.old word.now)) }
+        ensures refused { Refuses result (reading.take_option self.old word.now) }
     {
         if is_word(b"--first-parent", word) {
             self.first_parent = true;
@@ -100,7 +99,7 @@ impl StartLine {
     /// Takes an option that has its value behind `=`.
     fn take_value(&mut self, alloc: Global, word: &[u8]) -> Result<(), LineFault>
         ensures taken { OnOk result (reading.value_taken self.old word.now ≡ Some self.new) }
-        ensures refused { IfErr result (λ fault. IsRefusal fault (reading.value_taken self.old word.now)) }
+        ensures refused { Refuses result (reading.value_taken self.old word.now) }
     {
         if let Some(new) = behind_either(b"--term-new=", b"--term-bad=", word) {
             self.set_new(Bytes::from_slice(alloc, new)?);
@@ -129,7 +128,7 @@ impl StartLine {
     /// The whole line, where no option waits for its value.
     fn finish(self) -> Result<LogWord, LineFault>
         ensures word { IfOk result (λ word. reading.end_start self.wants self ≡ Some word) }
-        ensures refused { IfErr result (λ fault. IsRefusal fault (reading.end_start self.wants self)) }
+        ensures refused { Refuses result (reading.end_start self.wants self) }
     {
         match self.wants {
             Wants::AnyWord | Wants::NoWord => Ok(LogWord::Start {

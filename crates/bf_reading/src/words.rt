@@ -1,8 +1,8 @@
 //! The words of a command line.
-ghost use Rattle.std.specs.Prelude.{◌≡◌, ◌<◌, ◌≤◌, [], ◌∷◌, length, take, true, false, Some, IfOk, IfErr, IfSome, MatchOption};
+ghost use Rattle.std.specs.Prelude.{◌≡◌, ◌<◌, ◌≤◌, [], length, take, true, false, Some, IfOk, IfSome, MatchOption};
 ghost use Rattle.std.specs.List.{list_any};
 ghost use Rattle.bf_reading.specs.Reading as reading;
-ghost use Rattle.bf_reading.specs.Answers.{IsRefusal, with_word, words_inside, words_quoted, begins_word, begins_plain, is_special};
+ghost use Rattle.bf_reading.specs.Answers.{Refuses, AreReadOn, AreReadBehind, with_word, words_inside, words_quoted, words_escaped, begins_word, begins_plain, is_special};
 
 use crate::line::LineFault;
 use bf_io::Bytes;
@@ -13,7 +13,7 @@ use std::alloc::Global;
 pub(crate) fn next_word(alloc: Global, text: &[u8]) -> Result<Option<(Bytes, &[u8])>, LineFault>
     ensures words { IfOk result (λ next. MatchOption next (reading.words_of text.now ≡ Some [])
         (λ p. reading.words_of text.now ≡ with_word p.0 (reading.words_of p.1.now))) }
-    ensures refused { IfErr result (λ fault. IsRefusal fault (reading.words_of text.now)) }
+    ensures refused { Refuses result (reading.words_of text.now) }
     ensures shorter { IfOk result (λ next. IfSome next (λ p. length p.1.now < length text.now)) }
 {
     let text = past_blanks(text);
@@ -41,8 +41,8 @@ pub(crate) fn past_blanks(text: &[u8]) -> &[u8]
 /// Adds the bytes of the word in front of a text, and gives what stands behind it: nothing, or a blank.
 fn take_word<'a>(word: &mut Bytes, text: &'a [u8]) -> Result<&'a [u8], LineFault>
     requires { begins_word text.now ≡ true }
-    ensures words { IfOk result (λ rest. words_inside word.old text.now ≡ with_word word.new (reading.words_of rest.now)) }
-    ensures refused { IfErr result (λ fault. IsRefusal fault (words_inside word.old text.now)) }
+    ensures words { IfOk result (AreReadBehind (words_inside word.old text.now) word.new) }
+    ensures refused { Refuses result (words_inside word.old text.now) }
     ensures shorter { IfOk result (λ rest. length rest.now < length text.now) }
 {
     let mut rest = take_part(word, text)?;
@@ -58,8 +58,8 @@ fn take_word<'a>(word: &mut Bytes, text: &'a [u8]) -> Result<&'a [u8], LineFault
 /// for themselves.
 fn take_part<'a>(word: &mut Bytes, text: &'a [u8]) -> Result<&'a [u8], LineFault>
     requires { begins_word text.now ≡ true }
-    ensures words { IfOk result (λ rest. words_inside word.old text.now ≡ words_inside word.new rest.now) }
-    ensures refused { IfErr result (λ fault. IsRefusal fault (words_inside word.old text.now)) }
+    ensures words { IfOk result (AreReadOn (words_inside word.old text.now) word.new) }
+    ensures refused { Refuses result (words_inside word.old text.now) }
     ensures shorter { IfOk result (λ rest. length rest.now < length text.now) }
 {
     match text {
@@ -71,8 +71,8 @@ fn take_part<'a>(word: &mut Bytes, text: &'a [u8]) -> Result<&'a [u8], LineFault
 
 /// Adds the bytes up to the next quote, and gives what stands behind it.
 fn take_quoted<'a>(word: &mut Bytes, text: &'a [u8]) -> Result<&'a [u8], LineFault>
-    ensures words { IfOk result (λ rest. words_quoted word.old text.now ≡ words_inside word.new rest.now) }
-    ensures refused { IfErr result (λ fault. IsRefusal fault (words_quoted word.old text.now)) }
+    ensures words { IfOk result (AreReadOn (words_quoted word.old text.now) word.new) }
+    ensures refused { Refuses result (words_quoted word.old text.now) }
     ensures shorter { IfOk result (λ rest. length rest.now ≤ length text.now) }
 {
     match memchr(b'\'', text) {
@@ -87,8 +87,8 @@ fn take_quoted<'a>(word: &mut Bytes, text: &'a [u8]) -> Result<&'a [u8], LineFau
 /// Adds what a backslash stands for in front of this text: the next byte where that is `'` or `!`, and
 /// else itself.
 fn take_escaped<'a>(word: &mut Bytes, text: &'a [u8]) -> Result<&'a [u8], LineFault>
-    ensures words { IfOk result (λ rest. words_inside word.old (92 ∷ text.now) ≡ words_inside word.new rest.now) }
-    ensures refused { IfErr result (λ fault. IsRefusal fault (words_inside word.old (92 ∷ text.now))) }
+    ensures words { IfOk result (AreReadOn (words_escaped word.old text.now) word.new) }
+    ensures refused { Refuses result (words_escaped word.old text.now) }
     ensures shorter { IfOk result (λ rest. length rest.now ≤ length text.now) }
 {
     if let [byte, rest @ ..] = text
@@ -104,8 +104,8 @@ fn take_escaped<'a>(word: &mut Bytes, text: &'a [u8]) -> Result<&'a [u8], LineFa
 /// Adds the bytes in front of a text that stand for themselves.
 fn take_plain<'a>(word: &mut Bytes, text: &'a [u8]) -> Result<&'a [u8], LineFault>
     requires { begins_plain text.now ≡ true }
-    ensures words { IfOk result (λ rest. words_inside word.old text.now ≡ words_inside word.new rest.now) }
-    ensures refused { IfErr result (λ fault. IsRefusal fault (words_inside word.old text.now)) }
+    ensures words { IfOk result (AreReadOn (words_inside word.old text.now) word.new) }
+    ensures refused { Refuses result (words_inside word.old text.now) }
     ensures shorter { IfOk result (λ rest. length rest.now < length text.now) }
 {
     let (plain, rest) = text.split_at(plain_len(text));

@@ -1,14 +1,16 @@
 -- The steps of a replay, joined to its fold.
-use Rattle.std.proofs.Common.{◌≡◌, ℕ, ◌+◌, ◌<◌, ◌≤◌, Bool, IfSome, IfNone, List, [], ◌∷◌, ◌++◌, length, drop, get_or, Option, Some, None, Result, Ok, Err, refl, sym, subst, ap, ◌∙◌, append_assoc, append-nil, add-one}
+use Rattle.std.proofs.Common.{◌≡◌, ℕ, ◌+◌, ◌<◌, ◌≤◌, Bool, IfSome, IfNone, List, [], ◌∷◌, ◌++◌, length, drop, get_or, Option, Some, None, Result, Ok, Err, refl}
+use Rattle.std.proofs.Common.{sym, subst, ap, ◌∙◌, append_assoc, append-nil, add-one}
 use Rattle.std.proofs.Math.Seq.{drop-cons}
 use Rattle.std.proofs.lemmas.List.{drop_all}
 use Rattle.std.proofs.lemmas.List.Elements.{All-append, All-head, All-map, All-push, All-tail}
 use Rattle.std.specs.List.{All}
 use Rattle.bf_reading.specs.declared.line.LogLine.{LogLine}
-use Rattle.bf_log.specs.Labels.{IsEntryWithin}
-use Rattle.bf_logs.specs.Told.{warnings}
+use Rattle.bf_search.specs.Within.{IsEntryWithin}
+use Rattle.bf_logs.specs.LogState.{warnings}
 use Rattle.bf_logs.specs.Replay as replay
-use Rattle.bf_logs.specs.Replay.{Setting, Replayed, if_ok, named, places_of, take_line, replay_from, bad_of, goods_of, tried, leaves_open, names_terms, begun_at}
+use Rattle.bf_logs.specs.Replay.{Setting, Replayed, if_ok, named, places_of, take_line, replay_from, bad_of, goods_of, tried, leaves_open, names_terms}
+use Rattle.bf_logs.specs.Replay.{begun_at}
 use Rattle.bf_search.specs.declared.entries.Entry.{Entry}
 use Rattle.bf_search.specs.declared.entries.Entry.TheVariants.{Start, Marked, SkippedBase}
 use Rattle.bf_search.specs.declared.outcomes.Mark.{Mark}

@@ -2,7 +2,7 @@
 use Rattle.std.specs.Prelude.{◌≡◌, ℕ, Bool, List, Result, Option, Some, None, All}
 use Rattle.std.specs.Borrow.{Bor}
 use Rattle.bf_history.specs.Meanings.{History}
-use Rattle.bf_log.specs.Labels.{IsEntryWithin}
+use Rattle.bf_search.specs.Within.{IsEntryWithin}
 use Rattle.bf_names.specs.Names.{name}
 use Rattle.bf_names.specs.declared.fault.NameFault.{NameFault}
 use Rattle.bf_reading.specs.declared.line.LogLine.{LogLine}

@@ -1,8 +1,8 @@
 //! The fold of the command lines.
-ghost use Rattle.std.specs.Prelude.{◌≡◌, ◌<◌, length, Ok, IfOk, IfErr, IfSome};
-ghost use Rattle.bf_replay.specs.Meaning.{replay_in, replayed_of, text_of, AreWithin, HasLength};
-ghost use Rattle.bf_replay.specs.Parts.{line_in, named_in};
-ghost use Rattle.bf_replay.specs.Refusals.{IsRefusal};
+ghost use Rattle.std.specs.Prelude.{◌≡◌, length, IfOk, IfSome};
+ghost use Rattle.bf_replay.specs.Meaning.{replay_in, text_of, AreWithin, HasLength};
+ghost use Rattle.bf_replay.specs.Parts.{Gives, LeadsTo, IsPlaceOf, line_in, named_in};
+ghost use Rattle.bf_replay.specs.Refusals.{Refuses};
 
 use crate::fault::ReplayFault;
 use crate::mark::take_mark;
@@ -42,10 +42,10 @@ pub fn replay(
     lines: &[LogLine],
 ) -> Result<Replayed, ReplayFault>
     requires { reach.now ≡ history.now.parents }
-    ensures replayed { IfOk result (λ r. replay_in history.now lines.now ≡ Ok (replayed_of r)) }
+    ensures replayed { IfOk result (LeadsTo (replay_in history.now lines.now)) }
     ensures len { IfOk result (HasLength (length history.now.parents)) }
     ensures within { IfOk result (AreWithin (length history.now.parents)) }
-    ensures refused { IfErr result (λ fault. IsRefusal fault (replay_in history.now lines.now)) }
+    ensures refused { Refuses result (replay_in history.now lines.now) }
 {
     let setting = Setting {
         alloc,
@@ -79,10 +79,10 @@ fn take_line(
     requires reach { setting.reach.now ≡ setting.history.now.parents }
     requires len { IfSome before (HasLength (length setting.history.now.parents)) }
     requires within { IfSome before (AreWithin (length setting.history.now.parents)) }
-    ensures replayed { IfOk result (λ r. line_in setting.entry.history.now before line.now ≡ Ok (replayed_of r)) }
+    ensures replayed { IfOk result (LeadsTo (line_in setting.entry before line.now)) }
     ensures len { IfOk result (HasLength (length setting.entry.history.now.parents)) }
     ensures within { IfOk result (AreWithin (length setting.entry.history.now.parents)) }
-    ensures refused { IfErr result (λ fault. IsRefusal fault (line_in setting.entry.history.now before line.now)) }
+    ensures refused { Refuses result (line_in setting.entry before line.now) }
 {
     match &line.word {
         LogWord::Start {
@@ -108,9 +108,9 @@ fn take_line(
 
 /// The place that a name in this line means.
 pub(crate) fn place_named(setting: Setting<'_>, line: u32, name: &[u8]) -> Result<u32, ReplayFault>
-    ensures place { IfOk result (λ place. named_in setting.entry.history.now line name.now ≡ Ok place) }
-    ensures within { IfOk result (λ place. place < length setting.entry.history.now.parents) }
-    ensures refused { IfErr result (λ fault. IsRefusal fault (named_in setting.entry.history.now line name.now)) }
+    ensures place { IfOk result (Gives (named_in setting.entry line name.now)) }
+    ensures within { IfOk result (IsPlaceOf setting.entry.history.now) }
+    ensures refused { Refuses result (named_in setting.entry line name.now) }
 {
     match resolve(setting.alloc, setting.history, name) {
         Ok(place) => Ok(place),

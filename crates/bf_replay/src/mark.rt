@@ -1,10 +1,9 @@
 //! A mark line.
-ghost use Rattle.std.specs.Prelude.{◌≡◌, ◌++◌, ◌∷◌, [], length, Ok, Some, IfOk, IfErr, OnOk};
+ghost use Rattle.std.specs.Prelude.{◌≡◌, length, IfOk, IfErr, OnOk};
 ghost use Rattle.bf_logs.specs.Replay as logs;
-ghost use Rattle.bf_logs.specs.Told.{warnings};
-ghost use Rattle.bf_replay.specs.Meaning.{replayed_of, with_terms, with_open, AreWithin, HasLength};
-ghost use Rattle.bf_replay.specs.Parts.{mark_in};
-ghost use Rattle.bf_replay.specs.Refusals.{IsRefusal};
+ghost use Rattle.bf_replay.specs.Meaning.{with_terms, with_open, AreWithin, HasLength};
+ghost use Rattle.bf_replay.specs.Parts.{LeadsTo, MakesMark, mark_in, word_in, AddsMark};
+ghost use Rattle.bf_replay.specs.Refusals.{Refuses};
 
 use crate::fault::ReplayFault;
 use crate::fold::{Replayed, Setting, place_named};
@@ -24,10 +23,10 @@ pub(crate) fn take_mark(
     requires reach { setting.reach.now ≡ setting.history.now.parents }
     requires len { HasLength (length setting.history.now.parents) before }
     requires within { AreWithin (length setting.history.now.parents) before }
-    ensures replayed { IfOk result (λ r. mark_in setting.entry.history.now line before term.now rev.now ≡ Ok (replayed_of r)) }
+    ensures replayed { IfOk result (LeadsTo (mark_in setting.entry line before term.now rev.now)) }
     ensures len { IfOk result (HasLength (length setting.entry.history.now.parents)) }
     ensures within { IfOk result (AreWithin (length setting.entry.history.now.parents)) }
-    ensures refused { IfErr result (λ fault. IsRefusal fault (mark_in setting.entry.history.now line before term.now rev.now)) }
+    ensures refused { Refuses result (mark_in setting.entry line before term.now rev.now) }
 {
     let Replayed {
         mut state,
@@ -43,9 +42,9 @@ pub(crate) fn take_mark(
 
 /// The mark that a word makes. Where the word makes itself a term, the state has these terms from then on.
 fn read_mark(alloc: Global, state: &mut State, line: u32, word: &[u8]) -> Result<Mark, ReplayFault>
-    ensures mark { IfOk result (λ mark. logs.mark_of state.old.terms state.old.terms_open word.now ≡ Some (record { mark = mark; terms = state.new.terms })) }
+    ensures mark { IfOk result (MakesMark state.old word.now state.new) }
     ensures state { OnOk result (state.new ≡ with_terms state.old state.new.terms) }
-    ensures refused { IfErr result (λ fault. IsRefusal fault (logs.worded line (logs.mark_of state.old.terms state.old.terms_open word.now))) }
+    ensures refused { Refuses result (logs.worded line (word_in state.old word.now)) }
 {
     if let Some(mark) = mark_in(state.terms.new_term(), state.terms.old_term(), word) {
         return Ok(mark);
@@ -102,7 +101,7 @@ fn push_marked(
     mark: Mark,
     place: u32,
 ) -> Result<(), AllocError>
-    ensures { OnOk result (entries.new.items ≡ entries.old.items ++ (warnings warned.now ++ Entry.Marked mark place ∷ [])) }
+    ensures { OnOk result (AddsMark entries.old.items entries.new.items warned.now mark place) }
 {
     for base in warned {
         entries.push(Entry::SkippedBase { place: *base })?;

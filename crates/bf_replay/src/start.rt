@@ -1,9 +1,9 @@
 //! A start line.
-ghost use Rattle.std.specs.Prelude.{◌≡◌, ◌<◌, List, length, Ok, IfOk, IfErr, All};
+ghost use Rattle.std.specs.Prelude.{◌≡◌, length, IfOk, IfErr, All};
 ghost use Rattle.bf_logs.specs.Replay as logs;
-ghost use Rattle.bf_replay.specs.Meaning.{replayed_of, text_of, AreWithin, HasLength};
-ghost use Rattle.bf_replay.specs.Parts.{begun_in, places_in, start_in, terms_in};
-ghost use Rattle.bf_replay.specs.Refusals.{IsRefusal, term_refusal};
+ghost use Rattle.bf_replay.specs.Meaning.{text_of, AreWithin, HasLength};
+ghost use Rattle.bf_replay.specs.Parts.{Gives, GivesAll, LeadsTo, Means, IsPlaceOf, ArePlacesOf, begun_in, leaves_open, names_terms, places_in, start_in, terms_in};
+ghost use Rattle.bf_replay.specs.Refusals.{Refuses, term_refusal};
 
 use crate::fault::ReplayFault;
 use crate::fold::{Replayed, Setting, place_named};
@@ -23,14 +23,14 @@ pub(crate) struct Start<'a> {
 
 impl Start<'_> {
     fn names_terms(self) -> bool
-        ensures { result ≡ logs.names_terms (text_of self.entry.new) (text_of self.entry.old) }
+        ensures { result ≡ names_terms self.entry }
     {
         self.new.is_some() || self.old.is_some()
     }
 
     /// Whether the first good or bad mark may still choose the terms.
     fn leaves_terms_open(self) -> bool
-        ensures { result ≡ logs.leaves_open (text_of self.entry.new) (text_of self.entry.old) self.entry.revs.now }
+        ensures { result ≡ leaves_open self.entry }
     {
         !self.names_terms() && self.revs.is_empty()
     }
@@ -42,10 +42,10 @@ pub(crate) fn take_start(
     line: u32,
     start: Start<'_>,
 ) -> Result<Replayed, ReplayFault>
-    ensures replayed { IfOk result (λ r. start_in setting.entry.history.now line start.entry ≡ Ok (replayed_of r)) }
+    ensures replayed { IfOk result (LeadsTo (start_in setting.entry line start.entry)) }
     ensures len { IfOk result (HasLength (length setting.entry.history.now.parents)) }
     ensures within { IfOk result (AreWithin (length setting.entry.history.now.parents)) }
-    ensures refused { IfErr result (λ fault. IsRefusal fault (start_in setting.entry.history.now line start.entry)) }
+    ensures refused { Refuses result (start_in setting.entry line start.entry) }
 {
     let terms = read_terms(setting, line, start.new, start.old)?;
     let places = places_of(setting, line, start.revs)?;
@@ -59,8 +59,8 @@ fn read_terms(
     new: Option<&[u8]>,
     old: Option<&[u8]>,
 ) -> Result<Terms, ReplayFault>
-    ensures terms { IfOk result (λ terms. terms_in line (text_of new.entry) (text_of old.entry) ≡ Ok terms) }
-    ensures refused { IfErr result (λ fault. IsRefusal fault (terms_in line (text_of new.entry) (text_of old.entry))) }
+    ensures terms { IfOk result (Gives (terms_in line (text_of new.entry) (text_of old.entry))) }
+    ensures refused { Refuses result (terms_in line (text_of new.entry) (text_of old.entry)) }
 {
     let new = term_or(new, b"bad");
     let old = term_or(old, b"good");
@@ -90,9 +90,9 @@ fn term_or<'a>(term: Option<&'a [u8]>, word: &'a [u8]) -> &'a [u8]
 
 /// The places that the names of a line mean, in order.
 fn places_of(setting: Setting<'_>, line: u32, names: &[Bytes]) -> Result<Vec<u32>, ReplayFault>
-    ensures places { IfOk result (λ places. places_in setting.entry.history.now line names.now ≡ Ok places.items) }
-    ensures within { IfOk result (λ places. All (λ place. place < length setting.entry.history.now.parents) places.items) }
-    ensures refused { IfErr result (λ fault. IsRefusal fault (places_in setting.entry.history.now line names.now)) }
+    ensures places { IfOk result (GivesAll (places_in setting.entry line names.now)) }
+    ensures within { IfOk result (ArePlacesOf setting.entry.history.now) }
+    ensures refused { Refuses result (places_in setting.entry line names.now) }
 {
     let mut places = Vec::new(setting.alloc);
     for name in names {
@@ -108,8 +108,8 @@ fn begin(
     terms: Terms,
     places: &[u32],
 ) -> Result<Replayed, ReplayFault>
-    requires { All (λ place. place < length setting.history.now.parents) places.now }
-    ensures replayed { IfOk result (λ r. replayed_of r ≡ begun_in setting.entry.history.now terms start.entry places.now) }
+    requires { All (IsPlaceOf setting.history.now) places.now }
+    ensures replayed { IfOk result (Means (begun_in setting.entry terms start.entry places.now)) }
     ensures len { IfOk result (HasLength (length setting.entry.history.now.parents)) }
     ensures within { IfOk result (AreWithin (length setting.entry.history.now.parents)) }
     ensures memory { IfErr result (λ fault. fault ≡ ReplayFault.NoMemory) }

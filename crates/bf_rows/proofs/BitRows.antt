@@ -1,5 +1,6 @@
 -- Lists of truth values, and the words that hold them.
-use Rattle.std.proofs.Common.{◌≡◌, ℕ, ◌+◌, ◌-◌, ◌*◌, ◌/◌, ◌%◌, ◌^◌, ◌<◌, ◌≤◌, suc, zero, Bool, false, cond, eqb, List, [], ◌∷◌, ◌++◌, length, get_or, map, replicate, refl, sym, ap, subst, ◌∙◌, arith, ⊎_elim, count_by, count_ones}
+use Rattle.std.proofs.Common.{◌≡◌, ℕ, ◌+◌, ◌-◌, ◌*◌, ◌/◌, ◌%◌, ◌^◌, ◌<◌, ◌≤◌, suc, zero, Bool, false, cond, eqb, List, [], ◌∷◌, ◌++◌, length, get_or, map}
+use Rattle.std.proofs.Common.{replicate, refl, sym, ap, subst, ◌∙◌, arith, ⊎_elim, count_by, count_ones}
 use Rattle.std.specs.Int.{bit_at}
 use Rattle.std.specs.List.{range_with_len, sum_by}
 use Rattle.std.specs.Simd.Lanes.{zip2, mask_l}
@@ -54,7 +55,8 @@ holds-zeros len n short e = record { short = short; whole = length-replicate n 0
 
 -- ---- two lists, place by place
 
-pub has_bit-zip2 : (f : ℕ → ℕ → ℕ) (g : Bool → Bool → Bool) (ws vs : List ℕ) (k : ℕ) → IsBitwise f g → length ws ≡ length vs → ((i : ℕ) → get_or vs i 0 < 2 ^ 64)
+pub has_bit-zip2 : (f : ℕ → ℕ → ℕ) (g : Bool → Bool → Bool) (ws vs : List ℕ) (k : ℕ) → IsBitwise f g → length ws ≡ length vs
+    → ((i : ℕ) → get_or vs i 0 < 2 ^ 64)
     → has_bit (zip2 f ws vs) k ≡ g (has_bit ws k) (has_bit vs k)
 has_bit-zip2 f g ws vs k same long fits = ⊎_elim
     (λ within.
@@ -78,11 +80,13 @@ bits-zip2 f g len ws vs same long fits =
     ∙ ap (λ b. g (has_bit ws k) b) (get_or-bits len vs k false h)
     ∙ sym (has_bit-zip2 f g ws vs k same long fits)))
 
-pub holds-zip2 : (f : ℕ → ℕ → ℕ) (g : Bool → Bool → Bool) (len : ℕ) (ws vs : List ℕ) → IsBitwise f g → ((i : ℕ) → get_or vs i 0 < 2 ^ 64) → Holds len ws → Holds len vs → Holds len (zip2 f ws vs)
+pub holds-zip2 : (f : ℕ → ℕ → ℕ) (g : Bool → Bool → Bool) (len : ℕ) (ws vs : List ℕ) → IsBitwise f g → ((i : ℕ) → get_or vs i 0 < 2 ^ 64) → Holds len ws
+    → Holds len vs → Holds len (zip2 f ws vs)
 holds-zip2 f g len ws vs same fits p q = record {
   short = p.short;
   whole = length-zip2 f ws vs (p.whole ∙ sym q.whole) ∙ p.whole;
-  clean = λ k h. has_bit-zip2 f g ws vs k same (p.whole ∙ sym q.whole) fits ∙ ap (λ b. g b (has_bit vs k)) (p.clean k h) ∙ ap (λ b. g false b) (q.clean k h) ∙ same.neither;
+  clean = λ k h. has_bit-zip2 f g ws vs k same (p.whole ∙ sym q.whole) fits ∙ ap (λ b. g b (has_bit vs k)) (p.clean k h) ∙ ap (λ b. g false b) (q.clean k h) ∙
+      same.neither;
 }
 
 -- ---- how many places are true
@@ -102,9 +106,11 @@ mask_is n w p small at =
     let ms : List Bool = map p (range_with_len 0 n) in
     let long : length ms ≡ n = length-map-range_with_len p 0 n in
     same_from_bits_below n (mask_l ms) w (subst (λ m. mask_l ms < 2 ^ m) long (mask_l-lt ms)) small
-    (λ i h. bit_mask_l ms i ∙ ap (λ b. cond b 1 0) (get_or-map-range_with_len p 0 n i i false h (omega arith) ∙ at i h) ∙ one_or_none (bit_at w i) (bit_at-lt w i))
+    (λ i h. bit_mask_l ms i ∙ ap (λ b. cond b 1 0) (get_or-map-range_with_len p 0 n i i false h (omega arith) ∙ at i h) ∙ one_or_none (bit_at w i)
+    (bit_at-lt w i))
 
-trues_of_word : (n w : ℕ) (p : ℕ → Bool) → w < 2 ^ n → ((i : ℕ) → i < n → p i ≡ eqb (bit_at w i) 1) → count_by (λ b. b) (map p (range_with_len 0 n)) ≡ count_ones w
+trues_of_word : (n w : ℕ) (p : ℕ → Bool) → w < 2 ^ n → ((i : ℕ) → i < n → p i ≡ eqb (bit_at w i) 1)
+    → count_by (λ b. b) (map p (range_with_len 0 n)) ≡ count_ones w
 trues_of_word n w p small at = trues-map p (range_with_len 0 n) ∙ sym (ones-mask_l p (range_with_len 0 n)) ∙ ap count_ones (mask_is n w p small at)
 
 trues-word : (w : ℕ) → w < 2 ^ 64 → count_by (λ b. b) (bits 64 (w ∷ [])) ≡ count_ones w
@@ -117,7 +123,8 @@ trues-word w small = trues_of_word 64 w (has_bit (w ∷ [])) small (λ i h.
 bits-cons : (m w : ℕ) (ws : List ℕ) → bits (64 + m) (w ∷ ws) ≡ bits 64 (w ∷ []) ++ bits m ws
 bits-cons m w ws =
     let front : length (bits 64 (w ∷ [])) ≡ 64 = length-bits 64 (w ∷ []) in
-    let long : length (bits 64 (w ∷ []) ++ bits m ws) ≡ 64 + m = length-append (bits 64 (w ∷ [])) (bits m ws) ∙ ap (λ n. n + length (bits m ws)) front ∙ ap (λ n. 64 + n) (length-bits m ws) in
+    let long : length (bits 64 (w ∷ []) ++ bits m ws) ≡ 64 + m = length-append (bits 64 (w ∷ [])) (bits m ws) ∙ ap (λ n. n + length (bits m ws)) front ∙ ap
+    (λ n. 64 + n) (length-bits m ws) in
     sym (bits_is (64 + m) (w ∷ ws) (bits 64 (w ∷ []) ++ bits m ws) long (λ k h. ⊎_elim
     (λ low.
     let first : k / 64 ≡ 0 = omega arith in
@@ -146,7 +153,8 @@ trues_whole (w ∷ ws) fits =
     ∙ ap (λ n. count_ones w + n) (trues_whole ws (λ i. fits (suc i)))
     ∙ sym (sum_by-cons count_ones w ws)
 
-trues_past : (p : ℕ → Bool) (n m : ℕ) → ((k : ℕ) → n ≤ k → p k ≡ false) → count_by (λ b. b) (map p (range_with_len 0 (n + m))) ≡ count_by (λ b. b) (map p (range_with_len 0 n))
+trues_past : (p : ℕ → Bool) (n m : ℕ) → ((k : ℕ) → n ≤ k → p k ≡ false)
+    → count_by (λ b. b) (map p (range_with_len 0 (n + m))) ≡ count_by (λ b. b) (map p (range_with_len 0 n))
 trues_past p n zero none =
     let same : n + 0 ≡ n = omega arith in
     ap (λ k. count_by (λ b. b) (map p (range_with_len 0 k))) same

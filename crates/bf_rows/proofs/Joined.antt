@@ -32,7 +32,8 @@ joined_lanes f old from now n w m j room source e =
       rest = λ k h. get_or-put_chunk_above n now made k 0 (omega arith) ∙ j.rest k (omega arith);
     }
 
-pub joined_all : (f : ℕ → ℕ → ℕ) (old from now : List ℕ) → Joined f old from now (length old) → length old ≡ length from → length now ≡ length old → now ≡ zip2 f old from
+pub joined_all : (f : ℕ → ℕ → ℕ) (old from now : List ℕ) → Joined f old from now (length old) → length old ≡ length from → length now ≡ length old
+    → now ≡ zip2 f old from
 joined_all f old from now j long kept = ext_get_or 0 now (zip2 f old from) (kept ∙ sym (length-zip2 f old from long))
     (λ k h. j.done k (omega arith) ∙ sym (get_or-zip2 f old from k 0 0 0 (omega arith) (omega arith)))
 

@@ -39,7 +39,8 @@ has_bit-at words at bit low =
     let place : (64 * at + bit) % 64 ≡ bit = omega arith in
     ap (λ j. eqb (bit_at (get_or words j 0) ((64 * at + bit) % 64)) 1) word ∙ ap (λ j. eqb (bit_at (get_or words at 0) j) 1) place
 
-pub next_in_words : (words : List ℕ) (first at : ℕ) → ((k : ℕ) → first ≤ k → k < at → get_or words k 0 ≡ 0) → first ≤ at → 0 < get_or words at 0 → get_or words at 0 < 2 ^ 64
+pub next_in_words : (words : List ℕ) (first at : ℕ) → ((k : ℕ) → first ≤ k → k < at → get_or words k 0 ≡ 0) → first ≤ at → 0 < get_or words at 0
+    → get_or words at 0 < 2 ^ 64
     → IsNextBit (has_bit words) (64 * first) (64 * at + trailing_zeros w64 (get_or words at 0))
 next_in_words words first at zeros after some small =
     let word : ℕ = get_or words at 0 in
@@ -61,4 +62,5 @@ within_word word low small some =
     let rest : ℕ = word / 2 ^ low in
     let found = bit_at-trailing_zeros w64 rest some (omega (arith, shr_le word low)) in
     let is_one : bit_at word (low + trailing_zeros w64 rest) ≡ 1 = sym (bit_at-shr word low (trailing_zeros w64 rest)) ∙ found.1 in
-    ⊎_elim (λ within. within) (λ past. absurd (omega (arith, is_one, bit_at_above word 64 (low + trailing_zeros w64 rest) small past))) (cases_lt (low + trailing_zeros w64 rest) 64)
+    ⊎_elim (λ within. within) (λ past. absurd (omega (arith, is_one, bit_at_above word 64 (low + trailing_zeros w64 rest) small past)))
+    (cases_lt (low + trailing_zeros w64 rest) 64)

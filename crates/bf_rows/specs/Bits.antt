@@ -1,7 +1,12 @@
 -- How 64-bit words stand for a list of truth values.
-use Rattle.std.specs.Prelude.{◌≡◌, ℕ, ◌+◌, ◌/◌, ◌%◌, ◌<◌, ◌≤◌, ◌^◌, Bool, true, false, nat_eq, List, map, length, slice_index}
+use Rattle.std.specs.Prelude.{◌≡◌, ℕ, ◌+◌, ◌/◌, ◌%◌, ◌<◌, ◌≤◌, ◌^◌, Bool, true, false, nat_eq, List, map, length, slice_index, Option, MatchOption}
 use Rattle.std.specs.Int.{bit_at}
 use Rattle.std.specs.List.{range_with_len}
+use Rattle.std.specs.Simd.Lanes.{zip2, chunk, put_chunk}
+
+-- whether bit k of one word is 1
+abbrev pub bit_in : ℕ → ℕ → Bool
+bit_in word k = nat_eq (bit_at word k) 1
 
 -- whether bit k is 1, where the words are laid end to end, each from its lowest bit
 abbrev pub has_bit : List ℕ → ℕ → Bool
@@ -30,3 +35,12 @@ pub record IsNextBit (test : ℕ → Bool) (low place : ℕ) : Type 0 where
   pub above : low ≤ place
   pub passes : test place ≡ true
   pub fails_before : (k : ℕ) → low ≤ k → k < place → test k ≡ false
+
+-- the lowest place from low on at which test passes, and none where it fails from there on
+abbrev pub IsLowestFrom : (ℕ → Bool) → ℕ → Option ℕ → Type 0
+IsLowestFrom test low found = MatchOption found (NoBitFrom test low) (IsNextBit test low)
+
+-- words, the eight of which from one place on are each combined with one of eight others
+abbrev pub combined_at : (ℕ → ℕ → ℕ) → List ℕ → ℕ → List ℕ → ℕ → List ℕ
+combined_at combine words into others from =
+    put_chunk into words (zip2 combine (chunk into 8 words) (chunk from 8 others))

@@ -1,7 +1,6 @@
-ghost use Rattle.std.specs.Prelude.{◌≡◌, ◌<◌, ◌||◌, length, slice_set, replicate, count_by, IfOk, true};
+ghost use Rattle.std.specs.Prelude.{◌≡◌, ◌<◌, length, slice_set, replicate, count_by, IfOk, true};
 ghost use Rattle.std.specs.List.{All};
-ghost use Rattle.std.specs.Simd.Lanes.{zip2};
-ghost use Rattle.bf_rows.specs.Blocks.{row_at, empty_row};
+ghost use Rattle.bf_rows.specs.Blocks.{row_at, empty_row, with_joined};
 
 use crate::words::{self, LANES};
 use std::alloc::{AllocError, Global};
@@ -69,7 +68,7 @@ impl Blocks {
     pub fn or_row(&mut self, into: u32, from: u32)
         requires into_in { into < length self.old }
         requires earlier { from < into }
-        ensures { self.new ≡ slice_set self.old into (zip2 ◌||◌ (row_at self.old into) (row_at self.old from)) }
+        ensures { self.new ≡ with_joined self.old into from }
     {
         let into = LANES * into as usize;
         let from = LANES * from as usize;

@@ -1,9 +1,9 @@
 // Work on whole words, eight at a time where there are eight.
-ghost use Rattle.std.specs.Prelude.{◌≡◌, ◌≢◌, Bool, not, ◌&&◌, ◌||◌, ℕ, ◌+◌, ◌*◌, ◌^◌, ◌<◌, ◌≤◌, length, bit_and, bit_or, map, count_ones, slice_index, nat_eq, MatchOption, IfSome};
+ghost use Rattle.std.specs.Prelude.{◌≡◌, ◌≢◌, Bool, not, ◌&&◌, ◌||◌, ℕ, ◌+◌, ◌*◌, ◌^◌, ◌<◌, ◌≤◌, length, bit_and, bit_or, map, count_ones, slice_index, IfSome};
 ghost use Rattle.bf_rows.specs.Bitwise.{IsBitwise, or_bitwise, and_bitwise, and_not_bitwise, right_bitwise};
-ghost use Rattle.bf_rows.specs.Bits.{has_bit, words_for, NoBitFrom, IsNextBit};
-ghost use Rattle.std.specs.Int.{bit_at, bit_not, w64};
-ghost use Rattle.std.specs.Simd.Lanes.{zip2, chunk, put_chunk};
+ghost use Rattle.bf_rows.specs.Bits.{bit_in, has_bit, words_for, combined_at, IsLowestFrom};
+ghost use Rattle.std.specs.Int.{bit_not, w64};
+ghost use Rattle.std.specs.Simd.Lanes.{zip2, chunk};
 ghost use Rattle.std.specs.List.{sum_by};
 
 use std::simd::prelude::*;
@@ -107,7 +107,7 @@ impl BitOp for Right {
 fn combine_lanes<O: BitOp>(into: &mut [u64], from: &[u64], at: usize)
     requires into_room { at + LANES ≤ length into.old }
     requires from_room { at + LANES ≤ length from.now }
-    ensures { into.new ≡ put_chunk at into.old (zip2 O.combine (chunk at 8 into.old) (chunk at 8 from.now)) }
+    ensures { into.new ≡ combined_at O.combine into.old at from.now at }
 {
     let left = u64x8::from_slice(&into[at..]);
     let right = u64x8::from_slice(&from[at..]);
@@ -156,7 +156,7 @@ pub(crate) fn count(words: &[u64]) -> u64
 /// The lowest bit of the word that is 1, from bit `low` on.
 fn lowest_from(word: u64, low: u32) -> Option<u32>
     requires { low < 64 }
-    ensures next { MatchOption result (NoBitFrom (λ i. nat_eq (bit_at word i) 1) low) (IsNextBit (λ i. nat_eq (bit_at word i) 1) low) }
+    ensures next { IsLowestFrom (bit_in word) low result }
     ensures within { IfSome result (λ bit. bit < 64) }
 {
     let rest = word >> low;
@@ -170,7 +170,7 @@ fn lowest_from(word: u64, low: u32) -> Option<u32>
 /// The lowest bit that is 1 of the words from the word `first` on.
 fn lowest_of_words(words: &[u64], first: usize) -> Option<u32>
     requires { length words.now ≤ 2 ^ 26 }
-    ensures { MatchOption result (NoBitFrom (has_bit words.now) (64 * first)) (IsNextBit (has_bit words.now) (64 * first)) }
+    ensures { IsLowestFrom (has_bit words.now) (64 * first) result }
 {
     for at in first..words.len() {
         if words[at] != 0 {
@@ -184,7 +184,7 @@ fn lowest_of_words(words: &[u64], first: usize) -> Option<u32>
 pub(crate) fn next_bit(words: &[u64], low: u32) -> Option<u32>
     requires room { length words.now ≤ 2 ^ 26 }
     requires within { low < 64 * length words.now }
-    ensures { MatchOption result (NoBitFrom (has_bit words.now) low) (IsNextBit (has_bit words.now) low) }
+    ensures { IsLowestFrom (has_bit words.now) low result }
 {
     let at = (low / 64) as usize;
     match lowest_from(words[at], low % 64) {
@@ -236,7 +236,7 @@ pub(crate) fn count_vector(words: &[u64], at: usize) -> u64
 pub(crate) fn or_vector(words: &mut [u64], into: usize, from: usize)
     requires into_room { into + LANES ≤ length words.old }
     requires from_room { from + LANES ≤ length words.old }
-    ensures joined { words.new ≡ put_chunk into words.old (zip2 bit_or (chunk into 8 words.old) (chunk from 8 words.old)) }
+    ensures joined { words.new ≡ combined_at bit_or words.old into words.old from }
     ensures fits { (k : ℕ) → slice_index words.old k < 2 ^ 64 }
 {
     let left = u64x8::from_slice(&words[into..]);

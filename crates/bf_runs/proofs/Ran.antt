@@ -4,7 +4,7 @@ use Rattle.std.specs.List.{All}
 use Rattle.std.specs.Option.{IfSome}
 use Rattle.std.proofs.lemmas.List.Elements.{All-nil, All-push, All-append, All-map}
 use Rattle.bf_graph.specs.Graph.{IsGraph}
-use Rattle.bf_log.specs.Labels.{IsAskWithin, IsEntryWithin}
+use Rattle.bf_search.specs.Within.{IsAskWithin, IsEntryWithin}
 use Rattle.bf_search.specs.declared.asks.Ask.{Ask}
 use Rattle.bf_search.specs.declared.asks.Ask.TheVariants.{WaitBoth, WaitBad, WaitGood, Test, MergeBaseBad, GoodNotAncestor, BothSides, FirstBad, OnlySkipped}
 use Rattle.bf_search.specs.declared.entries.Entry.{Entry}
@@ -15,7 +15,8 @@ use Rattle.bf_search.specs.declared.outcomes.Outcome.{Outcome}
 use Rattle.bf_search.specs.declared.outcomes.Verdict.{Verdict}
 use Rattle.bf_search.specs.declared.outcomes.Verdict.TheVariants as verdicts
 use Rattle.bf_search.specs.Outcomes.{Outcomes, verdict_of}
-use Rattle.bf_search.specs.Run.{End, Answered, Leg, Open, Aborted, Run, ended, with_entries, marked_one, after_verdict, after_look, after_step, after_ask, turn, run_within, run, seq}
+use Rattle.bf_search.specs.Run.{End, Answered, Leg, Open, Aborted, Run, ended, with_entries, marked_one, after_verdict, after_look, after_step, after_ask, turn}
+use Rattle.bf_search.specs.Run.{run_within, run, one_at_a_time}
 use Rattle.bf_search.specs.State.{Search, ask, mark}
 use Rattle.bf_alone.proofs.Places.{warned_within, ask_within}
 use Rattle.bf_state.proofs.Asks.{ask_leaves}
@@ -50,7 +51,8 @@ marked_bad n s marks.Bad p h w = w
 marked_bad n s marks.Skip p h w = h
 
 module _ (n : ℕ) (known : Outcomes) (go : Option ℕ → Search → Run) (goes : (left : Option ℕ) (s : Search) → HasBad n s → IsRunWithin n (go left s)) where
-  by_verdict : (left : Option ℕ) (s : Search) (p : ℕ) (outcome : Outcome) (v : Verdict) → HasBad n s → p < n → IsRunWithin n (after_verdict go left s p outcome v)
+  by_verdict : (left : Option ℕ) (s : Search) (p : ℕ) (outcome : Outcome) (v : Verdict) → HasBad n s → p < n
+      → IsRunWithin n (after_verdict go left s p outcome v)
   by_verdict left s p outcome verdicts.Abort h w = bare n s (Aborted p outcome) w
   by_verdict left s p outcome (verdicts.Mark m) h w =
       more n (Marked m p ∷ []) (go (marked_one left) (mark s m p)) (one n (Marked m p) w) (goes (marked_one left) (mark s m p) (marked_bad n s m p h w))
@@ -99,6 +101,6 @@ within_turns (suc turns) graph known left s g h =
 
 -- the places that a run names are places of its graph
 pub run_is_within : (graph : List (List ℕ)) (known : Outcomes) (s : Search) (k : ℕ) → IsGraph graph → HasBad (length graph) s
-    → IsRunWithin (length graph) (seq graph s known k)
+    → IsRunWithin (length graph) (one_at_a_time graph s known k)
 unfolding run
 run_is_within graph known s k g h = within_turns _ graph known _ s g h

@@ -1,19 +1,22 @@
 -- Runs in legs: each leg goes on from the one before, and the last one ends the run without legs.
-use Rattle.std.proofs.Common.{◌≡◌, ◌≢◌, ℕ, zero, suc, ◌<◌, ◌≤◌, ◌+◌, true, if◌then◌else◌, List, [], ◌∷◌, ◌++◌, length, get_or, map, Option, Some, None, refl, sym, ap, subst, ◌∙◌, ⊎_elim, arith}
+use Rattle.std.proofs.Common.{◌≡◌, ◌≢◌, ℕ, zero, suc, ◌<◌, ◌≤◌, ◌+◌, true, if◌then◌else◌, List, [], ◌∷◌, ◌++◌, length, get_or, map, Option, Some, None, refl}
+use Rattle.std.proofs.Common.{sym, ap, subst, ◌∙◌, ⊎_elim, arith}
 use Rattle.std.proofs.lemmas.Grind.{flat_map-append}
 use Rattle.std.proofs.lemmas.List.Folds.{flat_map-map}
-use Rattle.std.proofs.lemmas.List.{append_assoc, append-nil, flat_map_more, length-append, length-map, length-set, map-append, get_or_append_left, get_or-append-add, get_or_default, get_or-map}
+use Rattle.std.proofs.lemmas.List.{append_assoc, append-nil, flat_map_more, length-append, length-map, length-set, map-append, get_or_append_left}
+use Rattle.std.proofs.lemmas.List.{get_or-append-add, get_or_default, get_or-map}
 use Rattle.std.proofs.lemmas.List.Elements.{All-nil, All-push, All-head, All-tail, Contains-append_left, Contains-get_or}
 use Rattle.std.proofs.lemmas.Option.{cond_some}
 use Rattle.std.specs.List.{All, AllPairs, Contains, flat_map}
 use Rattle.std.specs.Option.{IfSome, is_none}
 use Rattle.bf_core.proofs.Standing.{part_put}
-use Rattle.bf_farm.specs.Answering.{pair_of, lacking, setting_at, IsAlone, IsReport, HasHistory, IsSoundReport}
+use Rattle.bf_farm.specs.Answering.{pair_of, lacking, IsAlone, IsReport, HasHistory, IsSoundReport}
 use Rattle.bf_farm.specs.Boards.{LeadsTo, unclaimed}
+use Rattle.bf_farm.specs.Cores.{setting_at}
 use Rattle.bf_farm.specs.Ends.{awaited, failed_test, test_at, test_of}
 use Rattle.bf_farm.specs.declared.report.Report.{Report}
 use Rattle.bf_farm.specs.Reports.{TableIn, IsAnswered}
-use Rattle.bf_grammar.specs.declared.object.Oid.{Oid}
+use Rattle.bf_oid.specs.declared.object.Oid.{Oid}
 use Rattle.bf_graph.specs.Graph.{IsGraph}
 use Rattle.bf_guesses.specs.Ends.{HasEnds}
 use Rattle.bf_guesses.specs.Tidy.{IsTidy}
@@ -31,10 +34,11 @@ use Rattle.bf_search.specs.declared.farm.Event.TheVariants.{Claim as Claimed, Po
 use Rattle.bf_search.specs.declared.outcomes.Outcome.{Outcome}
 use Rattle.bf_search.specs.declared.outcomes.Verdict.{Verdict}
 use Rattle.bf_search.specs.declared.outcomes.Verdict.TheVariants.{Mark as MarkOf, Abort}
-use Rattle.bf_log.specs.Labels.{IsEntryWithin}
+use Rattle.bf_search.specs.Within.{IsEntryWithin}
 use Rattle.bf_search.specs.Farm.{Setting, Farm, step, after_events, end_of}
 use Rattle.bf_search.specs.Outcomes.{Outcomes, outcomes_of_table, verdict_of}
-use Rattle.bf_search.specs.Run.{Run, End, Leg, with_entries, with_used, marked_one, leg_of, after_verdict, after_look, after_step, after_ask, turn, run_within, run, seq}
+use Rattle.bf_search.specs.Run.{Run, End, Leg, with_entries, with_used, marked_one, leg_of, after_verdict, after_look, after_step, after_ask, turn, run_within}
+use Rattle.bf_search.specs.Run.{run, one_at_a_time}
 use Rattle.bf_search.specs.State.{Search, Asked, IsSearchOver, ask, mark}
 use Rattle.bf_state.specs.Runs.{IsPartOf, is_unfinished, in_sequence}
 use Rattle.bf_state.specs.Session.{Session, IsSearchBelow, with_search}
@@ -42,8 +46,9 @@ use Rattle.bf_state.proofs.Tables.{run_follows}
 use Rattle.bf_tester.specs.declared.answer.Answer.{Answer}
 use Rattle.bf_runs.specs.declared.case.Search.{Search as Searched}
 use Rattle.bf_runs.specs.Courses.{course_from}
-use Rattle.bf_runs.specs.Legs.{Course, Stand, first_stand, setting_of, leg_run, IsLeg, stand_after, LegsLead, Legs, AreLegs, IsKnown, AreTestsOf, IsTestedAlone, GoesOnFrom, IsBetween, IsOver, IsReady, IsLegRun, LeadsOn}
-use Rattle.bf_runs.specs.Within.{IsEndingWithin}
+use Rattle.bf_runs.specs.Legs.{Course, Stand, first_stand, setting_of, leg_run, IsLeg, stand_after, LegsLead, Legs, AreLegs, IsKnown, AreTestsOf, IsTestedAlone}
+use Rattle.bf_runs.specs.Legs.{GoesOnFrom, IsBetween, IsOver, IsReady, IsLegRun, LeadsOn}
+use Rattle.bf_search.specs.Within.{IsEndingWithin}
 use Rattle.bf_runs.proofs.Ran.{IsEndWithin, run_is_within}
 
 -- ---- a leg that did not end after its marks is the run without legs
@@ -91,7 +96,8 @@ same_within (suc turns) graph known (Some zero) s unspent = absurd (unspent refl
 same_within (suc turns) graph known (Some (suc k)) s unspent =
     same_asked known (run_within turns graph known) (Some (suc k)) (ask graph s) (λ t. same_within turns graph known (marked_one (Some (suc k))) t) unspent
 
-pub unspent_leg : (graph : List (List ℕ)) (known : Outcomes) (s : Search) (k : ℕ) → (seq graph s known k).end ≢ Leg → seq graph s known 0 ≡ seq graph s known k
+pub unspent_leg : (graph : List (List ℕ)) (known : Outcomes) (s : Search) (k : ℕ) → (one_at_a_time graph s known k).end ≢ Leg
+    → one_at_a_time graph s known 0 ≡ one_at_a_time graph s known k
 unfolding run
 unspent_leg graph known s k unspent = same_within _ graph known (leg_of k) s unspent
 
@@ -125,15 +131,18 @@ keeps_then a b c h k = record { part = part_then (outcomes_of_table a) (outcomes
 
 keeps_step : (setting : Setting) (farm next : Farm) (event : Event) → IsTidy farm → step setting farm event ≡ Some next → Keeps farm.table next.table
 keeps_step setting farm next (Claimed worker p) tidy e =
-    let told = cond_some _ _ next e in subst (λ (f : Farm). Keeps farm.table f.table) told.1 (record { part = part_same (outcomes_of_table farm.table); long = refl })
+    let told = cond_some _ _ next e in subst (λ (f : Farm). Keeps farm.table f.table) told.1
+    (record { part = part_same (outcomes_of_table farm.table); long = refl })
 keeps_step setting farm next (Posted worker p outcome) tidy e =
     let told = cond_some _ _ next e in
     subst (λ (f : Farm). Keeps farm.table f.table) told.1
     (record { part = part_put farm.table p outcome (untold_at farm worker p tidy told.0); long = length-set farm.table p (Some outcome) })
 keeps_step setting farm next (Given worker p) tidy e =
-    let told = cond_some _ _ next e in subst (λ (f : Farm). Keeps farm.table f.table) told.1 (record { part = part_same (outcomes_of_table farm.table); long = refl })
+    let told = cond_some _ _ next e in subst (λ (f : Farm). Keeps farm.table f.table) told.1
+    (record { part = part_same (outcomes_of_table farm.table); long = refl })
 
-keeps_events : (setting : Setting) (farm next : Farm) (events : List Event) → IsTidy farm → after_events setting (Some farm) events ≡ Some next → Keeps farm.table next.table
+keeps_events : (setting : Setting) (farm next : Farm) (events : List Event) → IsTidy farm → after_events setting (Some farm) events ≡ Some next
+    → Keeps farm.table next.table
 keeps_events setting farm next [] tidy e =
     let same : farm ≡ next = cc in subst (λ (f : Farm). Keeps farm.table f.table) same (record { part = part_same (outcomes_of_table farm.table); long = refl })
 keeps_events setting farm next (event ∷ events) tidy e = by_step (step setting farm event) refl e (λ between. keeps_events setting between next events)
@@ -143,7 +152,8 @@ keeps_events setting farm next (event ∷ events) tidy e = by_step (step setting
     none_left (event ∷ events) = refl
 
     by_step : (found : Option Farm) → step setting farm event ≡ found → after_events setting found events ≡ Some next
-        → ((between : Farm) → IsTidy between → after_events setting (Some between) events ≡ Some next → Keeps between.table next.table) → Keeps farm.table next.table
+        → ((between : Farm) → IsTidy between → after_events setting (Some between) events ≡ Some next → Keeps between.table next.table)
+        → Keeps farm.table next.table
     by_step None is k rest = cc (none_left events, k)
     by_step (Some between) is k rest =
         keeps_then farm.table between.table next.table (keeps_step setting farm between event tidy is)
@@ -156,13 +166,16 @@ no_claims table = record {
   untold = All-nil (λ c. outcomes_of_table table c.place ≡ None);
 }
 
-pub leg_keeps : (setting : Setting) (first table : List (Option Outcome)) (events : List Event) → LeadsTo setting first events (unclaimed table) → Keeps first table
+pub leg_keeps : (setting : Setting) (first table : List (Option Outcome)) (events : List Event) → LeadsTo setting first events (unclaimed table)
+    → Keeps first table
 leg_keeps setting first table events leads = keeps_events setting (unclaimed first) (unclaimed table) events (no_claims first) leads
 
 -- ---- one leg more
 
-pub legs_lead_on : (course : Course) (stand after : Stand) (whole : List (List Event)) (events : List Event) (table : List (Option Outcome)) → LegsLead course stand whole after
-    → IsLeg course after events table → (leg_run course after.search table).end ≡ Leg → LegsLead course stand (whole ++ events ∷ []) (stand_after course after table)
+pub legs_lead_on : (course : Course) (stand after : Stand) (whole : List (List Event)) (events : List Event) (table : List (Option Outcome))
+    → LegsLead course stand whole after
+    → IsLeg course after events table → (leg_run course after.search table).end ≡ Leg
+    → LegsLead course stand (whole ++ events ∷ []) (stand_after course after table)
 unfolding LegsLead
 legs_lead_on course stand after [] events table same leg ends = (
   table,
@@ -174,7 +187,13 @@ legs_lead_on course stand after (first ∷ whole) events table (next, legal, end
     (next, legal, ended, legs_lead_on course (stand_after course stand next) after whole events table more leg ends)
 
 sequence_assoc : (a b c : Run) → in_sequence a (in_sequence b c) ≡ in_sequence (in_sequence a b) c
-sequence_assoc a b c = λ i. record { entries = sym (append_assoc a.entries b.entries c.entries) i; used = sym (append_assoc a.used b.used c.used) i; search = c.search; end = c.end }
+sequence_assoc a b c = λ i. record {
+  entries = sym (append_assoc a.entries b.entries c.entries) i;
+  used = sym (append_assoc a.used b.used c.used) i;
+  search =
+      c.search;
+  end = c.end;
+}
 
 module _ (course : Course) (g : IsGraph course.graph) (run_so_far : Run) (stand : Stand) (table : List (Option Outcome))
     (over : IsSearchOver course.graph stand.search) (reached : run_so_far.search ≡ stand.search)
@@ -182,18 +201,20 @@ module _ (course : Course) (g : IsGraph course.graph) (run_so_far : Run) (stand 
   abbrev leg : Run
   leg = leg_run course stand.search table
 
-  from_stand : (more : Outcomes) → IsPartOf (outcomes_of_table table) more → seq course.graph course.first more 0 ≡ in_sequence run_so_far (seq course.graph stand.search more 0)
+  from_stand : (more : Outcomes) → IsPartOf (outcomes_of_table table) more
+      → one_at_a_time course.graph course.first more 0 ≡ in_sequence run_so_far (one_at_a_time course.graph stand.search more 0)
   from_stand more part =
       goes_on more (part_then (outcomes_of_table stand.table) (outcomes_of_table table) more keeps part)
-      ∙ ap (λ (s : Search). in_sequence run_so_far (seq course.graph s more 0)) reached
+      ∙ ap (λ (s : Search). in_sequence run_so_far (one_at_a_time course.graph s more 0)) reached
 
   pub goes_on_after : is_unfinished leg.end ≡ true → GoesOnFrom course (in_sequence run_so_far leg) (outcomes_of_table table)
   goes_on_after unfinished = λ more part.
       from_stand more part
-      ∙ ap (λ (r : Run). in_sequence run_so_far r) (run_follows course.graph (outcomes_of_table table) more g part (leg_of course.leg) stand.search over unfinished)
-      ∙ sequence_assoc run_so_far leg (seq course.graph leg.search more 0)
+      ∙ ap (λ (r : Run). in_sequence run_so_far r) (run_follows course.graph (outcomes_of_table table) more g part (leg_of course.leg) stand.search over
+      unfinished)
+      ∙ sequence_assoc run_so_far leg (one_at_a_time course.graph leg.search more 0)
 
-  pub ends_with : leg.end ≢ Leg → in_sequence run_so_far leg ≡ seq course.graph course.first (outcomes_of_table table) 0
+  pub ends_with : leg.end ≢ Leg → in_sequence run_so_far leg ≡ one_at_a_time course.graph course.first (outcomes_of_table table) 0
   ends_with unspent =
       sym (from_stand (outcomes_of_table table) (part_same (outcomes_of_table table))
       ∙ ap (λ (r : Run). in_sequence run_so_far r) (unspent_leg course.graph (outcomes_of_table table) stand.search course.leg unspent))
@@ -216,7 +237,8 @@ in_map xs a (i, low, is) = (i, (let long = length-map xs pair_of in omega arith)
 lacks_all : (table : List (Option Outcome)) (used : List Answer) → All (λ a. outcomes_of_table table a.place ≡ None) used → lacking table used ≡ used
 lacks_all table [] h = refl
 lacks_all table (a ∷ used) h =
-    ap (λ (o : Option Outcome). if is_none o then a ∷ lacking table used else lacking table used) (All-head (λ (x : Answer). outcomes_of_table table x.place ≡ None) a used h)
+    ap (λ (o : Option Outcome). if is_none o then a ∷ lacking table used else lacking table used)
+    (All-head (λ (x : Answer). outcomes_of_table table x.place ≡ None) a used h)
     ∙ ap (λ (rest : List Answer). a ∷ rest) (lacks_all table used (All-tail (λ (x : Answer). outcomes_of_table table x.place ≡ None) a used h))
 
 -- what a later leg used was not known before it
@@ -345,7 +367,7 @@ module _ (course : Course) (told : Option (List Outcome)) (before after : List A
         used_is ended;
   }
 
-  differ : (more : Outcomes) (whole : Run) (used : List Pair) → seq course.graph course.first more 0 ≡ whole → whole.used ≡ used
+  differ : (more : Outcomes) (whole : Run) (used : List Pair) → one_at_a_time course.graph course.first more 0 ≡ whole → whole.used ≡ used
       → IsSearchOver course.graph course.first → AllPairs (λ a b. a.0 ≢ b.0) used
   differ more whole used same is over =
       subst (λ (ps : List Pair). AllPairs (λ a b. a.0 ≢ b.0) ps) (ap (λ (r : Run). r.used) same ∙ is)
@@ -362,7 +384,7 @@ module _ (course : Course) (told : Option (List Outcome)) (before after : List A
           ended = leg_ended e;
           goes_on = goes;
           known = known;
-          alone = alone whole so_far between (seq course.graph ran.search (outcomes_of_table report.table) 0).used
+          alone = alone whole so_far between (one_at_a_time course.graph ran.search (outcomes_of_table report.table) 0).used
               (differ (outcomes_of_table report.table) _ _ (goes (outcomes_of_table report.table) (part_same (outcomes_of_table report.table)))
               (append_assoc so_far.used ran.used _) first);
         };
@@ -384,7 +406,8 @@ module _ (course : Course) (told : Option (List Outcome)) (before after : List A
       record {
         len = ap (λ (t : Session). t.len) state ∙ len;
         long = keeps.long ∙ long;
-        ends = subst (λ (t : Session). HasEnds t.search) (sym state) (ends_kept course.graph (outcomes_of_table report.table) (leg_of course.leg) session.search ends);
+        ends = subst (λ (t : Session). HasEnds t.search) (sym state)
+            (ends_kept course.graph (outcomes_of_table report.table) (leg_of course.leg) session.search ends);
         known = known;
       }
 
@@ -409,7 +432,8 @@ places_within course session report is sorted bad =
 pub ending_within : (course : Course) (session : Session) (report : Report) → IsLegRun course session report → IsGraph course.graph
     → IfSome session.search.bad (λ p. p < length course.graph) → IsEndingWithin (length course.graph) report.ending
 ending_within course session report is sorted bad =
-    within (length course.graph) report.ending _ is.ending (run_is_within course.graph (outcomes_of_table report.table) session.search course.leg sorted bad).end
+    within (length course.graph) report.ending _ is.ending
+    (run_is_within course.graph (outcomes_of_table report.table) session.search course.leg sorted bad).end
 
 -- ---- what a leg promises
 

@@ -7,14 +7,14 @@ use Rattle.bf_farm.specs.Boards.{LeadsTo, unclaimed}
 use Rattle.bf_farm.specs.Ends.{awaited, failed_test, test_at}
 use Rattle.bf_farm.specs.Reports.{TableIn, TableFollows}
 use Rattle.bf_farm.specs.declared.report.Report.{Report}
-use Rattle.bf_grammar.specs.declared.object.Oid.{Oid}
+use Rattle.bf_oid.specs.declared.object.Oid.{Oid}
 use Rattle.bf_guesses.specs.Ends.{HasEnds}
 use Rattle.bf_search.specs.declared.farm.Event.{Event}
 use Rattle.bf_search.specs.declared.farm.Ending.TheVariants as ending
 use Rattle.bf_search.specs.declared.outcomes.Outcome.{Outcome}
 use Rattle.bf_search.specs.Farm.{Setting, consumed, end_of}
 use Rattle.bf_search.specs.Outcomes.{Outcomes, outcomes_of_table}
-use Rattle.bf_search.specs.Run.{Run, Leg, seq}
+use Rattle.bf_search.specs.Run.{Run, Leg, one_at_a_time}
 use Rattle.bf_search.specs.State.{Search}
 use Rattle.bf_state.specs.Runs.{IsPartOf, in_sequence}
 use Rattle.bf_state.specs.Session.{Session, with_search}
@@ -34,9 +34,13 @@ pub record Stand : Type 0 where
   pub search : Search
   pub table : List (Option Outcome)
 
+-- a table of the commits of a graph of which nothing is known
+abbrev pub nothing_known : List (List ℕ) → List (Option Outcome)
+nothing_known graph = replicate (length graph) None
+
 -- at first nothing is known
 abbrev pub first_stand : Course → Stand
-first_stand course = record { search = course.first; table = replicate (length course.graph) None }
+first_stand course = record { search = course.first; table = nothing_known course.graph }
 
 abbrev pub setting_of : Course → Search → Setting
 setting_of course s = record { graph = course.graph; start = s; leg = course.leg }
@@ -91,7 +95,7 @@ pub record IsTestedAlone (answers : List Answer) (run : Run) (legs : List (List 
 -- whatever more is known, the run without legs goes on from here
 abbrev pub GoesOnFrom : Course → Run → Outcomes → Type 0
 GoesOnFrom course run known =
-    (more : Outcomes) → IsPartOf known more → seq course.graph course.first more 0 ≡ in_sequence run (seq course.graph run.search more 0)
+    (more : Outcomes) → IsPartOf known more → one_at_a_time course.graph course.first more 0 ≡ in_sequence run (one_at_a_time course.graph run.search more 0)
 
 -- A run has come so far in whole legs.
 pub record IsBetween (course : Course) (told : Option (List Outcome)) (answers : List Answer) (stand : Stand) (whole : List (List Event)) (run : Run) : Type 0 where
@@ -105,7 +109,7 @@ pub record IsBetween (course : Course) (told : Option (List Outcome)) (answers :
 -- A run has ended: it is the run without legs on all that is known.
 pub record IsOver (course : Course) (told : Option (List Outcome)) (answers : List Answer) (table : List (Option Outcome)) (legs : Legs) (run : Run) : Type 0 where
   pub are : AreLegs course legs table
-  pub is : run ≡ seq course.graph course.first (outcomes_of_table table) 0
+  pub is : run ≡ one_at_a_time course.graph course.first (outcomes_of_table table) 0
   pub known : IsKnown course.names told answers table
   pub alone : course.workers ≤ 1 → IsTestedAlone answers run (all_of legs)
 

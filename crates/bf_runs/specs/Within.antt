@@ -1,20 +1,17 @@
 -- The places that an ending names.
-use Rattle.std.specs.Prelude.{ℕ, ◌<◌, All, Result, Ok, Err}
+use Rattle.std.specs.Prelude.{ℕ, ◌<◌, List, length, All, Result, Ok, Err}
 use Rattle.bf_alone.specs.Within as alone
 use Rattle.bf_alone.specs.declared.ending.Ending.{Ending as AloneEnding}
-use Rattle.bf_search.specs.declared.farm.Ending.{Ending}
-use Rattle.bf_search.specs.declared.farm.Ending.TheVariants.{FirstBad, OnlySkipped, MergeBaseBad, GoodNotAncestor, BothSides, Aborted, Leg, TestFault}
+use Rattle.bf_farm.specs.declared.report.Report.{Report}
+use Rattle.bf_search.specs.Within.{IsEntryWithin, IsEndingWithin}
 
--- they are places of so many commits
-abbrev pub IsEndingWithin : ℕ → Ending → Type 0
-IsEndingWithin len (FirstBad p) = p < len
-IsEndingWithin len (OnlySkipped ps) = All (λ p. p < len) ps
-IsEndingWithin len (MergeBaseBad p) = p < len
-IsEndingWithin len (GoodNotAncestor p) = p < len
-IsEndingWithin len (BothSides p) = p < len
-IsEndingWithin len (Aborted p outcome) = p < len
-IsEndingWithin len Leg = Unit {0}
-IsEndingWithin len (TestFault p) = p < len
+-- the entries of a report name places of a graph
+abbrev pub HasEntriesWithin : List (List ℕ) → Report → Type 0
+HasEntriesWithin graph report = All (IsEntryWithin (length graph)) report.entries.items
+
+-- so does its ending
+abbrev pub HasEndingWithin : List (List ℕ) → Report → Type 0
+HasEndingWithin graph report = IsEndingWithin (length graph) report.ending
 
 -- those of the end as it is told, or of the test that failed
 abbrev pub IsToldWithin : ℕ → Result AloneEnding ℕ → Type 0

@@ -1,7 +1,9 @@
 //! A search over a history, whose commits are tested.
-ghost use Rattle.std.specs.Prelude.{◌≡◌, ◌≤◌, ◌++◌, false, length, IfOk};
-ghost use Rattle.bf_farm.specs.Answering.{IsReport, IsSoundReport, HasHistory, HasFault, IsAlone, lacking, setting_at};
-ghost use Rattle.bf_farm.specs.Reports.{manner_by, TableIn, TableFollows};
+ghost use Rattle.std.specs.Prelude.{◌≡◌, ◌≤◌, false, length, IfOk};
+ghost use Rattle.bf_farm.specs.Answering.{IsAlone};
+ghost use Rattle.bf_farm.specs.Cases.{IsReportOn, HasHistoryOn};
+ghost use Rattle.bf_farm.specs.Reports.{TableIn, TableFollows};
+ghost use Rattle.bf_farm.specs.Testers.{KeepsManner, IsSoundBy, HasFaultBy, GainsLacking};
 ghost use Rattle.bf_guesses.specs.Ends.{HasEnds};
 
 use bf_farm::{Case, Report, run_alone, run_farm};
@@ -39,14 +41,15 @@ pub fn run_case<R: Host, T: Tester>(
     requires known { TableIn case.names.now (T.answers tester.old) case.table }
     requires plan { TableFollows (T.told tester.old) case.table }
     requires is_split { T.is_split tester.old ≡ false }
-    ensures report { IfOk result (IsReport (setting_at case.entry.reach.now case.entry.state case.entry.leg) case.entry.state case.entry.names.now) }
-    ensures history { IfOk result (HasHistory (setting_at case.entry.reach.now case.entry.state case.entry.leg) case.entry.table) }
-    ensures sound { IfOk result (IsSoundReport (T.told tester.old) case.entry.names.now (T.answers tester.new)) }
-    ensures fault { IfOk result (HasFault (T.faults tester.old) (T.faults tester.new) (T.failed tester.new)) }
+    ensures report { IfOk result (IsReportOn case.entry) }
+    ensures history { IfOk result (HasHistoryOn case.entry) }
+    ensures sound { IfOk result (IsSoundBy T.Tester tester.old tester.new case.entry.names.now) }
+    ensures fault { IfOk result (HasFaultBy T.Tester tester.old tester.new) }
     ensures later { T.faults tester.old ≤ T.faults tester.new }
     ensures alone { workers ≤ 1 → IfOk result (IsAlone case.entry.table) }
-    ensures lacking { workers ≤ 1 → IfOk result (λ report. T.answers tester.new ≡ T.answers tester.old ++ lacking case.entry.table report.used.items) }
-    ensures manner { manner_by T.told T.command T.is_lenient T.grounds T.recalled tester.new ≡ manner_by T.told T.command T.is_lenient T.grounds T.recalled tester.old }
+    ensures lacking { workers ≤ 1 →
+        IfOk result (GainsLacking T.Tester tester.old tester.new case.entry.table) }
+    ensures manner { KeepsManner T.Tester tester.old tester.new }
     ensures is_split { T.is_split tester.new ≡ false }
 {
     if workers > 1 {

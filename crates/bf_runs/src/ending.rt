@@ -1,7 +1,8 @@
 //! The end of a run as it is told.
 ghost use Rattle.std.specs.Prelude.{◌≡◌, ℕ, IfOk, IfErr};
 ghost use Rattle.bf_alone.specs.Rest.{ending_of};
-ghost use Rattle.bf_runs.specs.Within.{IsEndingWithin, IsToldWithin};
+ghost use Rattle.bf_runs.specs.Within.{IsToldWithin};
+ghost use Rattle.bf_search.specs.Within.{IsEndingWithin};
 ghost use Rattle.bf_search.specs.declared.farm.Ending.TheVariants.{TestFault};
 ghost use Rattle.bf_search.specs.Farm.{end_of};
 

@@ -1,12 +1,8 @@
 //! A leg of a run.
-ghost use Rattle.std.specs.Prelude.{◌≡◌, ◌≤◌, false, length, replicate, All, None, IfOk};
-ghost use Rattle.bf_farm.specs.Answering.{HasFault};
-ghost use Rattle.bf_farm.specs.Reports.{manner_by};
-ghost use Rattle.bf_log.specs.Labels.{IsEntryWithin};
-ghost use Rattle.bf_runs.specs.Legs.{Stand, IsReady, IsLegRun, LeadsOn};
-ghost use Rattle.bf_runs.specs.Courses.{course_from, stand_of};
-ghost use Rattle.bf_runs.specs.Within.{IsEndingWithin};
-ghost use Rattle.bf_search.specs.State.{Search as Begun, IsSearchOver};
+ghost use Rattle.std.specs.Prelude.{◌≡◌, ◌≤◌, false, IfOk};
+ghost use Rattle.bf_farm.specs.Testers.{KeepsManner, HasFaultBy};
+ghost use Rattle.bf_runs.specs.Courses.{KnowsNothing, CanBegin, IsRunOfLeg, LegLeads, LeavesReady};
+ghost use Rattle.bf_runs.specs.Within.{HasEntriesWithin, HasEndingWithin};
 
 use crate::case::{Search, run_case};
 use bf_farm::{Case, Report};
@@ -27,7 +23,7 @@ impl Standing {
     /// Where the first leg begins: no outcome is known.
     pub fn first(alloc: Global, history: &History, state: State) -> Result<Standing, AllocError>
         ensures state { IfOk result (λ standing. standing.state ≡ state) }
-        ensures table { IfOk result (λ standing. standing.table ≡ replicate (length history.now.parents) None) }
+        ensures table { IfOk result (KnowsNothing history.now.parents) }
     {
         let table = Table::new(alloc, history.len())?;
         Ok(Standing { state, table })
@@ -46,16 +42,16 @@ pub fn run_leg<R: Host, T: Tester>(
     tester: &mut T,
 ) -> Result<Report, AllocError>
     requires reach { search.reach.now ≡ search.history.now.parents }
-    requires ready { IsReady search.history.now.parents search.history.now.names (T.told tester.old) (T.answers tester.old) standing.state standing.table }
+    requires ready { CanBegin T.Tester tester.old search standing.state standing.table }
     requires is_split { T.is_split tester.old ≡ false }
-    ensures run { IfOk result (λ report. (first : Begun) → IsLegRun (course_from search.entry first) standing.state report) }
-    ensures leads_on { IfOk result (λ report. (first : Begun) → IsSearchOver search.entry.history.now.parents first → LeadsOn (course_from search.entry first) (T.told tester.old) (T.answers tester.old) (T.answers tester.new) (stand_of standing) report) }
-    ensures ready { IfOk result (λ report. IsReady search.entry.history.now.parents search.entry.history.now.names (T.told tester.old) (T.answers tester.new) report.state report.table) }
-    ensures places { IfOk result (λ report. All (IsEntryWithin (length search.entry.history.now.parents)) report.entries.items) }
-    ensures end { IfOk result (λ report. IsEndingWithin (length search.entry.history.now.parents) report.ending) }
-    ensures fault { IfOk result (HasFault (T.faults tester.old) (T.faults tester.new) (T.failed tester.new)) }
+    ensures run { IfOk result (IsRunOfLeg search.entry standing) }
+    ensures leads_on { IfOk result (LegLeads T.Tester tester.old tester.new search.entry standing) }
+    ensures ready { IfOk result (LeavesReady T.Tester tester.old tester.new search.entry) }
+    ensures places { IfOk result (HasEntriesWithin search.entry.history.now.parents) }
+    ensures end { IfOk result (HasEndingWithin search.entry.history.now.parents) }
+    ensures fault { IfOk result (HasFaultBy T.Tester tester.old tester.new) }
     ensures later { T.faults tester.old ≤ T.faults tester.new }
-    ensures manner { manner_by T.told T.command T.is_lenient T.grounds T.recalled tester.new ≡ manner_by T.told T.command T.is_lenient T.grounds T.recalled tester.old }
+    ensures manner { KeepsManner T.Tester tester.old tester.new }
     ensures is_split { T.is_split tester.new ≡ false }
 {
     // What the lengths tell is needed: the graph is sorted, and the places of the search are places of it.

@@ -39,7 +39,8 @@ pub record IsCandidate (graph : List (List ℕ)) (bad : ℕ) (goods : List ℕ) 
   pub reached : Reaches (in_mode graph first_parent) bad p
   pub not_good : SomeReaches graph goods p → ⊥
 
-pub IsCandidate-from_test : (graph : List (List ℕ)) (bad : ℕ) (goods : List ℕ) (first_parent : Bool) (p : ℕ) → IsGraph graph → is_candidate graph bad goods first_parent p ≡ true → IsCandidate graph bad goods first_parent p
+pub IsCandidate-from_test : (graph : List (List ℕ)) (bad : ℕ) (goods : List ℕ) (first_parent : Bool) (p : ℕ) → IsGraph graph
+    → is_candidate graph bad goods first_parent p ≡ true → IsCandidate graph bad goods first_parent p
 unfolding is_candidate
 IsCandidate-from_test graph bad goods first_parent p g h =
     let both = and_parts (reaches (in_mode graph first_parent) bad p) (not (any_reaches graph goods p)) h in
@@ -48,30 +49,39 @@ IsCandidate-from_test graph bad goods first_parent p g h =
       not_good = λ s. both_ways _ (not-true _ both.1) (any_reaches-true graph goods p g s);
     }
 
-pub is_candidate-true : (graph : List (List ℕ)) (bad : ℕ) (goods : List ℕ) (first_parent : Bool) (p : ℕ) → IsGraph graph → IsCandidate graph bad goods first_parent p → is_candidate graph bad goods first_parent p ≡ true
+pub is_candidate-true : (graph : List (List ℕ)) (bad : ℕ) (goods : List ℕ) (first_parent : Bool) (p : ℕ) → IsGraph graph
+    → IsCandidate graph bad goods first_parent p → is_candidate graph bad goods first_parent p ≡ true
 unfolding is_candidate
 is_candidate-true graph bad goods first_parent p g h =
     and_from _ _ (reaches-true (in_mode graph first_parent) bad p (IsGraph-in_mode graph first_parent g) h.reached)
     (not_from_false _ (false_from_ne_true _ (λ e. h.not_good (SomeReaches-from_test graph goods p e))))
 
-pub is_candidate_decides : (graph : List (List ℕ)) (bad : ℕ) (goods : List ℕ) (first_parent : Bool) (p : ℕ) → IsGraph graph → Decides (is_candidate graph bad goods first_parent p) (IsCandidate graph bad goods first_parent p)
-is_candidate_decides graph bad goods first_parent p g = (IsCandidate-from_test graph bad goods first_parent p g, is_candidate-true graph bad goods first_parent p g)
+pub is_candidate_decides : (graph : List (List ℕ)) (bad : ℕ) (goods : List ℕ) (first_parent : Bool) (p : ℕ) → IsGraph graph
+    → Decides (is_candidate graph bad goods first_parent p) (IsCandidate graph bad goods first_parent p)
+is_candidate_decides graph bad goods first_parent p g =
+    (IsCandidate-from_test graph bad goods first_parent p g, is_candidate-true graph bad goods first_parent p g)
 
 -- A place on the way from one candidate to another in the mode is a candidate.
-pub IsCandidate-between : (graph : List (List ℕ)) (bad : ℕ) (goods : List ℕ) (first_parent : Bool) (p r q : ℕ) → IsCandidate graph bad goods first_parent p → IsCandidate graph bad goods first_parent q → Reaches (in_mode graph first_parent) p r → Reaches (in_mode graph first_parent) r q → IsCandidate graph bad goods first_parent r
+pub IsCandidate-between : (graph : List (List ℕ)) (bad : ℕ) (goods : List ℕ) (first_parent : Bool) (p r q : ℕ) → IsCandidate graph bad goods first_parent p
+    → IsCandidate graph bad goods first_parent q → Reaches (in_mode graph first_parent) p r → Reaches (in_mode graph first_parent) r q
+    → IsCandidate graph bad goods first_parent r
 IsCandidate-between graph bad goods first_parent p r q above below down on = record {
   reached = Reaches-trans above.reached down;
   not_good = λ s. below.not_good (record { source = s.source; among = s.among; leads = Reaches-trans s.leads (Reaches-in_mode graph first_parent r q on) });
 }
 
 -- so a path in the mode between two candidates has candidates alone
-pub path_of_candidates : (graph : List (List ℕ)) (bad : ℕ) (goods : List ℕ) (first_parent : Bool) (p : ℕ) (path : List ℕ) (q : ℕ) → IsCandidate graph bad goods first_parent p → IsCandidate graph bad goods first_parent q → IsPath (in_mode graph first_parent) p path q → (k : ℕ) → k < length path → IsCandidate graph bad goods first_parent (get_or path k 0)
+pub path_of_candidates : (graph : List (List ℕ)) (bad : ℕ) (goods : List ℕ) (first_parent : Bool) (p : ℕ) (path : List ℕ) (q : ℕ)
+    → IsCandidate graph bad goods first_parent p → IsCandidate graph bad goods first_parent q → IsPath (in_mode graph first_parent) p path q → (k : ℕ)
+    → k < length path → IsCandidate graph bad goods first_parent (get_or path k 0)
 path_of_candidates graph bad goods first_parent p [] q above below h k l = absurd (omega arith)
 path_of_candidates graph bad goods first_parent p (next ∷ path) q above below h zero l =
-    IsCandidate-between graph bad goods first_parent p next q above below (record { path = next ∷ []; leads = (h.0, refl) }) (record { path = path; leads = h.1 })
+    IsCandidate-between graph bad goods first_parent p next q above below (record { path = next ∷ []; leads = (h.0, refl) })
+    (record { path = path; leads = h.1 })
 path_of_candidates graph bad goods first_parent p (next ∷ path) q above below h (suc k) l =
     path_of_candidates graph bad goods first_parent next path q
-    (IsCandidate-between graph bad goods first_parent p next q above below (record { path = next ∷ []; leads = (h.0, refl) }) (record { path = path; leads = h.1 }))
+    (IsCandidate-between graph bad goods first_parent p next q above below (record { path = next ∷ []; leads = (h.0, refl) })
+    (record { path = path; leads = h.1 }))
     below h.1 k (omega arith)
 
 -- ---- rows
@@ -92,22 +102,27 @@ pub is_in-reach_row_of : (graph : List (List ℕ)) (from : List ℕ) (q : ℕ) �
 unfolding reach_row_of
 is_in-reach_row_of graph from q h = get_or-map-range_with_len (λ q. any_reaches graph from q) 0 (length graph) q q false h (omega arith)
 
-pub length-candidate_row : (graph : List (List ℕ)) (bad : ℕ) (goods : List ℕ) (first_parent : Bool) → length (candidate_row graph bad goods first_parent) ≡ length graph
+pub length-candidate_row : (graph : List (List ℕ)) (bad : ℕ) (goods : List ℕ) (first_parent : Bool)
+    → length (candidate_row graph bad goods first_parent) ≡ length graph
 unfolding candidate_row
 length-candidate_row graph bad goods first_parent = length-map-range_with_len (λ p. is_candidate graph bad goods first_parent p) 0 (length graph)
 
-pub is_in-candidate_row : (graph : List (List ℕ)) (bad : ℕ) (goods : List ℕ) (first_parent : Bool) (p : ℕ) → p < length graph → is_in (candidate_row graph bad goods first_parent) p ≡ is_candidate graph bad goods first_parent p
+pub is_in-candidate_row : (graph : List (List ℕ)) (bad : ℕ) (goods : List ℕ) (first_parent : Bool) (p : ℕ) → p < length graph
+    → is_in (candidate_row graph bad goods first_parent) p ≡ is_candidate graph bad goods first_parent p
 unfolding candidate_row
-is_in-candidate_row graph bad goods first_parent p h = get_or-map-range_with_len (λ p. is_candidate graph bad goods first_parent p) 0 (length graph) p p false h (omega arith)
+is_in-candidate_row graph bad goods first_parent p h = get_or-map-range_with_len (λ p. is_candidate graph bad goods first_parent p) 0 (length graph) p p false h
+    (omega arith)
 
 filter_agree_on : (f g : ℕ → Bool) (a n : ℕ) → ((k : ℕ) → a ≤ k → k < a + n → f k ≡ g k) → filter f (range_with_len a n) ≡ filter g (range_with_len a n)
 filter_agree_on f g a zero h = refl
 filter_agree_on f g a (suc n) h =
-    let rest : filter f (range_with_len (a + 1) n) ≡ filter g (range_with_len (a + 1) n) = filter_agree_on f g (a + 1) n (λ k l m. h k (omega arith) (omega arith)) in
+    let rest : filter f (range_with_len (a + 1) n) ≡ filter g (range_with_len (a + 1) n) = filter_agree_on f g (a + 1) n
+    (λ k l m. h k (omega arith) (omega arith)) in
     rw (h a (omega arith) (omega arith), rest)
 
 -- the candidates are the places of their row
-pub places_of-candidate_row : (graph : List (List ℕ)) (bad : ℕ) (goods : List ℕ) (first_parent : Bool) → places_of (candidate_row graph bad goods first_parent) ≡ candidates graph bad goods first_parent
+pub places_of-candidate_row : (graph : List (List ℕ)) (bad : ℕ) (goods : List ℕ) (first_parent : Bool)
+    → places_of (candidate_row graph bad goods first_parent) ≡ candidates graph bad goods first_parent
 unfolding candidates
 places_of-candidate_row graph bad goods first_parent =
     rw (length-candidate_row graph bad goods first_parent)

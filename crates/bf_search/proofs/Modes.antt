@@ -31,11 +31,13 @@ Contains-take xs n x h =
     (h.0, omega arith, sym (get_or-take n xs h.0 x (omega arith)) ∙ h.2)
 
 -- a parent in a mode is a parent
-pub parent-in_mode : (graph : List (List ℕ)) (first_parent : Bool) (p q : ℕ) → Contains (parents_of (in_mode graph first_parent) p) q → Contains (parents_of graph p) q
+pub parent-in_mode : (graph : List (List ℕ)) (first_parent : Bool) (p q : ℕ) → Contains (parents_of (in_mode graph first_parent) p) q
+    → Contains (parents_of graph p) q
 parent-in_mode graph true p q h = Contains-take (parents_of graph p) 1 q (subst (λ (xs : List ℕ). Contains xs q) (parents_of-in_mode graph p) h)
 parent-in_mode graph false p q h = h
 
-IsPath-in_mode : (graph : List (List ℕ)) (first_parent : Bool) (p : ℕ) (path : List ℕ) (q : ℕ) → IsPath (in_mode graph first_parent) p path q → IsPath graph p path q
+IsPath-in_mode : (graph : List (List ℕ)) (first_parent : Bool) (p : ℕ) (path : List ℕ) (q : ℕ) → IsPath (in_mode graph first_parent) p path q
+    → IsPath graph p path q
 IsPath-in_mode graph first_parent p [] q h = h
 IsPath-in_mode graph first_parent p (next ∷ path) q h = (parent-in_mode graph first_parent p next h.0, IsPath-in_mode graph first_parent next path q h.1)
 

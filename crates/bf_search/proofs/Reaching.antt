@@ -1,6 +1,7 @@
 -- Lemmas on reach that every crate above needs: paths are joined, places that are reached are not later, and the test
 -- says whether there is a path.
-use Rattle.std.proofs.Common.{◌≡◌, ℕ, zero, suc, ◌+◌, ◌<◌, ◌≤◌, true, ◌==◌, List, [], ◌∷◌, ◌++◌, length, refl, sym, subst, inl, inr, ⊎_elim, ◌⊎◌, arith, eqb-true, eq-eqb}
+use Rattle.std.proofs.Common.{◌≡◌, ℕ, zero, suc, ◌+◌, ◌<◌, ◌≤◌, true, ◌==◌, List, [], ◌∷◌, ◌++◌, length, refl, sym, subst, inl, inr, ⊎_elim, ◌⊎◌, arith}
+use Rattle.std.proofs.Common.{eqb-true, eq-eqb}
 use Rattle.std.proofs.lemmas.Bool.{or_cases, or_left, or_right}
 use Rattle.std.proofs.lemmas.List.Elements.{All-contains}
 use Rattle.std.proofs.lemmas.List.Folds.{Any-from_list_any, list_any-from_Any}
@@ -11,7 +12,8 @@ use Rattle.bf_search.specs.Reach.{IsPath, Reaches, reaches_within, reaches}
 
 -- ---- paths
 
-pub IsPath-append : (graph : List (List ℕ)) (p : ℕ) (path : List ℕ) (r : ℕ) (more : List ℕ) (q : ℕ) → IsPath graph p path r → IsPath graph r more q → IsPath graph p (path ++ more) q
+pub IsPath-append : (graph : List (List ℕ)) (p : ℕ) (path : List ℕ) (r : ℕ) (more : List ℕ) (q : ℕ) → IsPath graph p path r → IsPath graph r more q
+    → IsPath graph p (path ++ more) q
 IsPath-append graph p [] r more q h k = subst (λ (x : ℕ). IsPath graph x more q) (sym h) k
 IsPath-append graph p (next ∷ path) r more q h k = (h.0, IsPath-append graph next path r more q h.1 k)
 
@@ -83,7 +85,8 @@ pub last_step : {graph : List (List ℕ)} {p q : ℕ} → Reaches graph p q → 
 last_step {graph} {p} {q} h = last_step_of graph p h.path q h.leads
 
 -- a set of places that is closed under parents has all that its members reach
-pub closed_under_reach : (graph : List (List ℕ)) (S : ℕ → Type 0) → ((p r : ℕ) → S p → Contains (parents_of graph p) r → S r) → (p : ℕ) (path : List ℕ) (q : ℕ) → IsPath graph p path q → S p → S q
+pub closed_under_reach : (graph : List (List ℕ)) (S : ℕ → Type 0) → ((p r : ℕ) → S p → Contains (parents_of graph p) r → S r) → (p : ℕ) (path : List ℕ) (q : ℕ)
+    → IsPath graph p path q → S p → S q
 closed_under_reach graph S closed p [] q h s = subst S h s
 closed_under_reach graph S closed p (next ∷ path) q h s = closed_under_reach graph S closed next path q h.1 (closed p next s h.0)
 
@@ -96,13 +99,15 @@ within_tells graph (suc steps) p q h =
     ⊎_elim
     (λ e. Reaches-same graph p q (eqb-true p q e))
     (λ a.
-    let found : Any (λ parent. reaches_within steps graph parent q ≡ true) (parents_of graph p) = Any-from_list_any (λ parent. reaches_within steps graph parent q) (parents_of graph p) a in
+    let found : Any (λ parent. reaches_within steps graph parent q ≡ true) (parents_of graph p) = Any-from_list_any
+    (λ parent. reaches_within steps graph parent q) (parents_of graph p) a in
     let parent : ℕ = found.1 in
     let step : Contains (parents_of graph p) parent = (found.0, found.2, found.3) in
     Reaches-front step (within_tells graph steps parent q found.4))
     (or_cases (p == q) (list_any (λ parent. reaches_within steps graph parent q) (parents_of graph p)) h)
 
-within_from_path : (graph : List (List ℕ)) (steps p : ℕ) (path : List ℕ) (q : ℕ) → IsPath graph p path q → length path ≤ steps → reaches_within steps graph p q ≡ true
+within_from_path : (graph : List (List ℕ)) (steps p : ℕ) (path : List ℕ) (q : ℕ) → IsPath graph p path q → length path ≤ steps
+    → reaches_within steps graph p q ≡ true
 unfolding reaches_within
 within_from_path graph zero p [] q h l = eq-eqb p q h
 within_from_path graph zero p (next ∷ path) q h l = absurd (omega arith)

@@ -13,6 +13,7 @@ is_in-set row p q h = ⊎_elim (λ e. inr (sym e)) (λ n. inl (sym (get_or-set_o
 pub set-kept : (row : List Bool) (p q : ℕ) → is_in row q ≡ true → is_in (set row p true) q ≡ true
 set-kept row p q h =
     ⊎_elim
-    (λ e. subst (λ (x : ℕ). is_in (set row p true) x ≡ true) (sym e) (get_or-set_same row p true false (subst (λ (x : ℕ). x < length row) e (is_in-lt row q h))))
+    (λ e. subst (λ (x : ℕ). is_in (set row p true) x ≡ true) (sym e)
+    (get_or-set_same row p true false (subst (λ (x : ℕ). x < length row) e (is_in-lt row q h))))
     (λ n. get_or-set_other row p q true false n ∙ h)
     (cases_eq q p)

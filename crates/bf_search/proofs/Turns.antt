@@ -1,6 +1,8 @@
 -- The turns of a run are never spent: no place is asked twice, so a run goes on turn by turn.
-use Rattle.std.proofs.Common.{◌≡◌, ℕ, zero, suc, ◌+◌, ◌<◌, ◌≤◌, Bool, true, false, not, ◌&&◌, ◌||◌, ◌==◌, cond, List, [], ◌∷◌, ◌++◌, length, set, map, Option, Some, None, refl, ap, sym, ◌∙◌, subst, ⊎_elim, arith, eqb-true, eq-eqb, zero-add}
-use Rattle.std.proofs.lemmas.Bool.{and_parts, and_from, or_parts, not-true, not_from_false, false_from_ne_true, both_ways, cases_Bool, cond-true, cond-false, ne_eqb}
+use Rattle.std.proofs.Common.{◌≡◌, ℕ, zero, suc, ◌+◌, ◌<◌, ◌≤◌, Bool, true, false, not, ◌&&◌, ◌||◌, ◌==◌, cond, List, [], ◌∷◌, ◌++◌, length, set, map, Option}
+use Rattle.std.proofs.Common.{Some, None, refl, ap, sym, ◌∙◌, subst, ⊎_elim, arith, eqb-true, eq-eqb, zero-add}
+use Rattle.std.proofs.lemmas.Bool.{and_parts, and_from, or_parts, not-true, not_from_false, false_from_ne_true, both_ways, cases_Bool, cond-true, cond-false}
+use Rattle.std.proofs.lemmas.Bool.{ne_eqb}
 use Rattle.std.proofs.lemmas.List.{length-set, get_or-set_same}
 use Rattle.std.proofs.lemmas.List.Elements.{All-contains, All-filter, All-push, filter_passes}
 use Rattle.std.proofs.lemmas.List.Folds.{Any-from_list_any, list_any-from_Any, list_any-append}
@@ -23,7 +25,8 @@ use Rattle.bf_search.specs.Candidates.{is_in, candidates, candidate_row}
 use Rattle.bf_search.specs.Choice.{is_eligible, eligible, best}
 use Rattle.bf_search.specs.Bases.{has_place, common_places, merge_bases, reaches_all, check_open, check_bases, check}
 use Rattle.bf_search.specs.Outcomes.{Outcomes, verdict_of}
-use Rattle.bf_search.specs.State.{Search, IsSearchOver, Asked, with_test, without_test, ask_best, ask_among, best_of, ask_candidates, ask_checked, ask_ends, ask, mark}
+use Rattle.bf_search.specs.State.{Search, IsSearchOver, Asked, with_test, without_test, ask_best, ask_among, best_of, ask_candidates, ask_checked, ask_ends}
+use Rattle.bf_search.specs.State.{ask, mark}
 use Rattle.bf_search.specs.LeftToAsk.{is_below, may_ask, left_to_ask}
 use Rattle.bf_search.specs.Run.{Run, with_entries, with_used, marked_one, after_verdict, after_look, after_step, turn, run_within, run}
 use Rattle.bf_search.proofs.Reaching.{Reaches-from_test, reaches-true, Reaches-refl, Reaches-trans, Reaches-le}
@@ -67,7 +70,8 @@ count_le f g (x ∷ xs) h =
     (cases_Bool (f x))
 
 -- and more often where it passes at some place and the other test fails there
-pub count_lt : (f g : ℕ → Bool) (xs : List ℕ) (p : ℕ) → ((q : ℕ) → f q ≡ true → g q ≡ true) → Contains xs p → f p ≡ false → g p ≡ true → count_by f xs < count_by g xs
+pub count_lt : (f g : ℕ → Bool) (xs : List ℕ) (p : ℕ) → ((q : ℕ) → f q ≡ true → g q ≡ true) → Contains xs p → f p ≡ false → g p ≡ true
+    → count_by f xs < count_by g xs
 count_lt f g [] p h c fp gp = absurd (omega (arith, c.1))
 count_lt f g (x ∷ xs) p h (zero, l, e) fp gp =
     omega (arith, count_as f x xs false (ap f e ∙ fp), count_as g x xs true (ap g e ∙ gp), count_le f g xs h)
@@ -116,7 +120,8 @@ best_tells graph s bad p g bad_is h = record {
     found = (find_tells _ (eligible mask bad s.skips) p h).0
 
     passes : is_eligible mask bad s.skips p ≡ true
-    passes = All-contains (λ q. is_eligible mask bad s.skips q ≡ true) (eligible mask bad s.skips) p (filter_passes (λ q. is_eligible mask bad s.skips q) (range_with_len 0 (length mask))) found
+    passes = All-contains (λ q. is_eligible mask bad s.skips q ≡ true) (eligible mask bad s.skips) p
+        (filter_passes (λ q. is_eligible mask bad s.skips q) (range_with_len 0 (length mask))) found
 
     parts : ((is_in mask p && not (p == bad)) ≡ true) × (not (is_in s.skips p) ≡ true)
     parts = and_parts (is_in mask p && not (p == bad)) (not (is_in s.skips p)) passes
@@ -125,7 +130,8 @@ best_tells graph s bad p g bad_is h = record {
     first = and_parts (is_in mask p) (not (p == bad)) parts.0
 
     short : p < length mask
-    short = All-contains (λ q. q < length mask) (eligible mask bad s.skips) p (All-filter (λ q. is_eligible mask bad s.skips q) (λ q. q < length mask) (range_with_len 0 (length mask)) (range_within (length mask))) found
+    short = All-contains (λ q. q < length mask) (eligible mask bad s.skips) p
+        (All-filter (λ q. is_eligible mask bad s.skips q) (λ q. q < length mask) (range_with_len 0 (length mask)) (range_within (length mask))) found
 
     place : p < length graph
     place = omega (arith, short, length-candidate_row graph bad s.goods s.first_parent)
@@ -137,14 +143,20 @@ best_tells graph s bad p g bad_is h = record {
     good_reaches k =
         let found_good : Any (λ q. (q == p) ≡ true) s.goods = Any-from_list_any (λ q. q == p) s.goods k in
         let same : found_good.1 ≡ p = eqb-true found_good.1 p found_good.4 in
-        record { source = found_good.1; among = (found_good.0, found_good.2, found_good.3); leads = subst (λ (x : ℕ). Reaches graph found_good.1 x) same (Reaches-refl graph found_good.1) }
+        record {
+          source = found_good.1;
+          among = (found_good.0, found_good.2, found_good.3);
+          leads = subst (λ (x : ℕ). Reaches graph found_good.1 x) same
+              (Reaches-refl graph found_good.1);
+        }
 
 -- the check asks for a merge base alone
 check_open_tells : (o : Option ℕ) (bases goods : List ℕ) (skips : List Bool) (p : ℕ) → check_open o bases goods skips ≡ TestBase p → o ≡ Some p
 check_open_tells None bases goods skips p h = cc
 check_open_tells (Some q) bases goods skips p h = cc
 
-pub common_tell : (graph : List (List ℕ)) (bad : ℕ) (goods : List ℕ) (p : ℕ) → Contains (merge_bases graph bad goods) p → (p < length graph) × Reaches graph bad p
+pub common_tell : (graph : List (List ℕ)) (bad : ℕ) (goods : List ℕ) (p : ℕ) → Contains (merge_bases graph bad goods) p
+    → (p < length graph) × Reaches graph bad p
 unfolding merge_bases common_places
 common_tell graph bad goods p h = (
   All-contains (λ q. q < length graph) (merge_bases graph bad goods) p
@@ -182,14 +194,16 @@ check_tells graph s bad p bad_is h =
     ⊎_elim
     (λ yes. let clash : Passed [] ≡ TestBase p = sym (cond-true (reaches_all graph bad s.goods) (Passed []) _ yes) ∙ h in cc)
     (λ not_all.
-    let facts = check_bases_tells (merge_bases graph bad s.goods) bad s.goods s.skips p (sym (cond-false (reaches_all graph bad s.goods) (Passed []) _ not_all) ∙ h) in
+    let facts = check_bases_tells (merge_bases graph bad s.goods) bad s.goods s.skips p
+    (sym (cond-false (reaches_all graph bad s.goods) (Passed []) _ not_all) ∙ h) in
     let where_ = common_tell graph bad s.goods p facts.1 in
     record {
       bad = bad;
       bad_is = bad_is;
       within = where_.0;
       reached = where_.1;
-      not_bad = λ e. both_ways (has_place (merge_bases graph bad s.goods) bad) facts.0 (has_place-true (merge_bases graph bad s.goods) bad (subst (λ (x : ℕ). Contains (merge_bases graph bad s.goods) x) e facts.1));
+      not_bad = λ e. both_ways (has_place (merge_bases graph bad s.goods) bad) facts.0
+          (has_place-true (merge_bases graph bad s.goods) bad (subst (λ (x : ℕ). Contains (merge_bases graph bad s.goods) x) e facts.1));
       not_good = facts.2;
       not_skipped = facts.3;
     })
@@ -207,28 +221,40 @@ IfAsks graph s asked = (p : ℕ) → asked.step.ask ≡ Test p → Asking graph 
 test_is : (graph : List (List ℕ)) (s : Search) (warned : List ℕ) (p q : ℕ) → AsksFor graph s p → Test p ≡ Test q → Asking graph s (with_test s warned p) q
 test_is graph s warned p q a e =
     let same : p ≡ q = cc in
-    record { asks_for = subst (λ (x : ℕ). AsksFor graph s x) same a; same = record { first_parent = refl; bad = refl; goods = refl; skips = refl }; expected = ap (λ (x : ℕ). Some x) same }
+    record {
+      asks_for = subst (λ (x : ℕ). AsksFor graph s x) same a;
+      same = record { first_parent = refl; bad = refl; goods = refl; skips = refl };
+      expected =
+          ap (λ (x : ℕ). Some x) same;
+    }
 
-best_asks : (graph : List (List ℕ)) (s : Search) (warned ps : List ℕ) (chosen : Option ℕ) → ((p : ℕ) → chosen ≡ Some p → AsksFor graph s p) → IfAsks graph s (ask_best s warned ps chosen)
+best_asks : (graph : List (List ℕ)) (s : Search) (warned ps : List ℕ) (chosen : Option ℕ) → ((p : ℕ) → chosen ≡ Some p → AsksFor graph s p)
+    → IfAsks graph s (ask_best s warned ps chosen)
 best_asks graph s warned ps (Some p) a = λ q e. test_is graph s warned p q (a p refl) e
 best_asks graph s warned ps None a = λ q e. cc
 
-one_asks : (b : Bool) (graph : List (List ℕ)) (s : Search) (bad : ℕ) (warned ps : List ℕ) (chosen : Option ℕ) → ((p : ℕ) → chosen ≡ Some p → AsksFor graph s p) → IfAsks graph s (cond b (without_test s warned (FirstBad bad)) (ask_best s warned ps chosen))
+one_asks : (b : Bool) (graph : List (List ℕ)) (s : Search) (bad : ℕ) (warned ps : List ℕ) (chosen : Option ℕ) → ((p : ℕ) → chosen ≡ Some p → AsksFor graph s p)
+    → IfAsks graph s (cond b (without_test s warned (FirstBad bad)) (ask_best s warned ps chosen))
 one_asks true graph s bad warned ps chosen a = λ q e. cc
 one_asks false graph s bad warned ps chosen a = best_asks graph s warned ps chosen a
 
-among_asks : (graph : List (List ℕ)) (s : Search) (bad : ℕ) (warned ps : List ℕ) (chosen : Option ℕ) → ((p : ℕ) → chosen ≡ Some p → AsksFor graph s p) → IfAsks graph s (ask_among s bad warned ps chosen)
+among_asks : (graph : List (List ℕ)) (s : Search) (bad : ℕ) (warned ps : List ℕ) (chosen : Option ℕ) → ((p : ℕ) → chosen ≡ Some p → AsksFor graph s p)
+    → IfAsks graph s (ask_among s bad warned ps chosen)
 among_asks graph s bad warned [] chosen a = λ q e. cc
 among_asks graph s bad warned (p ∷ []) chosen a = one_asks (p == bad) graph s bad warned (p ∷ []) chosen a
 among_asks graph s bad warned (p ∷ q ∷ ps) chosen a = best_asks graph s warned (p ∷ q ∷ ps) chosen a
 
-candidates_ask : (graph : List (List ℕ)) (s : Search) (bad : ℕ) (warned : List ℕ) → IsGraph graph → s.bad ≡ Some bad → IfAsks graph s (ask_candidates graph s bad warned)
-candidates_ask graph s bad warned g bad_is = among_asks graph s bad warned (candidates graph bad s.goods s.first_parent) (best_of graph s bad) (λ p h. best_tells graph s bad p g bad_is h)
+candidates_ask : (graph : List (List ℕ)) (s : Search) (bad : ℕ) (warned : List ℕ) → IsGraph graph → s.bad ≡ Some bad
+    → IfAsks graph s (ask_candidates graph s bad warned)
+candidates_ask graph s bad warned g bad_is = among_asks graph s bad warned (candidates graph bad s.goods s.first_parent) (best_of graph s bad)
+    (λ p h. best_tells graph s bad p g bad_is h)
 
 -- a state of which only the check is now known to have passed
-passed_ask : (graph : List (List ℕ)) (s : Search) (bad : ℕ) (warned : List ℕ) → IsGraph graph → s.bad ≡ Some bad → IfAsks graph s (ask_candidates graph (record s { checked = true }) bad warned)
+passed_ask : (graph : List (List ℕ)) (s : Search) (bad : ℕ) (warned : List ℕ) → IsGraph graph → s.bad ≡ Some bad
+    → IfAsks graph s (ask_candidates graph (record s { checked = true }) bad warned)
 passed_ask graph s bad warned g bad_is = λ p h.
-    let a : Asking graph (record s { checked = true }) (ask_candidates graph (record s { checked = true }) bad warned) p = candidates_ask graph (record s { checked = true }) bad warned g bad_is p h in
+    let a : Asking graph (record s { checked = true }) (ask_candidates graph (record s { checked = true }) bad warned) p = candidates_ask graph
+    (record s { checked = true }) bad warned g bad_is p h in
     record {
       asks_for = record {
         bad = a.asks_for.bad;
@@ -243,7 +269,8 @@ passed_ask graph s bad warned g bad_is = λ p h.
       expected = a.expected;
     }
 
-checked_asks : (graph : List (List ℕ)) (s : Search) (bad : ℕ) (c : Check) → IsGraph graph → s.bad ≡ Some bad → ((p : ℕ) → c ≡ TestBase p → AsksFor graph s p) → IfAsks graph s (ask_checked graph s bad c)
+checked_asks : (graph : List (List ℕ)) (s : Search) (bad : ℕ) (c : Check) → IsGraph graph → s.bad ≡ Some bad → ((p : ℕ) → c ≡ TestBase p → AsksFor graph s p)
+    → IfAsks graph s (ask_checked graph s bad c)
 checked_asks graph s bad (TestBase p) g bad_is a = λ q e. test_is graph s [] p q (a p refl) e
 checked_asks graph s bad (BaseIsBad p) g bad_is a = λ q e. ask_of_bad s.bad_asked q e
   where
@@ -252,7 +279,8 @@ checked_asks graph s bad (BaseIsBad p) g bad_is a = λ q e. ask_of_bad s.bad_ask
     ask_of_bad false q e = cc
 checked_asks graph s bad (Passed warned) g bad_is a = passed_ask graph s bad warned g bad_is
 
-known_asks : (b : Bool) (graph : List (List ℕ)) (s : Search) (bad : ℕ) → IsGraph graph → s.bad ≡ Some bad → IfAsks graph s (cond b (ask_candidates graph s bad []) (ask_checked graph s bad (check graph bad s.goods s.skips)))
+known_asks : (b : Bool) (graph : List (List ℕ)) (s : Search) (bad : ℕ) → IsGraph graph → s.bad ≡ Some bad
+    → IfAsks graph s (cond b (ask_candidates graph s bad []) (ask_checked graph s bad (check graph bad s.goods s.skips)))
 known_asks true graph s bad g bad_is = candidates_ask graph s bad [] g bad_is
 known_asks false graph s bad g bad_is = checked_asks graph s bad (check graph bad s.goods s.skips) g bad_is (λ p h. check_tells graph s bad p bad_is h)
 
@@ -286,7 +314,8 @@ may_ask_from graph s q m = and_from _ _ (and_from _ _ m.below (not_from_false _ 
 
 pub may_ask_asked : (graph : List (List ℕ)) (s : Search) (p : ℕ) → IsGraph graph → AsksFor graph s p → may_ask graph s p ≡ true
 may_ask_asked graph s p g a = may_ask_from graph s p (record {
-  below = subst (λ (b : Option ℕ). is_below graph b p ≡ true) (sym a.bad_is) (and_from _ _ (reaches-true graph a.bad p g a.reached) (not_from_false _ (ne_eqb p a.bad a.not_bad)));
+  below = subst (λ (b : Option ℕ). is_below graph b p ≡ true) (sym a.bad_is)
+      (and_from _ _ (reaches-true graph a.bad p g a.reached) (not_from_false _ (ne_eqb p a.bad a.not_bad)));
   not_good = a.not_good;
   not_skipped = a.not_skipped;
 })
@@ -298,12 +327,14 @@ has_place-push ps p q h =
     (parts.0, λ e. both_ways ((p == q) || false) parts.1 (rw (eq-eqb p q e) refl))
 
 -- after a mark of the asked place no place may be asked that might not before, and that place no more
-pub shrinks : (graph : List (List ℕ)) (s t : Search) (m : Mark) (p q : ℕ) → IsGraph graph → AsksFor graph s p → SameMarks s t → p < length s.skips → may_ask graph (mark t m p) q ≡ true → MayAsk graph s q × (p ≡ q → ⊥)
+pub shrinks : (graph : List (List ℕ)) (s t : Search) (m : Mark) (p q : ℕ) → IsGraph graph → AsksFor graph s p → SameMarks s t → p < length s.skips
+    → may_ask graph (mark t m p) q ≡ true → MayAsk graph s q × (p ≡ q → ⊥)
 unfolding mark
 shrinks graph s t Good p q g a same room h =
     let now : MayAsk graph (mark t Good p) q = may_ask_parts graph (mark t Good p) q h in
     let fresh : has_place t.goods p ≡ false = rw same.goods a.not_good in
-    let goods_are : cond (has_place t.goods p) t.goods (t.goods ++ p ∷ []) ≡ t.goods ++ p ∷ [] = cond-false (has_place t.goods p) t.goods (t.goods ++ p ∷ []) fresh in
+    let goods_are : cond (has_place t.goods p) t.goods (t.goods ++ p ∷ []) ≡ t.goods ++ p ∷ [] = cond-false (has_place t.goods p) t.goods (t.goods ++ p ∷ [])
+    fresh in
     let parts = has_place-push t.goods p q (subst (λ (gs : List ℕ). has_place gs q ≡ false) goods_are now.not_good) in (
       record {
         below = subst (λ (b : Option ℕ). is_below graph b q ≡ true) same.bad now.below;
@@ -339,7 +370,8 @@ shrinks graph s t Skip p q g a same room h =
     )
 
 -- A mark of the asked place leaves fewer places to ask.
-pub left_to_ask-falls : (graph : List (List ℕ)) (s : Search) (m : Mark) (p : ℕ) → IsGraph graph → IsSearchOver graph s → (ask graph s).step.ask ≡ Test p → left_to_ask graph (mark (ask graph s).search m p) < left_to_ask graph s
+pub left_to_ask-falls : (graph : List (List ℕ)) (s : Search) (m : Mark) (p : ℕ) → IsGraph graph → IsSearchOver graph s → (ask graph s).step.ask ≡ Test p
+    → left_to_ask graph (mark (ask graph s).search m p) < left_to_ask graph s
 left_to_ask-falls graph s m p g over h =
     count_lt (λ q. may_ask graph (mark t m p) q) (λ q. may_ask graph s q) (places graph) p
     (λ q k. may_ask_from graph s q (shrunk q k).0)
@@ -360,7 +392,8 @@ pub left_to_ask-le : (graph : List (List ℕ)) (s : Search) → left_to_ask grap
 left_to_ask-le graph s = omega (arith, count_by-le-length (λ q. may_ask graph s q) (places graph), length-range_with_len 0 (length graph))
 
 -- the places of a search stay places of the graph
-pub IsSearchOver-marked : (graph : List (List ℕ)) (s : Search) (m : Mark) (p : ℕ) → IsGraph graph → IsSearchOver graph s → (ask graph s).step.ask ≡ Test p → IsSearchOver graph (mark (ask graph s).search m p)
+pub IsSearchOver-marked : (graph : List (List ℕ)) (s : Search) (m : Mark) (p : ℕ) → IsGraph graph → IsSearchOver graph s → (ask graph s).step.ask ≡ Test p
+    → IsSearchOver graph (mark (ask graph s).search m p)
 unfolding mark
 IsSearchOver-marked graph s Good p g over h = record {
   bad = rw a.same.bad over.bad;
@@ -396,17 +429,20 @@ IsSearchOver-marked graph s Skip p g over h = record {
 
 -- ---- turns
 
-verdict_agrees : (go other : Option ℕ → Search → Run) (left : Option ℕ) (t : Search) (p : ℕ) (outcome : Outcome) (v : Verdict) → ((m : Mark) → go (marked_one left) (mark t m p) ≡ other (marked_one left) (mark t m p))
+verdict_agrees : (go other : Option ℕ → Search → Run) (left : Option ℕ) (t : Search) (p : ℕ) (outcome : Outcome) (v : Verdict)
+    → ((m : Mark) → go (marked_one left) (mark t m p) ≡ other (marked_one left) (mark t m p))
     → after_verdict go left t p outcome v ≡ after_verdict other left t p outcome v
 verdict_agrees go other left t p outcome Abort h = refl
 verdict_agrees go other left t p outcome (MarkOf m) h = ap (λ (r : Run). with_entries (Marked m p ∷ []) r) (h m)
 
-look_agrees : (known : Outcomes) (go other : Option ℕ → Search → Run) (left : Option ℕ) (t : Search) (p : ℕ) (o : Option Outcome) → ((m : Mark) → go (marked_one left) (mark t m p) ≡ other (marked_one left) (mark t m p))
+look_agrees : (known : Outcomes) (go other : Option ℕ → Search → Run) (left : Option ℕ) (t : Search) (p : ℕ) (o : Option Outcome)
+    → ((m : Mark) → go (marked_one left) (mark t m p) ≡ other (marked_one left) (mark t m p))
     → after_look known go left t p o ≡ after_look known other left t p o
 look_agrees known go other left t p None h = refl
 look_agrees known go other left t p (Some outcome) h = ap (λ (r : Run). with_used p outcome r) (verdict_agrees go other left t p outcome (verdict_of outcome) h)
 
-step_agrees : (known : Outcomes) (go other : Option ℕ → Search → Run) (left : Option ℕ) (t : Search) (a : Ask) → ((p : ℕ) (m : Mark) → a ≡ Test p → go (marked_one left) (mark t m p) ≡ other (marked_one left) (mark t m p))
+step_agrees : (known : Outcomes) (go other : Option ℕ → Search → Run) (left : Option ℕ) (t : Search) (a : Ask)
+    → ((p : ℕ) (m : Mark) → a ≡ Test p → go (marked_one left) (mark t m p) ≡ other (marked_one left) (mark t m p))
     → after_step known go left t a ≡ after_step known other left t a
 step_agrees known go other left t (Test p) h = look_agrees known go other left t p (known p) (λ m. h p m refl)
 step_agrees known go other left t (FirstBad p) h = refl
@@ -420,14 +456,18 @@ step_agrees known go other left t (BothSides p) h = refl
 
 -- A turn is the same for two ways to go on that agree at the marked state.
 pub turn_agrees : (graph : List (List ℕ)) (known : Outcomes) (go other : Option ℕ → Search → Run) (left : Option ℕ) (s : Search)
-    → ((p : ℕ) (m : Mark) → (ask graph s).step.ask ≡ Test p → go (marked_one left) (mark (ask graph s).search m p) ≡ other (marked_one left) (mark (ask graph s).search m p))
+    → ((p : ℕ) (m : Mark) → (ask graph s).step.ask ≡ Test p
+    → go (marked_one left) (mark (ask graph s).search m p) ≡ other (marked_one left) (mark (ask graph s).search m p))
     → turn graph known go left s ≡ turn graph known other left s
 turn_agrees graph known go other (Some zero) s h = refl
-turn_agrees graph known go other (Some (suc k)) s h = ap (λ (r : Run). with_entries (map (λ p. SkippedBase p) (ask graph s).step.warned) r) (step_agrees known go other (Some (suc k)) (ask graph s).search (ask graph s).step.ask h)
-turn_agrees graph known go other None s h = ap (λ (r : Run). with_entries (map (λ p. SkippedBase p) (ask graph s).step.warned) r) (step_agrees known go other None (ask graph s).search (ask graph s).step.ask h)
+turn_agrees graph known go other (Some (suc k)) s h = ap (λ (r : Run). with_entries (map (λ p. SkippedBase p) (ask graph s).step.warned) r)
+    (step_agrees known go other (Some (suc k)) (ask graph s).search (ask graph s).step.ask h)
+turn_agrees graph known go other None s h = ap (λ (r : Run). with_entries (map (λ p. SkippedBase p) (ask graph s).step.warned) r)
+    (step_agrees known go other None (ask graph s).search (ask graph s).step.ask h)
 
 -- with turns to spare their number plays no part
-steady : (graph : List (List ℕ)) (known : Outcomes) → IsGraph graph → (n m : ℕ) (left : Option ℕ) (s : Search) → IsSearchOver graph s → left_to_ask graph s < n → left_to_ask graph s < m → run_within n graph known left s ≡ run_within m graph known left s
+steady : (graph : List (List ℕ)) (known : Outcomes) → IsGraph graph → (n m : ℕ) (left : Option ℕ) (s : Search) → IsSearchOver graph s → left_to_ask graph s < n
+    → left_to_ask graph s < m → run_within n graph known left s ≡ run_within m graph known left s
 unfolding run_within
 steady graph known g zero m left s over a b = absurd (omega arith)
 steady graph known g (suc n) zero left s over a b = absurd (omega arith)
@@ -438,7 +478,8 @@ steady graph known g (suc n) (suc m) left s over a b =
     steady graph known g n m (marked_one left) (mark (ask graph s).search k p) (IsSearchOver-marked graph s k p g over h) (omega arith) (omega arith))
 
 -- A run goes on turn by turn: its turns are never spent.
-pub run-is : (graph : List (List ℕ)) (known : Outcomes) (left : Option ℕ) (s : Search) → IsGraph graph → IsSearchOver graph s → run graph known left s ≡ turn graph known (run graph known) left s
+pub run-is : (graph : List (List ℕ)) (known : Outcomes) (left : Option ℕ) (s : Search) → IsGraph graph → IsSearchOver graph s
+    → run graph known left s ≡ turn graph known (run graph known) left s
 unfolding run_within run
 run-is graph known left s g over =
     turn_agrees graph known (run_within (length graph) graph known) (run_within (suc (length graph)) graph known) left s

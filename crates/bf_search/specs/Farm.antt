@@ -10,7 +10,7 @@ use Rattle.bf_search.specs.declared.farm.Event.TheVariants.{Claim as Claimed, Po
 use Rattle.bf_search.specs.declared.outcomes.Outcome.{Outcome}
 use Rattle.bf_search.specs.Outcomes.{outcomes_of_table}
 use Rattle.bf_search.specs.State.{Search}
-use Rattle.bf_search.specs.Run.{End, Answered, Leg, Open, Aborted, Run, seq}
+use Rattle.bf_search.specs.Run.{End, Answered, Leg, Open, Aborted, Run, one_at_a_time}
 use Rattle.bf_search.specs.OpenPaths.{best_open, place_of}
 
 -- what never changes: the graph, the search that the farm started with, and the length of its legs
@@ -26,7 +26,7 @@ pub record Farm : Type 0 where
 
 -- the run on the outcomes that are known
 abbrev pub consumed : Setting → List (Option Outcome) → Run
-consumed setting table = seq setting.graph setting.start (outcomes_of_table table) setting.leg
+consumed setting table = one_at_a_time setting.graph setting.start (outcomes_of_table table) setting.leg
 
 -- where a run waits for an outcome, the place of the best open path from the search that it reached
 abbrev pub place_at : Setting → Farm → Run → End → Option ℕ

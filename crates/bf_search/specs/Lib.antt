@@ -9,3 +9,5 @@ pub mod LeftToAsk
 pub mod Guesses
 pub mod OpenPaths
 pub mod Farm
+pub mod Within
+pub mod Ends

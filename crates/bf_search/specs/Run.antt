@@ -82,5 +82,5 @@ unfoldable pub run : List (List ℕ) → Outcomes → Option ℕ → Search → 
 run graph known left s = run_within (suc (length graph)) graph known left s
 
 -- The run from a state with both ends, in legs of k marks or, where k is 0, to its end.
-abbrev pub seq : List (List ℕ) → Search → Outcomes → ℕ → Run
-seq graph s known k = run graph known (leg_of k) s
+abbrev pub one_at_a_time : List (List ℕ) → Search → Outcomes → ℕ → Run
+one_at_a_time graph s known k = run graph known (leg_of k) s

@@ -10,6 +10,10 @@ pub record ScriptedShelf : Type 0 where
   pub calls : ℕ  -- the loads so far
   pub faults : ℕ  -- the loads so far that failed
 
+-- a shelf with these files and these loads that fail, after so many loads and faults
+abbrev pub scripted_shelf : List ShelfFile → List ℕ → ℕ → ℕ → ScriptedShelf
+scripted_shelf files fails calls faults = record { files = files; fails = fails; calls = calls; faults = faults }
+
 -- whether the next load fails
 abbrev pub fails_next : ScriptedShelf → Bool
 fails_next shelf = is_among shelf.fails (raised shelf.calls)

@@ -5,7 +5,7 @@ ghost use Rattle.bf_io.specs.Causes.{FailsOnlyAt, raised};
 ghost use Rattle.bf_io.specs.Scripted.{is_among};
 ghost use Rattle.bf_shelf.specs.declared.shelf.LoadFault.{LoadFault};
 ghost use Rattle.bf_shelf.specs.Files.{IsAnswered, LoadGives, file_named};
-ghost use Rattle.bf_shelf.specs.Scripted.{fails_next, after_load, after_fault};
+ghost use Rattle.bf_shelf.specs.Scripted.{scripted_shelf, fails_next, after_load, after_fault};
 
 use crate::{LoadFault, Shelf, ShelfFile};
 use bf_io::Bytes;
@@ -88,18 +88,18 @@ pub struct MemShelf {
 }
 
 impl Model for MemShelf {
-    ghost use Rattle.bf_shelf.specs.Scripted.{ScriptedShelf};
+    ghost use Rattle.bf_shelf.specs.Scripted.{ScriptedShelf, scripted_shelf};
 
     ghost Value = { ScriptedShelf };
 
-    ghost view = { λ s. record { files = s.files.items; fails = s.fails.items; calls = s.calls; faults = s.faults } };
+    ghost view = { λ s. scripted_shelf s.files.items s.fails.items s.calls s.faults };
 }
 
 impl MemShelf {
     /// A shelf that has these files. Of files of one name the first counts. The loads whose numbers are in
     /// `fails` fail, counted from 1; one that answers want of memory isn't counted.
     pub fn new(files: Vec<ShelfFile>, fails: Vec<u64>) -> MemShelf
-        ensures { result ≡ record { files = files.items; fails = fails.items; calls = 0; faults = 0 } }
+        ensures { result ≡ scripted_shelf files.items fails.items 0 0 }
     {
         MemShelf {
             files,

@@ -1,5 +1,6 @@
 -- Walks to a place that some path asks for.
-use Rattle.std.proofs.Common.{◌≡◌, ℕ, ◌<◌, Bool, true, false, ◌&&◌, ◌==◌, cond, List, [], ◌∷◌, ◌++◌, length, get_or, Option, Some, None, refl, sym, ap, ◌∙◌, subst, eqb-true, eq-eqb}
+use Rattle.std.proofs.Common.{◌≡◌, ℕ, ◌<◌, Bool, true, false, ◌&&◌, ◌==◌, cond, List, [], ◌∷◌, ◌++◌, length, get_or, Option, Some, None, refl, sym, ap, ◌∙◌}
+use Rattle.std.proofs.Common.{subst, eqb-true, eq-eqb}
 use Rattle.std.proofs.lemmas.Bool.{both_ways}
 use Rattle.std.proofs.lemmas.List.Elements.{Contains-get_or}
 use Rattle.std.specs.List.{Contains}
@@ -39,19 +40,22 @@ module _ (graph : List (List ℕ)) (known : Outcomes) (x : ℕ) where
   from_asked s (m ∷ ms) left h = h
 
   -- from a node, which has asked
-  to_node : (node : Node) (ms : List Mark) (left : ℕ) → NodeFacts graph node → Leads graph known node.state.search ms x left → LeadsOn node.state.search node.step.ask ms left
+  to_node : (node : Node) (ms : List Mark) (left : ℕ) → NodeFacts graph node → Leads graph known node.state.search ms x left
+      → LeadsOn node.state.search node.step.ask ms left
   to_node node ms left f h =
       subst (λ (a : Ask). LeadsOn node.state.search a ms left) f.settled.step
       (subst (λ (t : Search). LeadsOn t (ask graph node.state.search).step.ask ms left) f.settled.search (to_asked node.state.search ms left h))
 
-  from_node : (node : Node) (ms : List Mark) (left : ℕ) → NodeFacts graph node → LeadsOn node.state.search node.step.ask ms left → Leads graph known node.state.search ms x left
+  from_node : (node : Node) (ms : List Mark) (left : ℕ) → NodeFacts graph node → LeadsOn node.state.search node.step.ask ms left
+      → Leads graph known node.state.search ms x left
   from_node node ms left f h =
       from_asked node.state.search ms left
       (subst (λ (t : Search). LeadsOn t (ask graph node.state.search).step.ask ms left) (sym f.settled.search)
       (subst (λ (a : Ask). LeadsOn node.state.search a ms left) (sym f.settled.step) h))
 
   -- from a child
-  to_child : (parent child : Node) (m : Mark) (q : ℕ) (ms : List Mark) (left : ℕ) → NodeFacts graph child → asked_of child ≡ next_asked graph (asked_of parent) m → parent.step.ask ≡ Test q
+  to_child : (parent child : Node) (m : Mark) (q : ℕ) (ms : List Mark) (left : ℕ) → NodeFacts graph child
+      → asked_of child ≡ next_asked graph (asked_of parent) m → parent.step.ask ≡ Test q
       → Leads graph known (mark parent.state.search m q) ms x left → Leads graph known child.state.search ms x left
   to_child parent child m q ms left f is asks h =
       from_node child ms left f (subst (λ (a : Asked). LeadsOn a.search a.step.ask ms left) (sym here) (to_asked (mark parent.state.search m q) ms left h))
@@ -59,7 +63,8 @@ module _ (graph : List (List ℕ)) (known : Outcomes) (x : ℕ) where
       here : asked_of child ≡ ask graph (mark parent.state.search m q)
       here = is ∙ ap (λ (a : Ask). next_asked graph (record { search = parent.state.search; step = record { warned = parent.step.warned; ask = a } }) m) asks
 
-  from_child : (parent child : Node) (m : Mark) (q : ℕ) (ms : List Mark) (left : ℕ) → NodeFacts graph child → asked_of child ≡ next_asked graph (asked_of parent) m → parent.step.ask ≡ Test q
+  from_child : (parent child : Node) (m : Mark) (q : ℕ) (ms : List Mark) (left : ℕ) → NodeFacts graph child
+      → asked_of child ≡ next_asked graph (asked_of parent) m → parent.step.ask ≡ Test q
       → Leads graph known child.state.search ms x left → Leads graph known (mark parent.state.search m q) ms x left
   from_child parent child m q ms left f is asks h =
       from_asked (mark parent.state.search m q) ms left (subst (λ (a : Asked). LeadsOn a.search a.step.ask ms left) here (to_node child ms left f h))
@@ -132,7 +137,8 @@ module _ (graph : List (List ℕ)) (known : Outcomes) (x : ℕ) where
   nowhere : (s : Search) (a : Ask) (ms : List Mark) (left : ℕ) → way_of graph known s a x ≡ Nowhere → LeadsOn s a ms left → ⊥
   nowhere s (Test q) ms left h leads = by_test (q == x) refl h
     where
-      by_verdict : (outcome : Outcome) (v : Verdict) → verdict_of outcome ≡ v → known q ≡ Some outcome → way_by_verdict q v ≡ Nowhere → (ns : List Mark) → LeadsOn s (Test q) ns left → (q ≡ x → ⊥) → ⊥
+      by_verdict : (outcome : Outcome) (v : Verdict) → verdict_of outcome ≡ v → known q ≡ Some outcome → way_by_verdict q v ≡ Nowhere → (ns : List Mark)
+          → LeadsOn s (Test q) ns left → (q ≡ x → ⊥) → ⊥
       by_verdict outcome Abort is o k [] on other = other (same_place q x on.0)
       by_verdict outcome Abort is o k (m ∷ ns) on other = aborts (sym is ∙ marks)
         where
@@ -185,9 +191,15 @@ module _ (graph : List (List ℕ)) (known : Outcomes) (x : ℕ) where
   -- ---- at a node
 
   pub asked_here : (node : Node) → NodeFacts graph node → way_of graph known node.state.search node.step.ask x ≡ Here → IsAsked graph known node.state.search x
-  asked_here node f h = ([], left_of graph node.state.search, from_node node [] (left_of graph node.state.search) f (here_asks node.state.search node.step.ask h, refl))
+  asked_here node f h = (
+    [],
+    left_of graph node.state.search,
+    from_node node [] (left_of graph node.state.search) f
+        (here_asks node.state.search node.step.ask h, refl),
+  )
 
-  pub asked_nowhere : (node : Node) → NodeFacts graph node → way_of graph known node.state.search node.step.ask x ≡ Nowhere → IsAsked graph known node.state.search x → ⊥
+  pub asked_nowhere : (node : Node) → NodeFacts graph node → way_of graph known node.state.search node.step.ask x ≡ Nowhere
+      → IsAsked graph known node.state.search x → ⊥
   asked_nowhere node f h asked = nowhere node.state.search node.step.ask asked.0 asked.1 h (to_node node asked.0 asked.1 f asked.2)
 
   pub goes_asks : (node : Node) (q : ℕ) (m : Mark) → way_of graph known node.state.search node.step.ask x ≡ Goes q m → node.step.ask ≡ Test q
@@ -210,10 +222,12 @@ module _ (graph : List (List ℕ)) (known : Outcomes) (x : ℕ) where
       by_verdict (MarkOf n) e = cc
 
   -- the mark of a path that asks for the place further on
-  only_mark : (node : Node) (q : ℕ) (m n : Mark) (ms : List Mark) (left : ℕ) → NodeFacts graph node → node.step.ask ≡ Test q → (o : Option Outcome) → known q ≡ o → way_by_outcome graph node.state.search q x o ≡ Goes q m → Allows o n
+  only_mark : (node : Node) (q : ℕ) (m n : Mark) (ms : List Mark) (left : ℕ) → NodeFacts graph node → node.step.ask ≡ Test q → (o : Option Outcome)
+      → known q ≡ o → way_by_outcome graph node.state.search q x o ≡ Goes q m → Allows o n
       → Leads graph known (mark node.state.search n q) ms x left → n ≡ m
   only_mark node q m n ms left f asks None unknown h allows rest =
-      goes_the_way graph known node.state.search q n ms x left f.parents (f.settled.step ∙ asks) allows (subst (λ (t : Search). Leads graph known (mark t n q) ms x left) (sym f.settled.search) rest)
+      goes_the_way graph known node.state.search q n ms x left f.parents (f.settled.step ∙ asks) allows
+      (subst (λ (t : Search). Leads graph known (mark t n q) ms x left) (sym f.settled.search) rest)
       ∙ ap (λ (t : Search). way graph t q x) f.settled.search ∙ same (way graph node.state.search q x) h
     where
       same : (k : Mark) → Goes q k ≡ Goes q m → k ≡ m
@@ -224,7 +238,8 @@ module _ (graph : List (List ℕ)) (known : Outcomes) (x : ℕ) where
       by_verdict Abort e k = cc
       by_verdict (MarkOf j) e k = cc
 
-  module _ (node child : Node) (q : ℕ) (m : Mark) (f : NodeFacts graph node) (k : NodeFacts graph child) (is : asked_of child ≡ next_asked graph (asked_of node) m) (h : way_of graph known node.state.search node.step.ask x ≡ Goes q m) where
+  module _ (node child : Node) (q : ℕ) (m : Mark) (f : NodeFacts graph node) (k : NodeFacts graph child)
+      (is : asked_of child ≡ next_asked graph (asked_of node) m) (h : way_of graph known node.state.search node.step.ask x ≡ Goes q m) where
     by : GoesBy node.state.search node.step.ask q m
     by = goes_by node.state.search node.step.ask q m h
 
@@ -235,18 +250,28 @@ module _ (graph : List (List ℕ)) (known : Outcomes) (x : ℕ) where
         by_marks [] on = absurd (by.other (same_place q x (sym by.asks ∙ on.0)))
         by_marks (n ∷ ms) on =
             let same : q ≡ on.0 = same_place q on.0 (sym by.asks ∙ on.1) in
-            let rest : Leads graph known (mark node.state.search n q) ms x asked.1 = subst (λ (r : ℕ). Leads graph known (mark node.state.search n r) ms x asked.1) (sym same) on.3 in
+            let rest : Leads graph known (mark node.state.search n q) ms x asked.1 = subst
+            (λ (r : ℕ). Leads graph known (mark node.state.search n r) ms x asked.1) (sym same) on.3 in
             let allows : Allows (known q) n = subst (λ (r : ℕ). Allows (known r) n) (sym same) on.2 in
-            let mark_is : n ≡ m = only_mark node q m n ms asked.1 f by.asks (known q) refl by.by allows rest in
-            (ms, asked.1, to_child node child m q ms asked.1 k is by.asks (subst (λ (j : Mark). Leads graph known (mark node.state.search j q) ms x asked.1) mark_is rest))
+            let mark_is : n ≡ m = only_mark node q m n ms asked.1 f by.asks (known q) refl by.by allows rest in (
+              ms,
+              asked.1,
+              to_child node child m q ms asked.1 k is by.asks
+                  (subst (λ (j : Mark). Leads graph known (mark node.state.search j q) ms x asked.1) mark_is rest),
+            )
 
     pub asked_above : IsAsked graph known child.state.search x → IsAsked graph known node.state.search x
-    asked_above asked =
-        (m ∷ asked.0, asked.1, from_node node (m ∷ asked.0) asked.1 f (q, by.asks, allowed node.state.search q m (known q) by.by, from_child node child m q asked.0 asked.1 k is by.asks asked.2))
+    asked_above asked = (
+      m ∷ asked.0,
+      asked.1,
+      from_node node (m ∷ asked.0) asked.1 f
+          (q, by.asks, allowed node.state.search q m (known q) by.by, from_child node child m q asked.0 asked.1 k is by.asks asked.2),
+    )
 
 -- ---- by index
 
-module _ (graph : List (List ℕ)) (known : Outcomes) (x : ℕ) (nodes : List Node) (i : ℕ) (node : Node) (t : AreNodes graph nodes) (l : i < length nodes) (e : node ≡ get_or nodes i node) where
+module _ (graph : List (List ℕ)) (known : Outcomes) (x : ℕ) (nodes : List Node) (i : ℕ) (node : Node) (t : AreNodes graph nodes) (l : i < length nodes)
+    (e : node ≡ get_or nodes i node) where
   facts : NodeFacts graph node
   facts = node_facts graph nodes node t (i, l, sym e)
 
@@ -254,7 +279,8 @@ module _ (graph : List (List ℕ)) (known : Outcomes) (x : ℕ) (nodes : List No
   walk_here d h = subst (λ (n : Node). IsAsked graph known n.state.search x) (sym (read_as nodes i node d l e)) (asked_here graph known x node facts (sym h))
 
   pub walk_nowhere : (d : Node) → Nowhere ≡ way_of graph known node.state.search node.step.ask x → IsAsked graph known (get_or nodes i d).state.search x → ⊥
-  walk_nowhere d h asked = asked_nowhere graph known x node facts (sym h) (subst (λ (n : Node). IsAsked graph known n.state.search x) (read_as nodes i node d l e) asked)
+  walk_nowhere d h asked = asked_nowhere graph known x node facts (sym h)
+      (subst (λ (n : Node). IsAsked graph known n.state.search x) (read_as nodes i node d l e) asked)
 
   pub goes_within : (p : ℕ) → node.step.ask ≡ Test p → p < length graph
   goes_within p h = asked_within graph nodes node p t (i, l, sym e) h
@@ -262,7 +288,8 @@ module _ (graph : List (List ℕ)) (known : Outcomes) (x : ℕ) (nodes : List No
   pub way_asks : (d : Node) (p : ℕ) (m : Mark) → Goes p m ≡ way_of graph known node.state.search node.step.ask x → (get_or nodes i d).step.ask ≡ Test p
   way_asks d p m h = ap (λ (n : Node). n.step.ask) (read_as nodes i node d l e) ∙ goes_asks graph known x node p m (sym h)
 
-  module _ (new : List Node) (k p : ℕ) (m : Mark) (h : Goes p m ≡ way_of graph known node.state.search node.step.ask x) (grown : Extends graph nodes new) (child : (k < length new) × ((d : Node) → path_of (get_or new k d) ≡ path_of (get_or nodes i d) ++ m ∷ [])) where
+  module _ (new : List Node) (k p : ℕ) (m : Mark) (h : Goes p m ≡ way_of graph known node.state.search node.step.ask x) (grown : Extends graph nodes new)
+      (child : (k < length new) × ((d : Node) → path_of (get_or new k d) ≡ path_of (get_or nodes i d) ++ m ∷ [])) where
     at : IsChildAt graph nodes new i k m
     at = record { above = l; below = child.0; extends = grown; path = child.1 }
 
@@ -279,7 +306,8 @@ module _ (graph : List (List ℕ)) (known : Outcomes) (x : ℕ) (nodes : List No
     child_in d = Contains-get_or new k d child.0
 
     follows : (d : Node) → asked_of (get_or new k d) ≡ next_asked graph (asked_of node) m
-    follows d = child_asks graph new node (get_or new k d) m all node_in (child_in d) (child.1 d ∙ ap (λ (n : Node). path_of n ++ m ∷ []) (read_as nodes i node d l e))
+    follows d = child_asks graph new node (get_or new k d) m all node_in (child_in d)
+        (child.1 d ∙ ap (λ (n : Node). path_of n ++ m ∷ []) (read_as nodes i node d l e))
 
     pub walk_below : (d : Node) → IsAsked graph known (get_or nodes i d).state.search x → IsAsked graph known (get_or new k d).state.search x
     walk_below d asked =

@@ -1,5 +1,6 @@
 -- Runs through the nodes of a tree.
-use Rattle.std.proofs.Common.{◌≡◌, ℕ, zero, suc, ◌<◌, Bool, true, false, ◌==◌, cond, List, [], ◌∷◌, ◌++◌, length, get_or, map, Option, Some, None, refl, sym, ap, ◌∙◌, subst, append_assoc}
+use Rattle.std.proofs.Common.{◌≡◌, ℕ, zero, suc, ◌<◌, Bool, true, false, ◌==◌, cond, List, [], ◌∷◌, ◌++◌, length, get_or, map, Option, Some, None, refl, sym}
+use Rattle.std.proofs.Common.{ap, ◌∙◌, subst, append_assoc}
 use Rattle.std.proofs.lemmas.List.Elements.{All-contains, Contains-get_or}
 use Rattle.std.specs.List.{Contains}
 use Rattle.bf_graph.specs.Graph.{IsGraph}
@@ -16,7 +17,8 @@ use Rattle.bf_search.specs.declared.outcomes.Verdict.TheVariants.{Mark as MarkOf
 use Rattle.bf_search.specs.Bases.{check}
 use Rattle.bf_search.specs.Candidates.{candidates}
 use Rattle.bf_search.specs.Outcomes.{Outcomes, verdict_of}
-use Rattle.bf_search.specs.Run.{Answered, Leg, Open, Aborted, Run, ended, with_entries, with_used, marked_one, after_verdict, after_look, after_step, after_ask, turn, run}
+use Rattle.bf_search.specs.Run.{Answered, Leg, Open, Aborted, Run, ended, with_entries, with_used, marked_one, after_verdict, after_look, after_step, after_ask}
+use Rattle.bf_search.specs.Run.{turn, run}
 use Rattle.bf_search.specs.State.{Search, Asked, IsSearchOver, ask_best, ask_among, best_of, ask_candidates, ask_checked, ask, mark}
 use Rattle.bf_search.proofs.Turns.{run-is}
 use Rattle.bf_state.proofs.Asks.{known_ends}
@@ -59,7 +61,8 @@ no_wait_checked graph s bad (BaseIsBad p) = by_test s.bad_asked
     by_test : (b : Bool) → NoWait (cond b (MergeBaseBad p) (GoodNotAncestor p))
     by_test true = tt
     by_test false = tt
-no_wait_checked graph s bad (Passed warned) = no_wait_among (record s { checked = true }) bad warned (candidates graph bad s.goods s.first_parent) (best_of graph (record s { checked = true }) bad)
+no_wait_checked graph s bad (Passed warned) = no_wait_among (record s { checked = true }) bad warned (candidates graph bad s.goods s.first_parent)
+    (best_of graph (record s { checked = true }) bad)
 
 no_wait_ask : (graph : List (List ℕ)) (s : Search) → HasEnds s → NoWait (ask graph s).step.ask
 no_wait_ask graph s h = subst (λ (a : Asked). NoWait a.step.ask) (sym (known_ends graph s h.bad h.bad_is h.some_good)) (by_check s.checked h.bad)
@@ -89,8 +92,13 @@ module _ (known : Outcomes) (go : Option ℕ → Search → Run) (left : Option 
   next_tells (Test p) = by_outcome (known p) refl
     where
       by_verdict : (outcome : Outcome) (v : Verdict) → verdict_of outcome ≡ v → known p ≡ Some outcome → NextTells (next_by_verdict p outcome v) (Test p)
-      by_verdict outcome Abort e o = ap (λ (x : Option Outcome). after_look known go left s p x) o ∙ ap (λ (v : Verdict). with_used p outcome (after_verdict go left s p outcome v)) e
-      by_verdict outcome (MarkOf m) e o = (refl, ap (λ (x : Option Outcome). after_look known go left s p x) o ∙ ap (λ (v : Verdict). with_used p outcome (after_verdict go left s p outcome v)) e)
+      by_verdict outcome Abort e o = ap (λ (x : Option Outcome). after_look known go left s p x) o ∙ ap
+          (λ (v : Verdict). with_used p outcome (after_verdict go left s p outcome v)) e
+      by_verdict outcome (MarkOf m) e o = (
+        refl,
+        ap (λ (x : Option Outcome). after_look known go left s p x) o ∙ ap
+            (λ (v : Verdict). with_used p outcome (after_verdict go left s p outcome v)) e,
+      )
 
       by_outcome : (o : Option Outcome) → known p ≡ o → NextTells (next_by_outcome p o) (Test p)
       by_outcome None o = (p, refl, ap (λ (x : Option Outcome). after_look known go left s p x) o)
@@ -115,8 +123,10 @@ behind_same es fs us vs r e u = ap (λ (xs : List Entry). behind xs us r) e ∙ 
 pub behind_none : (r : Run) → behind [] [] r ≡ r
 behind_none r = refl
 
-pub behind_used : (es : List Entry) (us : List (ℕ × Outcome)) (p : ℕ) (outcome : Outcome) (r : Run) → behind es us (with_used p outcome r) ≡ behind es (us ++ (p, outcome) ∷ []) r
-behind_used es us p outcome r = ap (λ (ys : List (ℕ × Outcome)). record r { entries = es ++ r.entries; used = ys }) (sym (append_assoc us ((p, outcome) ∷ []) r.used))
+pub behind_used : (es : List Entry) (us : List (ℕ × Outcome)) (p : ℕ) (outcome : Outcome) (r : Run)
+    → behind es us (with_used p outcome r) ≡ behind es (us ++ (p, outcome) ∷ []) r
+behind_used es us p outcome r = ap (λ (ys : List (ℕ × Outcome)). record r { entries = es ++ r.entries; used = ys })
+    (sym (append_assoc us ((p, outcome) ∷ []) r.used))
 
 pub behind_entries : (es ws : List Entry) (us : List (ℕ × Outcome)) (r : Run) → behind es us (with_entries ws r) ≡ behind (es ++ ws) us r
 behind_entries es ws us r = ap (λ (xs : List Entry). record r { entries = xs; used = us ++ r.used }) (sym (append_assoc es ws r.entries))
@@ -159,33 +169,40 @@ marks_answer es a = marks_append es (answer_entries a) ∙ ap (λ (ms : List Mar
 
 -- ---- a leg
 
-turn_over : (graph : List (List ℕ)) (known : Outcomes) (go : Option ℕ → Search → Run) (left : Option ℕ) (s : Search) → is_over left ≡ true → turn graph known go left s ≡ ended [] s Leg
+turn_over : (graph : List (List ℕ)) (known : Outcomes) (go : Option ℕ → Search → Run) (left : Option ℕ) (s : Search) → is_over left ≡ true
+    → turn graph known go left s ≡ ended [] s Leg
 turn_over graph known go None s h = cc
 turn_over graph known go (Some zero) s h = refl
 turn_over graph known go (Some (suc k)) s h = cc
 
-turn_on : (graph : List (List ℕ)) (known : Outcomes) (go : Option ℕ → Search → Run) (left : Option ℕ) (s : Search) → is_over left ≡ false → turn graph known go left s ≡ after_ask known go left (ask graph s)
+turn_on : (graph : List (List ℕ)) (known : Outcomes) (go : Option ℕ → Search → Run) (left : Option ℕ) (s : Search) → is_over left ≡ false
+    → turn graph known go left s ≡ after_ask known go left (ask graph s)
 turn_on graph known go None s h = refl
 turn_on graph known go (Some zero) s h = cc
 turn_on graph known go (Some (suc k)) s h = refl
 
-pub run_over : (graph : List (List ℕ)) (known : Outcomes) (left : Option ℕ) (s : Search) → IsGraph graph → IsSearchOver graph s → is_over left ≡ true → run graph known left s ≡ ended [] s Leg
+pub run_over : (graph : List (List ℕ)) (known : Outcomes) (left : Option ℕ) (s : Search) → IsGraph graph → IsSearchOver graph s → is_over left ≡ true
+    → run graph known left s ≡ ended [] s Leg
 run_over graph known left s g over h = run-is graph known left s g over ∙ turn_over graph known (run graph known) left s h
 
-pub run_on : (graph : List (List ℕ)) (known : Outcomes) (left : Option ℕ) (s : Search) → IsGraph graph → IsSearchOver graph s → is_over left ≡ false → run graph known left s ≡ after_ask known (run graph known) left (ask graph s)
+pub run_on : (graph : List (List ℕ)) (known : Outcomes) (left : Option ℕ) (s : Search) → IsGraph graph → IsSearchOver graph s → is_over left ≡ false
+    → run graph known left s ≡ after_ask known (run graph known) left (ask graph s)
 run_on graph known left s g over h = run-is graph known left s g over ∙ turn_on graph known (run graph known) left s h
 
 -- the run from a node is the one below it
-pub run_node : (graph : List (List ℕ)) (known : Outcomes) (left : Option ℕ) (node : Node) → NodeFacts graph node → (ask graph node.state.search).step.warned ≡ [] → is_over left ≡ false → run graph known left node.state.search ≡ run_below graph known left node
+pub run_node : (graph : List (List ℕ)) (known : Outcomes) (left : Option ℕ) (node : Node) → NodeFacts graph node
+    → (ask graph node.state.search).step.warned ≡ [] → is_over left ≡ false → run graph known left node.state.search ≡ run_below graph known left node
 run_node graph known left node f warned h =
     run_on graph known left node.state.search f.parents f.over h
-    ∙ ap (λ (ps : List ℕ). with_entries (map (λ p. SkippedBase p) ps) (after_step known (run graph known) left (ask graph node.state.search).search (ask graph node.state.search).step.ask)) warned
+    ∙ ap (λ (ps : List ℕ). with_entries (map (λ p. SkippedBase p) ps)
+    (after_step known (run graph known) left (ask graph node.state.search).search (ask graph node.state.search).step.ask)) warned
     ∙ ap (λ (t : Search). after_step known (run graph known) left t (ask graph node.state.search).step.ask) f.settled.search
     ∙ ap (λ (a : Ask). after_step known (run graph known) left node.state.search a) f.settled.step
 
 -- ---- one step of the walk
 
-module _ (graph : List (List ℕ)) (known : Outcomes) (left : Option ℕ) (nodes : List Node) (i : ℕ) (node : Node) (t : AreNodes graph nodes) (l : i < length nodes) (e : node ≡ get_or nodes i node) where
+module _ (graph : List (List ℕ)) (known : Outcomes) (left : Option ℕ) (nodes : List Node) (i : ℕ) (node : Node) (t : AreNodes graph nodes)
+    (l : i < length nodes) (e : node ≡ get_or nodes i node) where
   facts : NodeFacts graph node
   facts = node_facts graph nodes node t (i, l, sym e)
 
@@ -193,23 +210,29 @@ module _ (graph : List (List ℕ)) (known : Outcomes) (left : Option ℕ) (nodes
   same_at d b = read_as nodes i node d l e ∙ sym (read_as nodes i node b l e)
 
   pub halt_answered : (d : Node) → nexts.Answered ≡ next_of known node.step.ask
-      → IsAnswer (get_or nodes i d).step.ask × (run_below graph known left (get_or nodes i d) ≡ ended (answer_entries (get_or nodes i d).step.ask) (get_or nodes i d).state.search (Answered (get_or nodes i d).step.ask))
+      → IsAnswer (get_or nodes i d).step.ask × (run_below graph known left (get_or nodes i d) ≡ ended (answer_entries (get_or nodes i d).step.ask)
+      (get_or nodes i d).state.search (Answered (get_or nodes i d).step.ask))
   halt_answered d h =
-      subst (λ (n : Node). IsAnswer n.step.ask × (run_below graph known left n ≡ ended (answer_entries n.step.ask) n.state.search (Answered n.step.ask))) (sym (read_as nodes i node d l e))
+      subst (λ (n : Node). IsAnswer n.step.ask × (run_below graph known left n ≡ ended (answer_entries n.step.ask) n.state.search (Answered n.step.ask)))
+      (sym (read_as nodes i node d l e))
       (tells known (run graph known) left node.state.search node.step.ask nexts.Answered h (no_wait_node graph nodes node t (i, l, sym e)))
 
-  pub halt_waits : (d : Node) → nexts.Waits ≡ next_of known node.step.ask → (p : ℕ) × ((get_or nodes i d).step.ask ≡ Test p) × (run_below graph known left (get_or nodes i d) ≡ ended [] (get_or nodes i d).state.search (Open p))
+  pub halt_waits : (d : Node) → nexts.Waits ≡ next_of known node.step.ask
+      → (p : ℕ) × ((get_or nodes i d).step.ask ≡ Test p) × (run_below graph known left (get_or nodes i d) ≡ ended [] (get_or nodes i d).state.search (Open p))
   halt_waits d h =
-      subst (λ (n : Node). (p : ℕ) × (n.step.ask ≡ Test p) × (run_below graph known left n ≡ ended [] n.state.search (Open p))) (sym (read_as nodes i node d l e))
+      subst (λ (n : Node). (p : ℕ) × (n.step.ask ≡ Test p) × (run_below graph known left n ≡ ended [] n.state.search (Open p)))
+      (sym (read_as nodes i node d l e))
       (tells known (run graph known) left node.state.search node.step.ask nexts.Waits h)
 
-  pub halt_aborted : (d : Node) (p : ℕ) (outcome : Outcome) → nexts.Aborted p outcome ≡ next_of known node.step.ask → run_below graph known left (get_or nodes i d) ≡ with_used p outcome (ended [] (get_or nodes i d).state.search (Aborted p outcome))
+  pub halt_aborted : (d : Node) (p : ℕ) (outcome : Outcome) → nexts.Aborted p outcome ≡ next_of known node.step.ask
+      → run_below graph known left (get_or nodes i d) ≡ with_used p outcome (ended [] (get_or nodes i d).state.search (Aborted p outcome))
   halt_aborted d p outcome h =
       subst (λ (n : Node). run_below graph known left n ≡ with_used p outcome (ended [] n.state.search (Aborted p outcome))) (sym (read_as nodes i node d l e))
       (tells known (run graph known) left node.state.search node.step.ask (nexts.Aborted p outcome) h)
 
   module _ (p : ℕ) (outcome : Outcome) (m : Mark) (h : nexts.Marked p outcome m ≡ next_of known node.step.ask) where
-    told : (node.step.ask ≡ Test p) × (run_below graph known left node ≡ with_used p outcome (with_entries (Marked m p ∷ []) (run graph known (marked_one left) (mark node.state.search m p))))
+    told : (node.step.ask ≡ Test p) × (run_below graph known left node ≡ with_used p outcome
+        (with_entries (Marked m p ∷ []) (run graph known (marked_one left) (mark node.state.search m p))))
     told = tells known (run graph known) left node.state.search node.step.ask (nexts.Marked p outcome m) h
 
     pub marked_asks : (d : Node) → (get_or nodes i d).step.ask ≡ Test p
@@ -219,14 +242,17 @@ module _ (graph : List (List ℕ)) (known : Outcomes) (left : Option ℕ) (nodes
     over = marked_over graph node m p facts told.0
 
     -- the run behind what came before
-    step_is : (d : Node) (es : List Entry) (us : List (ℕ × Outcome)) → behind es us (run_below graph known left (get_or nodes i d)) ≡ behind (es ++ Marked m p ∷ []) (us ++ (p, outcome) ∷ []) (run graph known (marked_one left) (mark node.state.search m p))
+    step_is : (d : Node) (es : List Entry) (us : List (ℕ × Outcome))
+        → behind es us (run_below graph known left (get_or nodes i d)) ≡ behind (es ++ Marked m p ∷ []) (us ++ (p, outcome) ∷ [])
+        (run graph known (marked_one left) (mark node.state.search m p))
     step_is d es us =
         ap (λ (n : Node). behind es us (run_below graph known left n)) (read_as nodes i node d l e)
         ∙ ap (λ (r : Run). behind es us r) told.1
         ∙ behind_used es us p outcome (with_entries (Marked m p ∷ []) (run graph known (marked_one left) (mark node.state.search m p)))
         ∙ behind_entries es (Marked m p ∷ []) (us ++ (p, outcome) ∷ []) (run graph known (marked_one left) (mark node.state.search m p))
 
-    module _ (new : List Node) (k : ℕ) (grown : Extends graph nodes new) (child : (k < length new) × ((d : Node) → path_of (get_or new k d) ≡ path_of (get_or nodes i d) ++ m ∷ [])) where
+    module _ (new : List Node) (k : ℕ) (grown : Extends graph nodes new)
+        (child : (k < length new) × ((d : Node) → path_of (get_or new k d) ≡ path_of (get_or nodes i d) ++ m ∷ [])) where
       at : IsChildAt graph nodes new i k m
       at = record { above = l; below = child.0; extends = grown; path = child.1 }
 
@@ -234,26 +260,35 @@ module _ (graph : List (List ℕ)) (known : Outcomes) (left : Option ℕ) (nodes
       step_less = child_at_left graph nodes new i k m t at p node (marked_asks node)
 
       pub step_over : (d b : Node) (es : List Entry) (us : List (ℕ × Outcome)) → is_over (marked_one left) ≡ true
-          → behind es us (run_below graph known left (get_or nodes i d)) ≡ behind (es ++ Marked m p ∷ []) (us ++ (p, outcome) ∷ []) (ended [] (mark (get_or new i b).state.search m p) Leg)
+          → behind es us (run_below graph known left (get_or nodes i d)) ≡ behind (es ++ Marked m p ∷ []) (us ++ (p, outcome) ∷ [])
+          (ended [] (mark (get_or new i b).state.search m p) Leg)
       step_over d b es us o =
           step_is d es us
-          ∙ ap (λ (r : Run). behind (es ++ Marked m p ∷ []) (us ++ (p, outcome) ∷ []) r) (run_over graph known (marked_one left) (mark node.state.search m p) facts.parents over o)
-          ∙ ap (λ (n : Node). behind (es ++ Marked m p ∷ []) (us ++ (p, outcome) ∷ []) (ended [] (mark n.state.search m p) Leg)) (sym (extends_at graph nodes new i b grown l ∙ read_as nodes i node b l e))
+          ∙ ap (λ (r : Run). behind (es ++ Marked m p ∷ []) (us ++ (p, outcome) ∷ []) r)
+          (run_over graph known (marked_one left) (mark node.state.search m p) facts.parents over o)
+          ∙ ap (λ (n : Node). behind (es ++ Marked m p ∷ []) (us ++ (p, outcome) ∷ []) (ended [] (mark n.state.search m p) Leg))
+          (sym (extends_at graph nodes new i b grown l ∙ read_as nodes i node b l e))
 
       all : AreNodes graph new
       all = extends_nodes graph nodes new grown t
 
       follows : (d : Node) → asked_of (get_or new k d) ≡ ask graph (mark node.state.search m p)
       follows d =
-          child_asks graph new node (get_or new k d) m all (extends_has graph nodes new node grown (i, l, sym e)) (Contains-get_or new k d child.0) (child.1 d ∙ ap (λ (n : Node). path_of n ++ m ∷ []) (read_as nodes i node d l e))
+          child_asks graph new node (get_or new k d) m all (extends_has graph nodes new node grown (i, l, sym e)) (Contains-get_or new k d child.0)
+          (child.1 d ∙ ap (λ (n : Node). path_of n ++ m ∷ []) (read_as nodes i node d l e))
           ∙ ap (λ (a : Ask). next_asked graph (record { search = node.state.search; step = record { warned = node.step.warned; ask = a } }) m) told.0
 
       pub step_on : (d c : Node) (es : List Entry) (us : List (ℕ × Outcome)) → is_over (marked_one left) ≡ false → c ≡ get_or new k c
-          → behind es us (run_below graph known left (get_or nodes i d)) ≡ behind ((es ++ Marked m p ∷ []) ++ map (λ q. SkippedBase q) c.step.warned) (us ++ (p, outcome) ∷ []) (run_below graph known (marked_one left) (get_or new k d))
+          → behind es us (run_below graph known left (get_or nodes i d)) ≡ behind ((es ++ Marked m p ∷ []) ++ map (λ q. SkippedBase q) c.step.warned)
+          (us ++ (p, outcome) ∷ []) (run_below graph known (marked_one left) (get_or new k d))
       step_on d c es us o is =
           step_is d es us
           ∙ ap (λ (r : Run). behind (es ++ Marked m p ∷ []) (us ++ (p, outcome) ∷ []) r)
-          (run_on graph known (marked_one left) (mark node.state.search m p) facts.parents over o ∙ ap (λ (a : Asked). after_ask known (run graph known) (marked_one left) a) (sym (follows c)))
-          ∙ behind_entries (es ++ Marked m p ∷ []) (map (λ q. SkippedBase q) (get_or new k c).step.warned) (us ++ (p, outcome) ∷ []) (run_below graph known (marked_one left) (get_or new k c))
-          ∙ ap (λ (n : Node). behind ((es ++ Marked m p ∷ []) ++ map (λ q. SkippedBase q) n.step.warned) (us ++ (p, outcome) ∷ []) (run_below graph known (marked_one left) n)) (sym is)
-          ∙ ap (λ (n : Node). behind ((es ++ Marked m p ∷ []) ++ map (λ q. SkippedBase q) c.step.warned) (us ++ (p, outcome) ∷ []) (run_below graph known (marked_one left) n)) (sym (read_as new k c d child.0 is))
+          (run_on graph known (marked_one left) (mark node.state.search m p) facts.parents over o ∙ ap
+          (λ (a : Asked). after_ask known (run graph known) (marked_one left) a) (sym (follows c)))
+          ∙ behind_entries (es ++ Marked m p ∷ []) (map (λ q. SkippedBase q) (get_or new k c).step.warned) (us ++ (p, outcome) ∷ [])
+          (run_below graph known (marked_one left) (get_or new k c))
+          ∙ ap (λ (n : Node). behind ((es ++ Marked m p ∷ []) ++ map (λ q. SkippedBase q) n.step.warned) (us ++ (p, outcome) ∷ [])
+          (run_below graph known (marked_one left) n)) (sym is)
+          ∙ ap (λ (n : Node). behind ((es ++ Marked m p ∷ []) ++ map (λ q. SkippedBase q) c.step.warned) (us ++ (p, outcome) ∷ [])
+          (run_below graph known (marked_one left) n)) (sym (read_as new k c d child.0 is))

@@ -1,5 +1,6 @@
 -- Trees that grow.
-use Rattle.std.proofs.Common.{◌≡◌, ℕ, ◌<◌, Bool, true, false, cond, List, [], ◌∷◌, ◌++◌, length, get_or, refl, sym, ap, ◌∙◌, subst, ⊎_elim, arith, append_assoc, length-append}
+use Rattle.std.proofs.Common.{◌≡◌, ℕ, ◌<◌, Bool, true, false, cond, List, [], ◌∷◌, ◌++◌, length, get_or, refl, sym, ap, ◌∙◌, subst, ⊎_elim, arith, append_assoc}
+use Rattle.std.proofs.Common.{length-append}
 use Rattle.std.proofs.lemmas.List.{get_or_default, get_or_append_left}
 use Rattle.std.proofs.lemmas.List.Elements.{All-contains, All-push, Contains-append_left, Contains-push_cases}
 use Rattle.std.specs.List.{Contains}
@@ -21,7 +22,8 @@ use Rattle.bf_spec.specs.Nodes.{path_of, asked_of, HasPath, IsNode, IsChild, Are
 
 -- ---- paths
 
-pub asked_at-append : (graph : List (List ℕ)) (a : Asked) (path more : List Mark) → asked_at graph a (path ++ more) ≡ asked_at graph (asked_at graph a path) more
+pub asked_at-append : (graph : List (List ℕ)) (a : Asked) (path more : List Mark)
+    → asked_at graph a (path ++ more) ≡ asked_at graph (asked_at graph a path) more
 asked_at-append graph a [] more = refl
 asked_at-append graph a (m ∷ ms) more = asked_at-append graph (next_asked graph a m) ms more
 
@@ -98,7 +100,8 @@ same_nodes nodes = record { more = []; grown = sym (append_nil nodes) }
 pub HasPath-push : (nodes : List Node) (node : Node) (path : List Mark) → HasPath nodes path → HasPath (nodes ++ node ∷ []) path
 HasPath-push nodes node path h = record { node = h.node; among = Contains-append_left nodes (node ∷ []) h.node h.among; has = h.has }
 
-pub tree_push : (graph : List (List ℕ)) (nodes : List Node) (parent child : Node) (m : Mark) → Contains nodes parent → IsChild graph parent m child → StaysTree graph nodes (nodes ++ child ∷ [])
+pub tree_push : (graph : List (List ℕ)) (nodes : List Node) (parent child : Node) (m : Mark) → Contains nodes parent → IsChild graph parent m child
+    → StaysTree graph nodes (nodes ++ child ∷ [])
 tree_push graph nodes parent child m among is = λ session root t.
     let here : IsNode graph session root parent = All-contains (IsNode graph session root) nodes parent t.each among in
     record {
@@ -107,7 +110,8 @@ tree_push graph nodes parent child m among is = λ session root t.
       settled = t.settled;
       rooted = HasPath-push nodes child [] t.rooted;
       each = All-push (IsNode graph session root) nodes child t.each (record {
-        asked = is.asked ∙ ap (λ (a : Asked). next_asked graph a m) here.asked ∙ sym (asked_at-append graph root (path_of parent) (m ∷ [])) ∙ ap (λ (p : List Mark). asked_at graph root p) (sym is.path);
+        asked = is.asked ∙ ap (λ (a : Asked). next_asked graph a m) here.asked ∙ sym (asked_at-append graph root (path_of parent) (m ∷ [])) ∙ ap
+            (λ (p : List Mark). asked_at graph root p) (sym is.path);
         session = is.session ∙ ap (λ (s : Session). with_search s child.state.search) here.session;
         sight = is.sight;
         below = is.below;
@@ -122,14 +126,17 @@ tree_push graph nodes parent child m among is = λ session root t.
     }
 
 -- a place that a node asks is a place of the graph
-pub asked_within : (graph : List (List ℕ)) (nodes : List Node) (node : Node) (p : ℕ) → AreNodes graph nodes → Contains nodes node → node.step.ask ≡ Test p → p < length graph
+pub asked_within : (graph : List (List ℕ)) (nodes : List Node) (node : Node) (p : ℕ) → AreNodes graph nodes → Contains nodes node → node.step.ask ≡ Test p
+    → p < length graph
 asked_within graph nodes node p t among h =
     let here : IsNode graph t.session t.root node = All-contains (IsNode graph t.session t.root) nodes node t.tree.each among in
-    let settled : IsSettled graph (asked_of node) = subst (λ (a : Asked). IsSettled graph a) (sym here.asked) (settled_at graph t.root (path_of node) t.tree.settled) in
+    let settled : IsSettled graph (asked_of node) = subst (λ (a : Asked). IsSettled graph a) (sym here.asked)
+    (settled_at graph t.root (path_of node) t.tree.settled) in
     (asking graph node.state.search p t.tree.parents (settled.step ∙ h)).asks_for.within
 
 -- what a node has in sight are its candidates
-pub sight_of : (graph : List (List ℕ)) (nodes : List Node) (node : Node) → AreNodes graph nodes → Contains nodes node → IsSight graph node.state.search node.sight
+pub sight_of : (graph : List (List ℕ)) (nodes : List Node) (node : Node) → AreNodes graph nodes → Contains nodes node
+    → IsSight graph node.state.search node.sight
 sight_of graph nodes node t among = (All-contains (IsNode graph t.session t.root) nodes node t.tree.each among).sight
 
 -- ---- lists of nodes that grow
@@ -137,8 +144,10 @@ sight_of graph nodes node t among = (All-contains (IsNode graph t.session t.root
 pub extends_same : (graph : List (List ℕ)) (nodes : List Node) → Extends graph nodes nodes
 extends_same graph nodes = record { grows = same_nodes nodes; stays = same_tree graph nodes }
 
-pub extends_push : (graph : List (List ℕ)) (nodes : List Node) (parent child : Node) (m : Mark) → Contains nodes parent → IsChild graph parent m child → Extends graph nodes (nodes ++ child ∷ [])
-extends_push graph nodes parent child m among is = record { grows = record { more = child ∷ []; grown = refl }; stays = tree_push graph nodes parent child m among is }
+pub extends_push : (graph : List (List ℕ)) (nodes : List Node) (parent child : Node) (m : Mark) → Contains nodes parent → IsChild graph parent m child
+    → Extends graph nodes (nodes ++ child ∷ [])
+extends_push graph nodes parent child m among is = record
+    { grows = record { more = child ∷ []; grown = refl }; stays = tree_push graph nodes parent child m among is }
 
 pub extends_trans : (graph : List (List ℕ)) (one two three : List Node) → Extends graph one two → Extends graph two three → Extends graph one three
 extends_trans graph one two three a b = record {

@@ -32,9 +32,12 @@ append_nil [] = refl
 append_nil (x ∷ xs) = ap (λ ys. x ∷ ys) (append_nil xs)
 
 -- a run that ends in the state of a node
-pub walked_here : (graph : List (List ℕ)) (session : Session) (root : Asked) (nodes : List Node) (whole : Run) (walked : Walked) (node : Node) (es : List Entry) (us : List (ℕ × Outcome)) (end : End)
-    → IsTree graph session root nodes → Contains nodes node → whole ≡ behind es us (ended [] node.state.search end) → path_of node ≡ marks_of es → ((p : ℕ) → end ≡ Open p → node.step.ask ≡ Test p)
-    → walked.entries.items ≡ es → walked.used.items ≡ us → Tells walked.ending end → walked.state ≡ node.state → walked.path.items ≡ path_of node → IsWalked graph session root nodes whole walked
+pub walked_here : (graph : List (List ℕ)) (session : Session) (root : Asked) (nodes : List Node) (whole : Run) (walked : Walked) (node : Node) (es : List Entry)
+    (us : List (ℕ × Outcome)) (end : End)
+    → IsTree graph session root nodes → Contains nodes node → whole ≡ behind es us (ended [] node.state.search end) → path_of node ≡ marks_of es
+    → ((p : ℕ) → end ≡ Open p → node.step.ask ≡ Test p)
+    → walked.entries.items ≡ es → walked.used.items ≡ us → Tells walked.ending end → walked.state ≡ node.state → walked.path.items ≡ path_of node
+    → IsWalked graph session root nodes whole walked
 walked_here graph session root nodes whole walked node es us end t among is marks asks entries used ending state path =
     subst (λ (r : Run). IsWalked graph session root nodes r walked) (sym is)
     (record {
@@ -55,21 +58,28 @@ walked_here graph session root nodes whole walked node es us end t among is mark
     asked = ap (λ (ms : List Mark). asked_at graph root ms) path ∙ sym here.asked
 
 -- a run that ends with an answer
-pub walked_answer : (graph : List (List ℕ)) (session : Session) (root : Asked) (nodes : List Node) (whole : Run) (walked : Walked) (node : Node) (es : List Entry) (us : List (ℕ × Outcome))
-    → IsTree graph session root nodes → Contains nodes node → whole ≡ behind es us (ended (answer_entries node.step.ask) node.state.search (Answered node.step.ask)) → path_of node ≡ marks_of es
-    → walked.entries.items ≡ es ++ answer_entries node.step.ask → walked.used.items ≡ us → Tells walked.ending (Answered node.step.ask) → walked.state ≡ node.state → walked.path.items ≡ path_of node → IsWalked graph session root nodes whole walked
+pub walked_answer : (graph : List (List ℕ)) (session : Session) (root : Asked) (nodes : List Node) (whole : Run) (walked : Walked) (node : Node)
+    (es : List Entry) (us : List (ℕ × Outcome))
+    → IsTree graph session root nodes → Contains nodes node
+    → whole ≡ behind es us (ended (answer_entries node.step.ask) node.state.search (Answered node.step.ask)) → path_of node ≡ marks_of es
+    → walked.entries.items ≡ es ++ answer_entries node.step.ask → walked.used.items ≡ us → Tells walked.ending (Answered node.step.ask)
+    → walked.state ≡ node.state → walked.path.items ≡ path_of node → IsWalked graph session root nodes whole walked
 walked_answer graph session root nodes whole walked node es us t among is marks entries used ending state path =
     walked_here graph session root nodes whole walked node (es ++ answer_entries node.step.ask) us (Answered node.step.ask) t among
-    (is ∙ ap (λ (xs : List Entry). record (ended [] node.state.search (Answered node.step.ask)) { entries = xs; used = us ++ [] }) (sym (append_nil (es ++ answer_entries node.step.ask))))
+    (is ∙ ap (λ (xs : List Entry). record (ended [] node.state.search (Answered node.step.ask)) { entries = xs; used = us ++ [] })
+    (sym (append_nil (es ++ answer_entries node.step.ask))))
     (marks ∙ sym (marks_answer es node.step.ask)) (λ p e. absurd (not_open p e)) entries used ending state path
   where
     not_open : (p : ℕ) → Answered node.step.ask ≡ Open p → ⊥
     not_open p e = cc
 
 -- a run whose leg is over after a mark that leads from one node to another
-pub walked_over : (graph : List (List ℕ)) (session : Session) (root : Asked) (nodes : List Node) (whole : Run) (walked : Walked) (from to : Node) (m : Mark) (p : ℕ) (es : List Entry) (us : List (ℕ × Outcome))
-    → IsTree graph session root nodes → Contains nodes from → Contains nodes to → whole ≡ behind es us (ended [] (mark from.state.search m p) Leg) → path_of to ≡ marks_of es
-    → walked.entries.items ≡ es → walked.used.items ≡ us → Tells walked.ending Leg → walked.state ≡ with_search from.state (mark from.state.search m p) → walked.path.items ≡ path_of to → IsWalked graph session root nodes whole walked
+pub walked_over : (graph : List (List ℕ)) (session : Session) (root : Asked) (nodes : List Node) (whole : Run) (walked : Walked) (from to : Node) (m : Mark)
+    (p : ℕ) (es : List Entry) (us : List (ℕ × Outcome))
+    → IsTree graph session root nodes → Contains nodes from → Contains nodes to → whole ≡ behind es us (ended [] (mark from.state.search m p) Leg)
+    → path_of to ≡ marks_of es
+    → walked.entries.items ≡ es → walked.used.items ≡ us → Tells walked.ending Leg → walked.state ≡ with_search from.state (mark from.state.search m p)
+    → walked.path.items ≡ path_of to → IsWalked graph session root nodes whole walked
 walked_over graph session root nodes whole walked from to m p es us t one other is marks entries used ending state path =
     subst (λ (r : Run). IsWalked graph session root nodes r walked) (sym is)
     (record {
@@ -95,68 +105,87 @@ pub if_ok : {E T : Type 0} {P Q : T → Type 0} (r : Result T E) → IfOk r P �
 if_ok (Ok x) p f = f x p
 if_ok (Err e) p f = tt
 
-module _ (graph : List (List ℕ)) (session : Session) (root : Asked) (nodes : List Node) (whole : Run) (walked : Walked) (t : IsTree graph session root nodes) where
-  pub waits_walked : (i : ℕ) (node : Node) (trail : Trail) → node ≡ get_or nodes i node → HaltsAt nodes trail.entries.items trail.used.items (halts.Waits i) whole → IsEndedAt node trail None walked → IsWalked graph session root nodes whole walked
-  waits_walked i node trail e at is =
-      walked_here graph session root nodes whole walked node trail.entries.items trail.used.items (Open here.0) t (i, at.0, sym e) here.2 here.3
-      (λ q k. here.1 ∙ ap (λ (x : ℕ). Test x) (same here.0 q k))
-      (ap (λ v. v.items) is.entries) (ap (λ v. v.items) is.used) (subst (λ (o : Option Ending). Tells o (Open here.0)) (sym is.ending) refl) is.state is.path
-    where
-      here : (p : ℕ) × (node.step.ask ≡ Test p) × (whole ≡ behind trail.entries.items trail.used.items (ended [] node.state.search (Open p))) × (path_of node ≡ marks_of trail.entries.items)
-      here = subst (λ (n : Node). (p : ℕ) × (n.step.ask ≡ Test p) × (whole ≡ behind trail.entries.items trail.used.items (ended [] n.state.search (Open p))) × (path_of n ≡ marks_of trail.entries.items)) (sym e) (at.1 node)
+module _ (graph : List (List ℕ)) (session : Session) (root : Asked) (nodes : List Node) (whole : Run) (walked : Walked) (t : IsTree graph session root nodes)
+  where
+    pub waits_walked : (i : ℕ) (node : Node) (trail : Trail) → node ≡ get_or nodes i node
+        → HaltsAt nodes trail.entries.items trail.used.items (halts.Waits i) whole → IsEndedAt node trail None walked
+        → IsWalked graph session root nodes whole walked
+    waits_walked i node trail e at is =
+        walked_here graph session root nodes whole walked node trail.entries.items trail.used.items (Open here.0) t (i, at.0, sym e) here.2 here.3
+        (λ q k. here.1 ∙ ap (λ (x : ℕ). Test x) (same here.0 q k))
+        (ap (λ v. v.items) is.entries) (ap (λ v. v.items) is.used) (subst (λ (o : Option Ending). Tells o (Open here.0)) (sym is.ending) refl) is.state is.path
+      where
+        here : (p : ℕ) × (node.step.ask ≡ Test p) × (whole ≡ behind trail.entries.items trail.used.items (ended [] node.state.search (Open p)))
+            × (path_of node ≡ marks_of trail.entries.items)
+        here = subst (λ (n : Node). (p : ℕ) × (n.step.ask ≡ Test p) × (whole ≡ behind trail.entries.items trail.used.items (ended [] n.state.search (Open p)))
+            × (path_of n ≡ marks_of trail.entries.items)) (sym e) (at.1 node)
 
-      same : (p q : ℕ) → Open p ≡ Open q → p ≡ q
-      same p q k = cc
+        same : (p q : ℕ) → Open p ≡ Open q → p ≡ q
+        same p q k = cc
 
-  pub aborted_walked : (i p : ℕ) (outcome : Outcome) (node : Node) (trail : Trail) → node ≡ get_or nodes i node → HaltsAt nodes trail.entries.items trail.used.items (halts.Aborted i p outcome) whole → IsEndedAt node trail (Some (endings.Aborted p outcome)) walked
-      → IsWalked graph session root nodes whole walked
-  aborted_walked i p outcome node trail e at is =
-      walked_here graph session root nodes whole walked node trail.entries.items trail.used.items (Aborted p outcome) t (i, at.0, sym e) here.0 here.1
-      (λ q k. absurd (no q k))
-      (ap (λ v. v.items) is.entries) (ap (λ v. v.items) is.used) (subst (λ (o : Option Ending). Tells o (Aborted p outcome)) (sym is.ending) (refl, refl)) is.state is.path
-    where
-      here : (whole ≡ behind trail.entries.items trail.used.items (ended [] node.state.search (Aborted p outcome))) × (path_of node ≡ marks_of trail.entries.items)
-      here = subst (λ (n : Node). (whole ≡ behind trail.entries.items trail.used.items (ended [] n.state.search (Aborted p outcome))) × (path_of n ≡ marks_of trail.entries.items)) (sym e) (at.1 node)
+    pub aborted_walked : (i p : ℕ) (outcome : Outcome) (node : Node) (trail : Trail) → node ≡ get_or nodes i node
+        → HaltsAt nodes trail.entries.items trail.used.items (halts.Aborted i p outcome) whole → IsEndedAt node trail (Some (endings.Aborted p outcome)) walked
+        → IsWalked graph session root nodes whole walked
+    aborted_walked i p outcome node trail e at is =
+        walked_here graph session root nodes whole walked node trail.entries.items trail.used.items (Aborted p outcome) t (i, at.0, sym e) here.0 here.1
+        (λ q k. absurd (no q k))
+        (ap (λ v. v.items) is.entries) (ap (λ v. v.items) is.used) (subst (λ (o : Option Ending). Tells o (Aborted p outcome)) (sym is.ending) (refl, refl))
+        is.state is.path
+      where
+        here : (whole ≡ behind trail.entries.items trail.used.items (ended [] node.state.search (Aborted p outcome)))
+            × (path_of node ≡ marks_of trail.entries.items)
+        here = subst (λ (n : Node). (whole ≡ behind trail.entries.items trail.used.items (ended [] n.state.search (Aborted p outcome)))
+            × (path_of n ≡ marks_of trail.entries.items)) (sym e) (at.1 node)
 
-      no : (q : ℕ) → Aborted p outcome ≡ Open q → ⊥
-      no q k = cc
+        no : (q : ℕ) → Aborted p outcome ≡ Open q → ⊥
+        no q k = cc
 
-  pub answered_walked : (i : ℕ) (d node : Node) (old trail : Trail) (ending : Ending) → node ≡ get_or nodes i node → HaltsAt nodes old.entries.items old.used.items (halts.Answered i) whole
-      → trail.entries.items ≡ old.entries.items ++ answer_entries (get_or nodes i d).step.ask → trail.used ≡ old.used → end_of ending ≡ Answered (get_or nodes i d).step.ask → IsEndedAt node trail (Some ending) walked → IsWalked graph session root nodes whole walked
-  answered_walked i d node old trail ending e at entries used tells is =
-      walked_answer graph session root nodes whole walked node old.entries.items old.used.items t (i, at.0, sym e) here.0 here.1
-      (ap (λ v. v.items) is.entries ∙ entries ∙ ap (λ (n : Node). old.entries.items ++ answer_entries n.step.ask) same)
-      (ap (λ v. v.items) (is.used ∙ used))
-      (subst (λ (o : Option Ending). Tells o (Answered node.step.ask)) (sym is.ending) (tells ∙ ap (λ (n : Node). Answered n.step.ask) same, refl)) is.state is.path
-    where
-      same : get_or nodes i d ≡ node
-      same = read_as nodes i node d at.0 e
+    pub answered_walked : (i : ℕ) (d node : Node) (old trail : Trail) (ending : Ending) → node ≡ get_or nodes i node
+        → HaltsAt nodes old.entries.items old.used.items (halts.Answered i) whole
+        → trail.entries.items ≡ old.entries.items ++ answer_entries (get_or nodes i d).step.ask → trail.used ≡ old.used
+        → end_of ending ≡ Answered (get_or nodes i d).step.ask → IsEndedAt node trail (Some ending) walked → IsWalked graph session root nodes whole walked
+    answered_walked i d node old trail ending e at entries used tells is =
+        walked_answer graph session root nodes whole walked node old.entries.items old.used.items t (i, at.0, sym e) here.0 here.1
+        (ap (λ v. v.items) is.entries ∙ entries ∙ ap (λ (n : Node). old.entries.items ++ answer_entries n.step.ask) same)
+        (ap (λ v. v.items) (is.used ∙ used))
+        (subst (λ (o : Option Ending). Tells o (Answered node.step.ask)) (sym is.ending) (tells ∙ ap (λ (n : Node). Answered n.step.ask) same, refl)) is.state
+        is.path
+      where
+        same : get_or nodes i d ≡ node
+        same = read_as nodes i node d at.0 e
 
-      here : (whole ≡ behind old.entries.items old.used.items (ended (answer_entries node.step.ask) node.state.search (Answered node.step.ask))) × (path_of node ≡ marks_of old.entries.items)
-      here = subst (λ (n : Node). (whole ≡ behind old.entries.items old.used.items (ended (answer_entries n.step.ask) n.state.search (Answered n.step.ask))) × (path_of n ≡ marks_of old.entries.items)) (sym e) ((at.1 node).1, (at.1 node).2)
+        here : (whole ≡ behind old.entries.items old.used.items (ended (answer_entries node.step.ask) node.state.search (Answered node.step.ask)))
+            × (path_of node ≡ marks_of old.entries.items)
+        here = subst (λ (n : Node). (whole ≡ behind old.entries.items old.used.items (ended (answer_entries n.step.ask) n.state.search (Answered n.step.ask)))
+            × (path_of n ≡ marks_of old.entries.items)) (sym e) ((at.1 node).1, (at.1 node).2)
 
-  pub over_walked : (i j p : ℕ) (m : Mark) (from to : Node) (trail : Trail) → from ≡ get_or nodes i from → to ≡ get_or nodes j to → HaltsAt nodes trail.entries.items trail.used.items (halts.Over i j m p) whole → IsOverAt from to m p trail walked
-      → IsWalked graph session root nodes whole walked
-  over_walked i j p m from to trail e f at is =
-      walked_over graph session root nodes whole walked from to m p trail.entries.items trail.used.items t (i, at.0, sym e) (j, at.1, sym f)
-      (subst (λ (n : Node). whole ≡ behind trail.entries.items trail.used.items (ended [] (mark n.state.search m p) Leg)) (sym e) (at.2 from).0)
-      (subst (λ (n : Node). path_of n ≡ marks_of trail.entries.items) (sym f) (at.2 to).1)
-      (ap (λ v. v.items) is.entries) (ap (λ v. v.items) is.used) (subst (λ (o : Option Ending). Tells o Leg) (sym is.ending) (refl, refl)) is.state is.path
+    pub over_walked : (i j p : ℕ) (m : Mark) (from to : Node) (trail : Trail) → from ≡ get_or nodes i from → to ≡ get_or nodes j to
+        → HaltsAt nodes trail.entries.items trail.used.items (halts.Over i j m p) whole → IsOverAt from to m p trail walked
+        → IsWalked graph session root nodes whole walked
+    over_walked i j p m from to trail e f at is =
+        walked_over graph session root nodes whole walked from to m p trail.entries.items trail.used.items t (i, at.0, sym e) (j, at.1, sym f)
+        (subst (λ (n : Node). whole ≡ behind trail.entries.items trail.used.items (ended [] (mark n.state.search m p) Leg)) (sym e) (at.2 from).0)
+        (subst (λ (n : Node). path_of n ≡ marks_of trail.entries.items) (sym f) (at.2 to).1)
+        (ap (λ v. v.items) is.entries) (ap (λ v. v.items) is.used) (subst (λ (o : Option Ending). Tells o Leg) (sym is.ending) (refl, refl)) is.state is.path
 
 -- the place of a leg's last mark
-pub over_within : (graph : List (List ℕ)) (nodes : List Node) (whole : Run) (es : List Entry) (us : List (ℕ × Outcome)) (i j p : ℕ) (m : Mark) (node : Node) → AreNodes graph nodes → node ≡ get_or nodes i node → HaltsAt nodes es us (halts.Over i j m p) whole → p < node.state.len
+pub over_within : (graph : List (List ℕ)) (nodes : List Node) (whole : Run) (es : List Entry) (us : List (ℕ × Outcome)) (i j p : ℕ) (m : Mark) (node : Node)
+    → AreNodes graph nodes → node ≡ get_or nodes i node → HaltsAt nodes es us (halts.Over i j m p) whole → p < node.state.len
 over_within graph nodes whole es us i j p m node t e at =
-    subst (λ (n : ℕ). p < n) (sym (ap (λ (s : Session). s.len) (All-contains (IsNode graph t.session t.root) nodes node t.tree.each (i, at.0, sym e)).session ∙ t.tree.len))
+    subst (λ (n : ℕ). p < n) (sym (ap (λ (s : Session). s.len) (All-contains (IsNode graph t.session t.root) nodes node t.tree.each (i, at.0, sym e)).session ∙
+    t.tree.len))
     (asked_within graph nodes node p t (i, at.0, sym e) (subst (λ (n : Node). n.step.ask ≡ Test p) (sym e) (at.2 node).2))
 
 -- ---- from the root
 
 -- the node of the root
-pub root_search : (graph : List (List ℕ)) (session : Session) (root : Asked) (nodes : List Node) (i : ℕ) (d : Node) → IsTree graph session root nodes → i < length nodes → ((e : Node) → path_of (get_or nodes i e) ≡ []) → asked_of (get_or nodes i d) ≡ root
+pub root_search : (graph : List (List ℕ)) (session : Session) (root : Asked) (nodes : List Node) (i : ℕ) (d : Node) → IsTree graph session root nodes
+    → i < length nodes → ((e : Node) → path_of (get_or nodes i e) ≡ []) → asked_of (get_or nodes i d) ≡ root
 root_search graph session root nodes i d t l is = root_node graph session root nodes (get_or nodes i d) t (Contains-get_or nodes i d l) (is d)
 
 -- the run from the root is the one below its node
-pub run_root : (graph : List (List ℕ)) (known : Outcomes) (left : Option ℕ) (session : Session) (root : Asked) (nodes : List Node) (i : ℕ) (d : Node) → IsTree graph session root nodes → i < length nodes → ((e : Node) → path_of (get_or nodes i e) ≡ []) → is_over left ≡ false
+pub run_root : (graph : List (List ℕ)) (known : Outcomes) (left : Option ℕ) (session : Session) (root : Asked) (nodes : List Node) (i : ℕ) (d : Node)
+    → IsTree graph session root nodes → i < length nodes → ((e : Node) → path_of (get_or nodes i e) ≡ []) → is_over left ≡ false
     → run graph known left root.search ≡ run_below graph known left (get_or nodes i d)
 run_root graph known left session root nodes i d t l is on =
     let facts = node_facts graph nodes (get_or nodes i d) (record { session = session; root = root; tree = t }) (Contains-get_or nodes i d l) in
@@ -164,8 +193,10 @@ run_root graph known left session root nodes i d t l is on =
     ∙ run_node graph known left (get_or nodes i d) facts facts.settled.warned on
 
 -- no mark is left
-pub spent_walked : (graph : List (List ℕ)) (known : Outcomes) (left : Option ℕ) (session : Session) (root : Asked) (nodes : List Node) (i : ℕ) (node : Node) (trail : Trail) (walked : Walked) → IsTree graph session root nodes → i < length nodes
-    → ((e : Node) → path_of (get_or nodes i e) ≡ []) → node ≡ get_or nodes i node → is_over left ≡ true → trail.entries.items ≡ [] → trail.used.items ≡ [] → IsEndedAt node trail (Some endings.Leg) walked
+pub spent_walked : (graph : List (List ℕ)) (known : Outcomes) (left : Option ℕ) (session : Session) (root : Asked) (nodes : List Node) (i : ℕ) (node : Node)
+    (trail : Trail) (walked : Walked) → IsTree graph session root nodes → i < length nodes
+    → ((e : Node) → path_of (get_or nodes i e) ≡ []) → node ≡ get_or nodes i node → is_over left ≡ true → trail.entries.items ≡ [] → trail.used.items ≡ []
+    → IsEndedAt node trail (Some endings.Leg) walked
     → IsWalked graph session root nodes (run graph known left root.search) walked
 spent_walked graph known left session root nodes i node trail walked t l is e over entries used ends =
     walked_here graph session root nodes (run graph known left root.search) walked node [] [] Leg t (i, l, sym e)

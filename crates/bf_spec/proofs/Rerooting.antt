@@ -1,5 +1,6 @@
 -- Trees whose root moves on.
-use Rattle.std.proofs.Common.{◌≡◌, ℕ, zero, suc, ◌<◌, ◌≤◌, ◌⊎◌, Bool, true, cond, List, [], ◌∷◌, ◌++◌, length, get_or, drop, Option, Some, None, Result, Ok, Err, refl, sym, ap, ◌∙◌, subst, inl, inr, ⊎_elim, arith, append_assoc}
+use Rattle.std.proofs.Common.{◌≡◌, ℕ, zero, suc, ◌<◌, ◌≤◌, ◌⊎◌, Bool, true, cond, List, [], ◌∷◌, ◌++◌, length, get_or, drop, Option, Some, None, Result, Ok}
+use Rattle.std.proofs.Common.{Err, refl, sym, ap, ◌∙◌, subst, inl, inr, ⊎_elim, arith, append_assoc}
 use Rattle.std.proofs.lemmas.Bool.{cases_Bool, cond-true, cond-false, and_parts, and_from}
 use Rattle.std.proofs.lemmas.List.Elements.{All-contains, All-filter, All-head, All-tail, filter_passes, Contains-get_or}
 use Rattle.std.specs.List.{All, Contains, filter}
@@ -35,12 +36,16 @@ filter_has {X} test (y ∷ ys) x (zero, l, e) t =
 filter_has {X} test (y ∷ ys) x (suc k, l, e) t =
     let rest : Contains (filter test ys) x = filter_has test ys x (k, omega arith, e) t in
     ⊎_elim
-    (λ yes. subst (λ (zs : List X). Contains zs x) (sym (cond-true (test y) (y ∷ filter test ys) (filter test ys) yes)) (suc rest.0, omega (arith, rest.1), rest.2))
+    (λ yes. subst (λ (zs : List X). Contains zs x) (sym (cond-true (test y) (y ∷ filter test ys) (filter test ys) yes))
+    (suc rest.0, omega (arith, rest.1), rest.2))
     (λ fails. subst (λ (zs : List X). Contains zs x) (sym (cond-false (test y) (y ∷ filter test ys) (filter test ys) fails)) rest)
     (cases_Bool (test y))
 
 pub filter_from : {X : Type 0} (test : X → Bool) (xs : List X) (x : X) → Contains (filter test xs) x → Contains xs x × (test x ≡ true)
-filter_from {X} test xs x c = (All-contains (Contains xs) (filter test xs) x (All-filter test (Contains xs) xs (λ k d l. Contains-get_or xs k d l)) c, All-contains (λ (y : X). test y ≡ true) (filter test xs) x (filter_passes test xs) c)
+filter_from {X} test xs x c = (
+  All-contains (Contains xs) (filter test xs) x (All-filter test (Contains xs) xs (λ k d l. Contains-get_or xs k d l)) c,
+  All-contains (λ (y : X). test y ≡ true) (filter test xs) x (filter_passes test xs) c,
+)
 
 -- ---- paths that begin with some marks
 
@@ -84,10 +89,12 @@ begins_long (m ∷ ms) (n ∷ ns) h = omega (arith, begins_long ms ns (and_parts
 
 -- The nodes are those whose paths begin with some marks, each without them.
 pub record IsKept (prefix : List Mark) (old new : List Node) : Type 0 where
-  pub each : (node : Node) → Contains new node → (before : Node) × Contains old before × (path_of before ≡ prefix ++ path_of node) × (asked_of node ≡ asked_of before) × (node.state ≡ before.state) × (node.sight ≡ before.sight)
+  pub each : (node : Node) → Contains new node → (before : Node) × Contains old before × (path_of before ≡ prefix ++ path_of node)
+      × (asked_of node ≡ asked_of before) × (node.state ≡ before.state) × (node.sight ≡ before.sight)
   pub all : (path : List Mark) → HasPath old (prefix ++ path) → HasPath new path
 
-sight_as : (graph : List (List ℕ)) (one other : Node) → one.state ≡ other.state → one.sight ≡ other.sight → IsSight graph one.state.search one.sight → IsSight graph other.state.search other.sight
+sight_as : (graph : List (List ℕ)) (one other : Node) → one.state ≡ other.state → one.sight ≡ other.sight → IsSight graph one.state.search one.sight
+    → IsSight graph other.state.search other.sight
 sight_as graph one other h k is = subst (λ (x : Sight). IsSight graph other.state.search x) k (subst (λ (s : Session). IsSight graph s.search one.sight) h is)
 
 asked_same : (one other : Node) → one.state ≡ other.state → one.step ≡ other.step → asked_of one ≡ asked_of other
@@ -99,7 +106,8 @@ kept_by prefix old between new is len cut = record {
   each = λ node c.
       let room : c.0 < length between = omega (arith, len, c.1) in
       let k : IsCut (length prefix) (get_or between c.0 node) (get_or new c.0 node) = cut c.0 node room in
-      let from = filter_from (λ n. begins prefix (path_of n)) old (get_or between c.0 node) (subst (λ (xs : List Node). Contains xs (get_or between c.0 node)) is (Contains-get_or between c.0 node room)) in (
+      let from = filter_from (λ n. begins prefix (path_of n)) old (get_or between c.0 node)
+      (subst (λ (xs : List Node). Contains xs (get_or between c.0 node)) is (Contains-get_or between c.0 node room)) in (
         get_or between c.0 node,
         from.0,
         begins_as prefix (path_of (get_or between c.0 node)) from.1 ∙ ap (λ (p : List Mark). prefix ++ p) (sym k.path ∙ ap path_of c.2),
@@ -108,13 +116,15 @@ kept_by prefix old between new is len cut = record {
         ap (λ (n : Node). n.sight) (sym c.2) ∙ k.sight,
       );
   all = λ path h.
-      let in_between : Contains between h.node = subst (λ (xs : List Node). Contains xs h.node) (sym is) (filter_has (λ n. begins prefix (path_of n)) old h.node h.among (ap (λ (p : List Mark). begins prefix p) h.has ∙ begins_more prefix path)) in
+      let in_between : Contains between h.node = subst (λ (xs : List Node). Contains xs h.node) (sym is)
+      (filter_has (λ n. begins prefix (path_of n)) old h.node h.among (ap (λ (p : List Mark). begins prefix p) h.has ∙ begins_more prefix path)) in
       let room : in_between.0 < length new = omega (arith, len, in_between.1) in
       let k : IsCut (length prefix) (get_or between in_between.0 h.node) (get_or new in_between.0 h.node) = cut in_between.0 h.node in_between.1 in
       record {
         node = get_or new in_between.0 h.node;
         among = Contains-get_or new in_between.0 h.node room;
-        has = k.path ∙ ap (λ (n : Node). drop (length prefix) (path_of n)) in_between.2 ∙ ap (λ (p : List Mark). drop (length prefix) p) h.has ∙ drop_more prefix path;
+        has = k.path ∙ ap (λ (n : Node). drop (length prefix) (path_of n)) in_between.2 ∙ ap (λ (p : List Mark). drop (length prefix) p) h.has ∙ drop_more
+            prefix path;
       };
 }
 
@@ -122,7 +132,8 @@ settled_child : (graph : List (List ℕ)) (root : Asked) (m : Mark) → IsSettle
 settled_child graph root m h = settled_at graph root (m ∷ []) h
 
 -- the kept nodes are those of a tree whose root is the node of the marks
-pub kept_tree : (graph : List (List ℕ)) (session : Session) (root : Asked) (prefix : List Mark) (old new : List Node) → IsKept prefix old new → HasPath old prefix → IsTree graph session root old → IsTree graph session (asked_at graph root prefix) new
+pub kept_tree : (graph : List (List ℕ)) (session : Session) (root : Asked) (prefix : List Mark) (old new : List Node) → IsKept prefix old new
+    → HasPath old prefix → IsTree graph session root old → IsTree graph session (asked_at graph root prefix) new
 kept_tree graph session root prefix old new k child t = record {
   parents = t.parents;
   len = t.len;
@@ -141,7 +152,8 @@ kept_tree graph session root prefix old new k child t = record {
       };
   closed = λ path n h.
       let from = k.each h.node h.among in
-      k.all path (t.closed (prefix ++ path) n (record { node = from.0; among = from.1; has = from.2 ∙ ap (λ (p : List Mark). prefix ++ p) h.has ∙ sym (append_assoc prefix path (n ∷ [])) }));
+      k.all path (t.closed (prefix ++ path) n (record
+      { node = from.0; among = from.1; has = from.2 ∙ ap (λ (p : List Mark). prefix ++ p) h.has ∙ sym (append_assoc prefix path (n ∷ [])) }));
 }
   where
     append_none : (xs : List Mark) → xs ++ [] ≡ xs
@@ -182,23 +194,28 @@ root_found root (node ∷ nodes) all h =
     (λ m ms e. root_found root nodes (All-tail (IsRoot root) node nodes all) (later node nodes m ms e h))
 
 -- a node without marks has asked what the root has asked
-pub root_node : (graph : List (List ℕ)) (session : Session) (root : Asked) (nodes : List Node) (node : Node) → IsTree graph session root nodes → Contains nodes node → path_of node ≡ [] → asked_of node ≡ root
-root_node graph session root nodes node t among e = (All-contains (IsNode graph session root) nodes node t.each among).asked ∙ ap (λ (p : List Mark). asked_at graph root p) e
+pub root_node : (graph : List (List ℕ)) (session : Session) (root : Asked) (nodes : List Node) (node : Node) → IsTree graph session root nodes
+    → Contains nodes node → path_of node ≡ [] → asked_of node ≡ root
+root_node graph session root nodes node t among e = (All-contains (IsNode graph session root) nodes node t.each among).asked ∙ ap
+    (λ (p : List Mark). asked_at graph root p) e
 
-roots_are : (graph : List (List ℕ)) (session : Session) (root : Asked) (nodes : List Node) → IsTree graph session root nodes → rooted_of nodes ≡ record { session = with_search session root.search; step = root.step }
+roots_are : (graph : List (List ℕ)) (session : Session) (root : Asked) (nodes : List Node) → IsTree graph session root nodes
+    → rooted_of nodes ≡ record { session = with_search session root.search; step = root.step }
 roots_are graph session root nodes t =
     root_found (record { session = with_search session root.search; step = root.step }) nodes
     (λ i d l e.
     let among : Contains nodes (get_or nodes i d) = Contains-get_or nodes i d l in
     let is : asked_of (get_or nodes i d) ≡ root = root_node graph session root nodes (get_or nodes i d) t among e in
-    ap (λ (s : Session). record { session = s; step = (get_or nodes i d).step }) ((All-contains (IsNode graph session root) nodes (get_or nodes i d) t.each among).session)
+    ap (λ (s : Session). record { session = s; step = (get_or nodes i d).step })
+    ((All-contains (IsNode graph session root) nodes (get_or nodes i d) t.each among).session)
     ∙ ap (λ (a : Asked). record { session = with_search session a.search; step = a.step }) is)
     t.rooted
 
 pub root_is : (graph : List (List ℕ)) (session : Session) (root : Asked) (nodes : List Node) → IsTree graph session root nodes → root_of nodes ≡ root
 root_is graph session root nodes t = ap (λ (r : Rooted). record { search = r.session.search; step = r.step }) (roots_are graph session root nodes t)
 
-pub session_is : (graph : List (List ℕ)) (session : Session) (root : Asked) (nodes : List Node) → IsTree graph session root nodes → session_of nodes ≡ with_search session root.search
+pub session_is : (graph : List (List ℕ)) (session : Session) (root : Asked) (nodes : List Node) → IsTree graph session root nodes
+    → session_of nodes ≡ with_search session root.search
 session_is graph session root nodes t = ap (λ (r : Rooted). r.session) (roots_are graph session root nodes t)
 
 pub rooted_as : (graph : List (List ℕ)) (session : Session) (root : Asked) (nodes : List Node) → IsTree graph session root nodes → IsRooted graph nodes
@@ -233,20 +250,24 @@ path_to nodes path h = found nodes h.among
     found (x ∷ xs) (suc k, l, e) = let rest : Contains (paths_of xs) path = found xs (k, omega arith, e) in (suc rest.0, omega (arith, rest.1), rest.2)
 
 -- a prefix of a path that has a node has one
-pub prefix_has : (graph : List (List ℕ)) (session : Session) (root : Asked) (nodes : List Node) (begin end : List Mark) → IsTree graph session root nodes → HasPath nodes (begin ++ end) → HasPath nodes begin
+pub prefix_has : (graph : List (List ℕ)) (session : Session) (root : Asked) (nodes : List Node) (begin end : List Mark) → IsTree graph session root nodes
+    → HasPath nodes (begin ++ end) → HasPath nodes begin
 prefix_has graph session root nodes begin [] t h = subst (λ (p : List Mark). HasPath nodes p) (append_none begin) h
   where
     append_none : (xs : List Mark) → xs ++ [] ≡ xs
     append_none [] = refl
     append_none (x ∷ xs) = ap (λ ys. x ∷ ys) (append_none xs)
 prefix_has graph session root nodes begin (m ∷ ms) t h =
-    t.closed begin m (prefix_has graph session root nodes (begin ++ m ∷ []) ms t (subst (λ (p : List Mark). HasPath nodes p) (sym (append_assoc begin (m ∷ []) ms)) h))
+    t.closed begin m (prefix_has graph session root nodes (begin ++ m ∷ []) ms t
+    (subst (λ (p : List Mark). HasPath nodes p) (sym (append_assoc begin (m ∷ []) ms)) h))
 
 -- ---- trees that have a root alone
 
 -- the nodes of a tree with one node
-pub one_tree : (graph : List (List ℕ)) (session : Session) (root : Asked) (node : Node) → IsGraph graph → session.len ≡ length graph → IsSettled graph root → path_of node ≡ [] → asked_of node ≡ root
-    → node.state ≡ with_search session node.state.search → IsSight graph node.state.search node.sight → IsSearchBelow (length graph) node.state.search → HasEnds node.state.search → IsTree graph session root (node ∷ [])
+pub one_tree : (graph : List (List ℕ)) (session : Session) (root : Asked) (node : Node) → IsGraph graph → session.len ≡ length graph → IsSettled graph root
+    → path_of node ≡ [] → asked_of node ≡ root
+    → node.state ≡ with_search session node.state.search → IsSight graph node.state.search node.sight → IsSearchBelow (length graph) node.state.search
+    → HasEnds node.state.search → IsTree graph session root (node ∷ [])
 one_tree graph session root node g len settled path asked is sight below ends = record {
   parents = g;
   len = len;
@@ -268,7 +289,12 @@ one_tree graph session root node g len settled path asked is sight below ends = 
     snoc_some (n ∷ ns) m e = cc
 
 pub settled_ask : (graph : List (List ℕ)) (s : Search) → IsSettled graph (ask graph s)
-settled_ask graph s = record { search = ap (λ (x : Asked). x.search) (ask_again graph s); step = ap (λ (x : Asked). x.step.ask) (ask_again graph s); warned = ap (λ (x : Asked). x.step.warned) (ask_again graph s) }
+settled_ask graph s = record {
+  search = ap (λ (x : Asked). x.search) (ask_again graph s);
+  step = ap (λ (x : Asked). x.step.ask) (ask_again graph s);
+  warned = ap
+      (λ (x : Asked). x.step.warned) (ask_again graph s);
+}
 
 -- the node that was found has the path
 pub found_path : (nodes : List Node) (i : ℕ) (path : List Mark) → (i < length nodes) × ((d : Node) → path_of (get_or nodes i d) ≡ path) → HasPath nodes path
@@ -287,7 +313,8 @@ session_kept graph old new e r = session_is graph (session_of old) (root_of old)
 pub rooted_after : (graph : List (List ℕ)) (old new : List Node) → Extends graph old new → IsRooted graph old → IsRooted graph new
 rooted_after graph old new e r = rooted_as graph (session_of old) (root_of old) new (e.stays (session_of old) (root_of old) r)
 
-pub path_kept : (graph : List (List ℕ)) (old new : List Node) (path : List Mark) → Extends graph old new → Contains (paths_of old) path → Contains (paths_of new) path
+pub path_kept : (graph : List (List ℕ)) (old new : List Node) (path : List Mark) → Extends graph old new → Contains (paths_of old) path
+    → Contains (paths_of new) path
 path_kept graph old new path e c =
     let h : HasPath old path = path_from old path c in
     path_to new path (record { node = h.node; among = extends_has graph old new h.node e h.among; has = h.has })
@@ -304,19 +331,24 @@ found_has nodes (Some found) path h = h.3
 
 -- ---- the root moves on
 
-pub asks_at : (graph : List (List ℕ)) (session : Session) (root : Asked) (nodes : List Node) (i : ℕ) (d : Node) (p : ℕ) → IsTree graph session root nodes → (i < length nodes) × ((e : Node) → path_of (get_or nodes i e) ≡ []) → root.step.ask ≡ Test p → (get_or nodes i d).step.ask ≡ Test p
+pub asks_at : (graph : List (List ℕ)) (session : Session) (root : Asked) (nodes : List Node) (i : ℕ) (d : Node) (p : ℕ) → IsTree graph session root nodes
+    → (i < length nodes) × ((e : Node) → path_of (get_or nodes i e) ≡ []) → root.step.ask ≡ Test p → (get_or nodes i d).step.ask ≡ Test p
 asks_at graph session root nodes i d p t found h =
     ap (λ (a : Asked). a.step.ask) (root_node graph session root nodes (get_or nodes i d) t (Contains-get_or nodes i d found.0) (found.1 d)) ∙ h
 
-pub moved_tree : (graph : List (List ℕ)) (nodes : List Node) (i : ℕ) (node child new : Node) (m : Mark) → (i < length nodes) × ((e : Node) → path_of (get_or nodes i e) ≡ []) → node ≡ get_or nodes i node → IsChild graph node m child
-    → path_of new ≡ [] → new.state ≡ child.state → new.step ≡ child.step → new.sight ≡ child.sight → (session : Session) (root : Asked) → IsTree graph session root nodes → IsTree graph session (next_asked graph root m) (new ∷ [])
+pub moved_tree : (graph : List (List ℕ)) (nodes : List Node) (i : ℕ) (node child new : Node) (m : Mark)
+    → (i < length nodes) × ((e : Node) → path_of (get_or nodes i e) ≡ []) → node ≡ get_or nodes i node → IsChild graph node m child
+    → path_of new ≡ [] → new.state ≡ child.state → new.step ≡ child.step → new.sight ≡ child.sight → (session : Session) (root : Asked)
+    → IsTree graph session root nodes → IsTree graph session (next_asked graph root m) (new ∷ [])
 moved_tree graph nodes i node child new m found read is path state step sight session root t =
     one_tree graph session (next_asked graph root m) new t.parents t.len (settled_child graph root m t.settled) path
-    (asked_same new child state step ∙ is.asked ∙ ap (λ (a : Asked). next_asked graph a m) (root_node graph session root nodes node t among (ap path_of read ∙ found.1 node)))
+    (asked_same new child state step ∙ is.asked ∙ ap (λ (a : Asked). next_asked graph a m)
+    (root_node graph session root nodes node t among (ap path_of read ∙ found.1 node)))
     (state ∙ is.session ∙ ap (λ (s : Session). with_search s child.state.search) here.session ∙ ap (λ (s : Session). with_search session s.search) (sym state))
     (sight_as graph child new (sym state) (sym sight) is.sight)
     (subst (λ (s : Session). IsSearchBelow (length graph) s.search) (sym state) is.below)
-    (subst (λ (s : Session). HasEnds s.search) (sym state) (subst (λ (a : Asked). HasEnds a.search) (sym is.asked) (ends_next graph (asked_of node) m here.ends)))
+    (subst (λ (s : Session). HasEnds s.search) (sym state)
+    (subst (λ (a : Asked). HasEnds a.search) (sym is.asked) (ends_next graph (asked_of node) m here.ends)))
   where
     among : Contains nodes node
     among = (i, found.0, sym read)
@@ -339,7 +371,8 @@ pub record IsMoved (graph : List (List ℕ)) (old new : List Node) (to : Asked) 
   pub session : session_of new ≡ with_search (session_of old) (root_of new).search
   pub tree : IsRooted graph new
 
-pub root_moved : (graph : List (List ℕ)) (next : Asked → Asked) (old new : List Node) → ((session : Session) (root : Asked) → IsTree graph session root old → IsTree graph session (next root) new)
+pub root_moved : (graph : List (List ℕ)) (next : Asked → Asked) (old new : List Node)
+    → ((session : Session) (root : Asked) → IsTree graph session root old → IsTree graph session (next root) new)
     → IsRooted graph old → IsMoved graph old new (next (root_of old))
 root_moved graph next old new h r = record {
   root = is;
@@ -353,6 +386,8 @@ root_moved graph next old new h r = record {
     is : root_of new ≡ next (root_of old)
     is = root_is graph (session_of old) (next (root_of old)) new t
 
-pub root_step_at : (graph : List (List ℕ)) (session : Session) (root : Asked) (nodes : List Node) (i : ℕ) (d : Node) → IsTree graph session root nodes → (i < length nodes) × ((e : Node) → path_of (get_or nodes i e) ≡ []) → (get_or nodes i d).step ≡ (root_of nodes).step
+pub root_step_at : (graph : List (List ℕ)) (session : Session) (root : Asked) (nodes : List Node) (i : ℕ) (d : Node) → IsTree graph session root nodes
+    → (i < length nodes) × ((e : Node) → path_of (get_or nodes i e) ≡ []) → (get_or nodes i d).step ≡ (root_of nodes).step
 root_step_at graph session root nodes i d t found =
-    ap (λ (a : Asked). a.step) (root_node graph session root nodes (get_or nodes i d) t (Contains-get_or nodes i d found.0) (found.1 d) ∙ sym (root_is graph session root nodes t))
+    ap (λ (a : Asked). a.step) (root_node graph session root nodes (get_or nodes i d) t (Contains-get_or nodes i d found.0) (found.1 d) ∙ sym
+    (root_is graph session root nodes t))

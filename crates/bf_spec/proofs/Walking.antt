@@ -1,5 +1,6 @@
 -- Walks through a tree.
-use Rattle.std.proofs.Common.{◌≡◌, ℕ, zero, suc, ◌+◌, ◌<◌, ◌≤◌, Bool, true, false, ◌&&◌, ◌||◌, ◌==◌, cond, List, [], ◌∷◌, ◌++◌, length, get_or, Option, Some, None, refl, sym, ap, ◌∙◌, subst, ⊎_elim, arith, append_assoc, length-append}
+use Rattle.std.proofs.Common.{◌≡◌, ℕ, zero, suc, ◌+◌, ◌<◌, ◌≤◌, Bool, true, false, ◌&&◌, ◌||◌, ◌==◌, cond, List, [], ◌∷◌, ◌++◌, length, get_or, Option, Some}
+use Rattle.std.proofs.Common.{None, refl, sym, ap, ◌∙◌, subst, ⊎_elim, arith, append_assoc, length-append}
 use Rattle.std.proofs.lemmas.Bool.{cases_Bool, ltb-true, ltb-false, lt-ltb, le-ltb}
 use Rattle.std.proofs.lemmas.List.Elements.{All-contains, Contains-append_left, Contains-get_or}
 use Rattle.std.proofs.lemmas.Option.{slice_get-get_or}
@@ -26,7 +27,8 @@ use Rattle.bf_search.specs.declared.farm.Claim.{Claim}
 use Rattle.bf_search.specs.Reach.{places}
 use Rattle.bf_search.specs.Candidates.{is_candidate, candidate_row}
 use Rattle.bf_search.specs.Guesses.{is_candidate_below}
-use Rattle.bf_search.specs.OpenPaths.{OpenPath, left_of, is_claimed, is_better, better, followed_by, after_verdict, after_look, after_step, path_turn, best_open}
+use Rattle.bf_search.specs.OpenPaths.{OpenPath, left_of, is_claimed, is_better, better, followed_by, after_verdict, after_look, after_step, path_turn}
+use Rattle.bf_search.specs.OpenPaths.{best_open}
 use Rattle.bf_guesses.proofs.Turns.{best_open-is}
 use Rattle.bf_spec.specs.declared.node.Node.{Node}
 use Rattle.bf_spec.specs.declared.walk.Found.{Found}
@@ -69,18 +71,31 @@ module _ (graph : List (List ℕ)) (known : Outcomes) (claims : List Claim) (go 
   Tells Ended a = Unit {0}
   Tells (Free p) a = (a ≡ Test p) × (after_step graph known claims go u a ≡ Some (record { marks = []; place = p; left = left_of graph u }))
   Tells (Known p m) a = (a ≡ Test p) × (after_step graph known claims go u a ≡ followed_by m (go (mark u m p)))
-  Tells (Guess p) a = (a ≡ Test p) × (after_step graph known claims go u a ≡ better (followed_by Good (go (mark u Good p))) (followed_by Bad (go (mark u Bad p))))
+  Tells (Guess p) a = (a ≡ Test p) × (after_step graph known claims go u a ≡ better (followed_by Good (go (mark u Good p)))
+      (followed_by Bad (go (mark u Bad p))))
 
   step_tells : (a : Ask) → Tells (look_of known claims a) a
   step_tells (Test p) = by_outcome (known p) refl
     where
       by_claim : (b : Bool) → is_claimed claims p ≡ b → known p ≡ None → Tells (cond b (Guess p) (Free p)) (Test p)
-      by_claim true e n = (refl, ap (λ (o : Option Outcome). after_look graph claims go u p o) n ∙ ap (λ (b : Bool). Rattle.bf_search.specs.OpenPaths.after_claim graph go u p b) e)
-      by_claim false e n = (refl, ap (λ (o : Option Outcome). after_look graph claims go u p o) n ∙ ap (λ (b : Bool). Rattle.bf_search.specs.OpenPaths.after_claim graph go u p b) e)
+      by_claim true e n = (
+        refl,
+        ap (λ (o : Option Outcome). after_look graph claims go u p o) n ∙ ap
+            (λ (b : Bool). Rattle.bf_search.specs.OpenPaths.after_claim graph go u p b) e,
+      )
+      by_claim false e n = (
+        refl,
+        ap (λ (o : Option Outcome). after_look graph claims go u p o) n ∙ ap
+            (λ (b : Bool). Rattle.bf_search.specs.OpenPaths.after_claim graph go u p b) e,
+      )
 
       by_verdict : (outcome : Outcome) (v : Verdict) → verdict_of outcome ≡ v → known p ≡ Some outcome → Tells (look_of_verdict p v) (Test p)
       by_verdict outcome Abort e n = tt
-      by_verdict outcome (MarkOf m) e n = (refl, ap (λ (o : Option Outcome). after_look graph claims go u p o) n ∙ ap (λ (v : Verdict). after_verdict go u p v) e)
+      by_verdict outcome (MarkOf m) e n = (
+        refl,
+        ap (λ (o : Option Outcome). after_look graph claims go u p o) n ∙ ap (λ (v : Verdict). after_verdict go u p v)
+            e,
+      )
 
       by_outcome : (o : Option Outcome) → known p ≡ o → Tells (look_of_outcome claims p o) (Test p)
       by_outcome None n = by_claim (is_claimed claims p) refl n
@@ -114,14 +129,17 @@ node_facts graph nodes node t among =
     }
 
 -- a node one mark further has asked what is asked there
-pub child_asks : (graph : List (List ℕ)) (nodes : List Node) (parent child : Node) (m : Mark) → AreNodes graph nodes → Contains nodes parent → Contains nodes child → path_of child ≡ path_of parent ++ m ∷ []
+pub child_asks : (graph : List (List ℕ)) (nodes : List Node) (parent child : Node) (m : Mark) → AreNodes graph nodes → Contains nodes parent
+    → Contains nodes child → path_of child ≡ path_of parent ++ m ∷ []
     → asked_of child ≡ next_asked graph (asked_of parent) m
 child_asks graph nodes parent child m t above below is =
     let one : IsNode graph t.session t.root parent = All-contains (IsNode graph t.session t.root) nodes parent t.tree.each above in
     let other : IsNode graph t.session t.root child = All-contains (IsNode graph t.session t.root) nodes child t.tree.each below in
-    other.asked ∙ ap (λ (p : List Mark). asked_at graph t.root p) is ∙ asked_at-append graph t.root (path_of parent) (m ∷ []) ∙ ap (λ (a : Asked). next_asked graph a m) (sym one.asked)
+    other.asked ∙ ap (λ (p : List Mark). asked_at graph t.root p) is ∙ asked_at-append graph t.root (path_of parent) (m ∷ []) ∙ ap
+    (λ (a : Asked). next_asked graph a m) (sym one.asked)
 
-child_search : (graph : List (List ℕ)) (parent child : Node) (m : Mark) (p : ℕ) → asked_of child ≡ next_asked graph (asked_of parent) m → parent.step.ask ≡ Test p → child.state.search ≡ (ask graph (mark parent.state.search m p)).search
+child_search : (graph : List (List ℕ)) (parent child : Node) (m : Mark) (p : ℕ) → asked_of child ≡ next_asked graph (asked_of parent) m
+    → parent.step.ask ≡ Test p → child.state.search ≡ (ask graph (mark parent.state.search m p)).search
 child_search graph parent child m p h asks = ap (λ (a : Asked). a.search) h ∙ ap (λ (a : Ask). (ask graph (marked_by parent.state.search m a)).search) asks
 
 -- an ask leaves as many places to ask
@@ -129,17 +147,21 @@ left-asked : (graph : List (List ℕ)) (s : Search) → left_to_ask graph (ask g
 left-asked graph s = ap (λ (t : Search). left_to_ask graph t) (ask_leaves graph s)
 
 -- from the asked search the recursion gives the same
-best_asked : (graph : List (List ℕ)) (known : Outcomes) (claims : List Claim) (s : Search) → IsGraph graph → IsSearchOver graph s → IsSearchOver graph (ask graph s).search → best_open graph known claims s ≡ best_open graph known claims (ask graph s).search
+best_asked : (graph : List (List ℕ)) (known : Outcomes) (claims : List Claim) (s : Search) → IsGraph graph → IsSearchOver graph s
+    → IsSearchOver graph (ask graph s).search → best_open graph known claims s ≡ best_open graph known claims (ask graph s).search
 best_asked graph known claims s g over asked =
     best_open-is graph known claims s g over
     ∙ sym (ap (λ (a : Asked). after_step graph known claims (best_open graph known claims) a.search a.step.ask) (ask_again graph s))
     ∙ sym (best_open-is graph known claims (ask graph s).search g asked)
 
-pub marked_over : (graph : List (List ℕ)) (parent : Node) (m : Mark) (p : ℕ) → NodeFacts graph parent → parent.step.ask ≡ Test p → IsSearchOver graph (mark parent.state.search m p)
-marked_over graph parent m p f asks = subst (λ (t : Search). IsSearchOver graph (mark t m p)) f.settled.search (IsSearchOver-marked graph parent.state.search m p f.parents f.over (f.settled.step ∙ asks))
+pub marked_over : (graph : List (List ℕ)) (parent : Node) (m : Mark) (p : ℕ) → NodeFacts graph parent → parent.step.ask ≡ Test p
+    → IsSearchOver graph (mark parent.state.search m p)
+marked_over graph parent m p f asks = subst (λ (t : Search). IsSearchOver graph (mark t m p)) f.settled.search
+    (IsSearchOver-marked graph parent.state.search m p f.parents f.over (f.settled.step ∙ asks))
 
 -- fewer places are left to ask below a child
-pub child_left : (graph : List (List ℕ)) (parent child : Node) (m : Mark) (p : ℕ) → NodeFacts graph parent → asked_of child ≡ next_asked graph (asked_of parent) m → parent.step.ask ≡ Test p
+pub child_left : (graph : List (List ℕ)) (parent child : Node) (m : Mark) (p : ℕ) → NodeFacts graph parent
+    → asked_of child ≡ next_asked graph (asked_of parent) m → parent.step.ask ≡ Test p
     → left_to_ask graph child.state.search < left_to_ask graph parent.state.search
 child_left graph parent child m p f h asks =
     let falls = left_to_ask-falls graph parent.state.search m p f.parents f.over (f.settled.step ∙ asks) in
@@ -148,14 +170,17 @@ child_left graph parent child m p f h asks =
     omega (arith, falls, same, here)
 
 -- the recursion at the marked search is that at the child
-best_child : (graph : List (List ℕ)) (known : Outcomes) (claims : List Claim) (parent child : Node) (m : Mark) (p : ℕ) → NodeFacts graph parent → NodeFacts graph child → asked_of child ≡ next_asked graph (asked_of parent) m → parent.step.ask ≡ Test p
+best_child : (graph : List (List ℕ)) (known : Outcomes) (claims : List Claim) (parent child : Node) (m : Mark) (p : ℕ) → NodeFacts graph parent
+    → NodeFacts graph child → asked_of child ≡ next_asked graph (asked_of parent) m → parent.step.ask ≡ Test p
     → best_open graph known claims (mark parent.state.search m p) ≡ best_open graph known claims child.state.search
 best_child graph known claims parent child m p f k h asks =
     let is : child.state.search ≡ (ask graph (mark parent.state.search m p)).search = child_search graph parent child m p h asks in
-    best_asked graph known claims (mark parent.state.search m p) f.parents (marked_over graph parent m p f asks) (subst (λ (t : Search). IsSearchOver graph t) is k.over)
+    best_asked graph known claims (mark parent.state.search m p) f.parents (marked_over graph parent m p f asks)
+    (subst (λ (t : Search). IsSearchOver graph t) is k.over)
     ∙ ap (λ (t : Search). best_open graph known claims t) (sym is)
 
-best_by_step : (graph : List (List ℕ)) (known : Outcomes) (claims : List Claim) (node : Node) → NodeFacts graph node → best_open graph known claims node.state.search ≡ after_step graph known claims (best_open graph known claims) node.state.search node.step.ask
+best_by_step : (graph : List (List ℕ)) (known : Outcomes) (claims : List Claim) (node : Node) → NodeFacts graph node
+    → best_open graph known claims node.state.search ≡ after_step graph known claims (best_open graph known claims) node.state.search node.step.ask
 best_by_step graph known claims node f =
     best_open-is graph known claims node.state.search f.parents f.over
     ∙ ap (λ (t : Search). after_step graph known claims (best_open graph known claims) t (ask graph node.state.search).step.ask) f.settled.search
@@ -173,7 +198,8 @@ module _ (graph : List (List ℕ)) (known : Outcomes) (claims : List Claim) wher
   here node look h = subst (λ (l : Look). Here l node) h (step_tells graph known claims (best_open graph known claims) node.state.search node.step.ask)
 
   pub best_ended : (node : Node) → NodeFacts graph node → look_of known claims node.step.ask ≡ Ended → best_at graph known claims node ≡ None
-  best_ended node f h = ap (λ (x : Option OpenPath). prefixed (path_of node) x) (best_by_step graph known claims node f ∙ step_ended graph known claims (best_open graph known claims) node.state.search node.step.ask h)
+  best_ended node f h = ap (λ (x : Option OpenPath). prefixed (path_of node) x)
+      (best_by_step graph known claims node f ∙ step_ended graph known claims (best_open graph known claims) node.state.search node.step.ask h)
 
   pub best_free : (node : Node) (p : ℕ) → NodeFacts graph node → look_of known claims node.step.ask ≡ Free p
       → best_at graph known claims node ≡ Some (record { marks = path_of node; place = p; left = left_of graph node.state.search })
@@ -191,28 +217,34 @@ module _ (graph : List (List ℕ)) (known : Outcomes) (claims : List Claim) wher
   pub asks_guess : (node : Node) (p : ℕ) → look_of known claims node.step.ask ≡ Guess p → node.step.ask ≡ Test p
   asks_guess node p h = (here node (Guess p) h).0
 
-  pub best_known : (nodes : List Node) (node child : Node) (p : ℕ) (m : Mark) → AreNodes graph nodes → Contains nodes node → Contains nodes child → path_of child ≡ path_of node ++ m ∷ []
+  pub best_known : (nodes : List Node) (node child : Node) (p : ℕ) (m : Mark) → AreNodes graph nodes → Contains nodes node → Contains nodes child
+      → path_of child ≡ path_of node ++ m ∷ []
       → look_of known claims node.step.ask ≡ Known p m → best_at graph known claims node ≡ best_at graph known claims child
   best_known nodes node child p m t above below is h =
       let f : NodeFacts graph node = node_facts graph nodes node t above in
       let k : NodeFacts graph child = node_facts graph nodes child t below in
       ap (λ (x : Option OpenPath). prefixed (path_of node) x)
       (best_by_step graph known claims node f ∙ (here node (Known p m) h).1
-      ∙ ap (λ (x : Option OpenPath). followed_by m x) (best_child graph known claims node child m p f k (child_asks graph nodes node child m t above below is) (asks_known node p m h)))
+      ∙ ap (λ (x : Option OpenPath). followed_by m x)
+      (best_child graph known claims node child m p f k (child_asks graph nodes node child m t above below is) (asks_known node p m h)))
       ∙ prefixed_further (path_of node) m (best_open graph known claims child.state.search)
       ∙ ap (λ (ms : List Mark). prefixed ms (best_open graph known claims child.state.search)) (sym is)
 
-  pub best_guess : (nodes : List Node) (node good bad : Node) (p : ℕ) → AreNodes graph nodes → Contains nodes node → Contains nodes good → Contains nodes bad → path_of good ≡ path_of node ++ Good ∷ [] → path_of bad ≡ path_of node ++ Bad ∷ []
+  pub best_guess : (nodes : List Node) (node good bad : Node) (p : ℕ) → AreNodes graph nodes → Contains nodes node → Contains nodes good → Contains nodes bad
+      → path_of good ≡ path_of node ++ Good ∷ [] → path_of bad ≡ path_of node ++ Bad ∷ []
       → look_of known claims node.step.ask ≡ Guess p
-      → best_at graph known claims node ≡ prefixed (path_of node) (better (followed_by Good (best_open graph known claims good.state.search)) (followed_by Bad (best_open graph known claims bad.state.search)))
+      → best_at graph known claims node ≡ prefixed (path_of node)
+      (better (followed_by Good (best_open graph known claims good.state.search)) (followed_by Bad (best_open graph known claims bad.state.search)))
   best_guess nodes node good bad p t above one other good_is bad_is h =
       let f : NodeFacts graph node = node_facts graph nodes node t above in
       ap (λ (x : Option OpenPath). prefixed (path_of node) x)
       (best_by_step graph known claims node f ∙ (here node (Guess p) h).1
       ∙ ap (λ (x : Option OpenPath). better (followed_by Good x) (followed_by Bad (best_open graph known claims (mark node.state.search Bad p))))
-      (best_child graph known claims node good Good p f (node_facts graph nodes good t one) (child_asks graph nodes node good Good t above one good_is) (asks_guess node p h))
+      (best_child graph known claims node good Good p f (node_facts graph nodes good t one) (child_asks graph nodes node good Good t above one good_is)
+      (asks_guess node p h))
       ∙ ap (λ (x : Option OpenPath). better (followed_by Good (best_open graph known claims good.state.search)) (followed_by Bad x))
-      (best_child graph known claims node bad Bad p f (node_facts graph nodes bad t other) (child_asks graph nodes node bad Bad t above other bad_is) (asks_guess node p h)))
+      (best_child graph known claims node bad Bad p f (node_facts graph nodes bad t other) (child_asks graph nodes node bad Bad t above other bad_is)
+      (asks_guess node p h)))
 
 -- ---- the better one
 
@@ -230,48 +262,74 @@ drops_last false true true w = refl
 drops_last false true false true = refl
 drops_last false true false false = refl
 
-pub found_kept : (nodes : List Node) (more : List Node) (found : Option Found) (best : Option OpenPath) → IsFound nodes found best → IsFound (nodes ++ more) found best
+pub found_kept : (nodes : List Node) (more : List Node) (found : Option Found) (best : Option OpenPath) → IsFound nodes found best
+    → IsFound (nodes ++ more) found best
 found_kept nodes more None None h = tt
 found_kept nodes more None (Some path) h = absurd h
 found_kept nodes more (Some found) None h = absurd h
-found_kept nodes more (Some found) (Some path) h = (h.0, h.1, h.2, record { node = h.3.node; among = Contains-append_left nodes more h.3.node h.3.among; has = h.3.has })
+found_kept nodes more (Some found) (Some path) h =
+    (h.0, h.1, h.2, record { node = h.3.node; among = Contains-append_left nodes more h.3.node h.3.among; has = h.3.has })
 
 -- what wins among the found is what is better among the paths
-pub found_better : (nodes : List Node) (path : List Mark) (one other : Option Found) (good bad : Option OpenPath) → IsFound nodes one (prefixed (path ++ Good ∷ []) good) → IsFound nodes other (prefixed (path ++ Bad ∷ []) bad)
+pub found_better : (nodes : List Node) (path : List Mark) (one other : Option Found) (good bad : Option OpenPath)
+    → IsFound nodes one (prefixed (path ++ Good ∷ []) good) → IsFound nodes other (prefixed (path ++ Bad ∷ []) bad)
     → IsFound nodes (better_found one other) (prefixed path (better (followed_by Good good) (followed_by Bad bad)))
 found_better nodes path None other None bad h k = subst (λ (x : Option OpenPath). IsFound nodes other x) (sym (prefixed_further path Bad bad)) k
 found_better nodes path None other (Some x) bad h k = absurd h
 found_better nodes path (Some f) other None bad h k = absurd h
-found_better nodes path (Some f) None (Some x) None h k = subst (λ (y : Option OpenPath). IsFound nodes (Some f) y) (sym (prefixed_further path Good (Some x))) h
+found_better nodes path (Some f) None (Some x) None h k = subst (λ (y : Option OpenPath). IsFound nodes (Some f) y) (sym (prefixed_further path Good (Some x)))
+    h
 found_better nodes path (Some f) None (Some x) (Some y) h k = absurd k
 found_better nodes path (Some f) (Some e) (Some x) None h k = absurd k
 found_better nodes path (Some f) (Some e) (Some x) (Some y) h k =
-    subst (λ (b : Bool). IsFound nodes (cond (wins e f) (Some e) (Some f)) (prefixed path (cond b (Some (record y { marks = Bad ∷ y.marks })) (Some (record x { marks = Good ∷ x.marks }))))) same (by_test (wins e f))
+    subst (λ (b : Bool). IsFound nodes (cond (wins e f) (Some e) (Some f))
+    (prefixed path (cond b (Some (record y { marks = Bad ∷ y.marks })) (Some (record x { marks = Good ∷ x.marks }))))) same (by_test (wins e f))
   where
     shorter : nat_lt e.depth f.depth ≡ nat_lt (suc (length y.marks)) (suc (length x.marks))
     shorter = same_test e.depth f.depth (suc (length y.marks)) (suc (length x.marks))
-        (λ l. omega (arith, h.2, k.2, length-append (path ++ Good ∷ []) x.marks, length-append path (Good ∷ []), length-append (path ++ Bad ∷ []) y.marks, length-append path (Bad ∷ [])))
-        (λ l. omega (arith, h.2, k.2, length-append (path ++ Good ∷ []) x.marks, length-append path (Good ∷ []), length-append (path ++ Bad ∷ []) y.marks, length-append path (Bad ∷ [])))
+        (λ l. omega (
+          arith,
+          h.2,
+          k.2,
+          length-append (path ++ Good ∷ []) x.marks,
+          length-append path (Good ∷ []),
+          length-append (path ++ Bad ∷ []) y.marks,
+          length-append path (Bad ∷ []),
+        ))
+        (λ l. omega (
+          arith,
+          h.2,
+          k.2,
+          length-append (path ++ Good ∷ []) x.marks,
+          length-append path (Good ∷ []),
+          length-append (path ++ Bad ∷ []) y.marks,
+          length-append path (Bad ∷ []),
+        ))
 
     same : wins e f ≡ is_better (record y { marks = Bad ∷ y.marks }) (record x { marks = Good ∷ x.marks })
     same =
         ap (λ (b : Bool). nat_lt f.left e.left || ((e.left == f.left) && b)) shorter
         ∙ ap (λ (n : ℕ). nat_lt n e.left || ((e.left == n) && nat_lt (suc (length y.marks)) (suc (length x.marks)))) h.1
         ∙ ap (λ (n : ℕ). nat_lt x.left n || ((n == x.left) && nat_lt (suc (length y.marks)) (suc (length x.marks)))) k.1
-        ∙ sym (drops_last (nat_lt x.left y.left) (y.left == x.left) (nat_lt (suc (length y.marks)) (suc (length x.marks))) (suc (length y.marks) == suc (length x.marks)))
+        ∙ sym (drops_last (nat_lt x.left y.left) (y.left == x.left) (nat_lt (suc (length y.marks)) (suc (length x.marks)))
+        (suc (length y.marks) == suc (length x.marks)))
 
-    by_test : (b : Bool) → IsFound nodes (cond b (Some e) (Some f)) (prefixed path (cond b (Some (record y { marks = Bad ∷ y.marks })) (Some (record x { marks = Good ∷ x.marks }))))
+    by_test : (b : Bool) → IsFound nodes (cond b (Some e) (Some f))
+        (prefixed path (cond b (Some (record y { marks = Bad ∷ y.marks })) (Some (record x { marks = Good ∷ x.marks }))))
     by_test true = subst (λ (z : Option OpenPath). IsFound nodes (Some e) z) (sym (prefixed_further path Bad (Some y))) k
     by_test false = subst (λ (z : Option OpenPath). IsFound nodes (Some f) z) (sym (prefixed_further path Good (Some x))) h
 
 -- ---- by index
 
-left_at-is : (graph : List (List ℕ)) (nodes : List Node) (k : ℕ) (d : Node) → k < length nodes → left_at graph nodes k ≡ left_to_ask graph (get_or nodes k d).state.search
+left_at-is : (graph : List (List ℕ)) (nodes : List Node) (k : ℕ) (d : Node) → k < length nodes
+    → left_at graph nodes k ≡ left_to_ask graph (get_or nodes k d).state.search
 left_at-is graph nodes k d l = ap (λ (x : Option Node). left_below graph x) (slice_get-get_or nodes k d l)
 
-pub left_at-extends : (graph : List (List ℕ)) (one two : List Node) (k : ℕ) (d : Node) → Extends graph one two → k < length one → left_at graph two k ≡ left_at graph one k
+pub left_at-extends : (graph : List (List ℕ)) (one two : List Node) (k : ℕ) (d : Node) → Extends graph one two → k < length one
+    → left_at graph two k ≡ left_at graph one k
 left_at-extends graph one two k d e l =
-    left_at-is graph two k d (extends_length graph one two k e l) ∙ ap (λ (n : Node). left_to_ask graph n.state.search) (extends_at graph one two k d e l) ∙ sym (left_at-is graph one k d l)
+    left_at-is graph two k d (extends_length graph one two k e l) ∙ ap (λ (n : Node). left_to_ask graph n.state.search) (extends_at graph one two k d e l) ∙ sym
+    (left_at-is graph one k d l)
 
 -- a child at its index, after the nodes have grown
 pub record IsChildAt (graph : List (List ℕ)) (nodes new : List Node) (i k : ℕ) (m : Mark) : Type 0 where
@@ -294,12 +352,15 @@ module _ (graph : List (List ℕ)) (nodes new : List Node) (i k : ℕ) (m : Mark
       (child_asks graph new (get_or nodes i d) (get_or new k d) m all (parent_in d) (child_in d) (c.path d)) asks in
       omega (arith, less, left_at-is graph nodes i d c.above, left_at-is graph new k d c.below)
 
-  pub child_at_best : (known : Outcomes) (claims : List Claim) (p : ℕ) (d : Node) → look_of known claims (get_or nodes i d).step.ask ≡ Known p m → best_at graph known claims (get_or nodes i d) ≡ best_at graph known claims (get_or new k d)
+  pub child_at_best : (known : Outcomes) (claims : List Claim) (p : ℕ) (d : Node) → look_of known claims (get_or nodes i d).step.ask ≡ Known p m
+      → best_at graph known claims (get_or nodes i d) ≡ best_at graph known claims (get_or new k d)
   child_at_best known claims p d look =
-      best_known graph known claims new (get_or nodes i d) (get_or new k d) p m (extends_nodes graph nodes new c.extends t) (parent_in d) (child_in d) (c.path d) look
+      best_known graph known claims new (get_or nodes i d) (get_or new k d) p m (extends_nodes graph nodes new c.extends t) (parent_in d) (child_in d)
+      (c.path d) look
 
 -- what was found below the two guesses
-pub guess_found : (graph : List (List ℕ)) (known : Outcomes) (claims : List Claim) (one two three four five : List Node) (i k j p : ℕ) (good bad : Option Found) (d : Node)
+pub guess_found : (graph : List (List ℕ)) (known : Outcomes) (claims : List Claim) (one two three four five : List Node) (i k j p : ℕ) (good bad : Option Found)
+    (d : Node)
     → AreNodes graph one → look_of known claims (get_or one i d).step.ask ≡ Guess p
     → IsChildAt graph one two i k Good → Extends graph two three → IsFound three good (best_at graph known claims (get_or two k d))
     → IsChildAt graph three four i j Bad → Extends graph four five → IsFound five bad (best_at graph known claims (get_or four j d))
@@ -351,13 +412,15 @@ guess_found graph known claims one two three four five i k j p good bad d t look
     b_path = b.path d ∙ ap (λ (n : Node). path_of n ++ Bad ∷ []) (extends_at graph one three i d one_three g.above)
 
     good_here : IsFound five good (best_at graph known claims G)
-    good_here = subst (λ (xs : List Node). IsFound xs good (best_at graph known claims G)) (sym three_five.grows.grown) (found_kept three three_five.grows.more good (best_at graph known claims G) found_good)
+    good_here = subst (λ (xs : List Node). IsFound xs good (best_at graph known claims G)) (sym three_five.grows.grown)
+        (found_kept three three_five.grows.more good (best_at graph known claims G) found_good)
 
 -- ---- the candidates that are left
 
 count_map : (f : ℕ → Bool) (xs : List ℕ) → count_by (λ (v : Bool). v) (map f xs) ≡ count_by f xs
 count_map f [] = refl
-count_map f (x ∷ xs) = sum_by-cons (λ (v : Bool). cond v 1 0) (f x) (map f xs) ∙ ap (λ (n : ℕ). cond (f x) 1 0 + n) (count_map f xs) ∙ sym (sum_by-cons (λ y. cond (f y) 1 0) x xs)
+count_map f (x ∷ xs) = sum_by-cons (λ (v : Bool). cond v 1 0) (f x) (map f xs) ∙ ap (λ (n : ℕ). cond (f x) 1 0 + n) (count_map f xs) ∙ sym
+    (sum_by-cons (λ y. cond (f y) 1 0) x xs)
 
 count_none : (n : ℕ) → count_by (λ (v : Bool). v) (replicate n false) ≡ 0
 count_none zero = refl
@@ -375,7 +438,8 @@ count_mask graph s = by_bad s.bad
     by_bad None = count_none (length graph) ∙ sym (count_never (places graph))
     by_bad (Some bad) = count_map (λ p. is_candidate graph bad s.goods s.first_parent p) (places graph)
 
-pub free_found : (graph : List (List ℕ)) (nodes : List Node) (i p : ℕ) (one two : Node) (left depth : ℕ) (best : Option OpenPath) → AreNodes graph nodes → i < length nodes → one ≡ get_or nodes i one → two ≡ get_or nodes i two
+pub free_found : (graph : List (List ℕ)) (nodes : List Node) (i p : ℕ) (one two : Node) (left depth : ℕ) (best : Option OpenPath) → AreNodes graph nodes
+    → i < length nodes → one ≡ get_or nodes i one → two ≡ get_or nodes i two
     → left ≡ count_by (λ (v : Bool). v) (arc_value one.sight.mask) → depth ≡ length (path_of two)
     → ((d : Node) → best ≡ Some (record { marks = path_of (get_or nodes i d); place = p; left = left_of graph (get_or nodes i d).state.search }))
     → IsFound nodes (Some (record { place = p; left = left; depth = depth })) best
@@ -383,5 +447,10 @@ free_found graph nodes i p one two left depth best t l e f is_left is_depth h =
     let here : IsNode graph t.session t.root one = All-contains (IsNode graph t.session t.root) nodes one t.tree.each (i, l, sym e) in
     let same : two ≡ one = f ∙ read_as nodes i one two l e in
     subst (λ (x : Option OpenPath). IsFound nodes (Some (record { place = p; left = left; depth = depth })) x)
-    (sym (h one ∙ ap (λ (n : Node). Some (record { marks = path_of n; place = p; left = left_of graph n.state.search })) (sym e)))
-    (refl, is_left ∙ ap (λ (row : List Bool). count_by (λ (v : Bool). v) row) here.sight.mask ∙ count_mask graph one.state.search, is_depth ∙ ap (λ (n : Node). length (path_of n)) same, record { node = one; among = (i, l, sym e); has = refl })
+    (sym (h one ∙ ap (λ (n : Node). Some (record { marks = path_of n; place = p; left = left_of graph n.state.search })) (sym e))) (
+      refl,
+      is_left ∙ ap (λ (row : List Bool). count_by (λ (v : Bool). v) row) here.sight.mask ∙ count_mask graph one.state.search,
+      is_depth ∙ ap
+          (λ (n : Node). length (path_of n)) same,
+      record { node = one; among = (i, l, sym e); has = refl },
+    )

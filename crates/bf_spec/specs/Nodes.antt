@@ -1,10 +1,14 @@
 -- The nodes of a tree of guesses.
-use Rattle.std.specs.Prelude.{◌≡◌, ℕ, ◌<◌, ◌≤◌, Bool, ◌||◌, ◌&&◌, ◌==◌, nat_lt, if◌then◌else◌, List, [], ◌∷◌, ◌++◌, length, slice_get, All, Contains, Option, Some, None}
+use Rattle.std.specs.Prelude.{◌≡◌, ◌≢◌, ◌↔◌, ℕ, ◌<◌, ◌≤◌, Bool, ◌||◌, ◌&&◌, ◌==◌, nat_lt, if◌then◌else◌}
+use Rattle.std.specs.Prelude.{List, [], ◌∷◌, ◌++◌, length, slice_get, All, Contains, Option, Some, None}
 use Rattle.std.specs.List.{slice_index_or}
 use Rattle.bf_graph.specs.Graph.{IsGraph}
+use Rattle.bf_search.specs.declared.asks.Ask.TheVariants.{Test}
 use Rattle.bf_search.specs.declared.outcomes.Mark.{Mark}
-use Rattle.bf_search.specs.Outcomes.{Outcomes}
-use Rattle.bf_search.specs.State.{Asked}
+use Rattle.bf_search.specs.declared.outcomes.Mark.TheVariants.{Skip}
+use Rattle.bf_search.specs.declared.outcomes.Outcome.{Outcome}
+use Rattle.bf_search.specs.Outcomes.{Outcomes, outcomes_of_table}
+use Rattle.bf_search.specs.State.{Asked, ask}
 use Rattle.bf_state.specs.Session.{Session, with_search, IsSearchBelow}
 use Rattle.bf_search.specs.declared.farm.Claim.{Claim}
 use Rattle.bf_search.specs.LeftToAsk.{left_to_ask}
@@ -61,6 +65,31 @@ pub record AreNodes (graph : List (List ℕ)) (nodes : List Node) : Type 0 where
   pub root : Asked
   pub tree : IsTree graph session root nodes
 
+-- a node alone is the tree of a search that asks
+abbrev pub IsFirst : List (List ℕ) → Session → Node → Type 0
+IsFirst graph session node = IsTree graph session (ask graph session.search) (node ∷ [])
+
+-- the root asks for some place
+abbrev pub RootAsks : List (List ℕ) → List Node → Type 0
+RootAsks graph nodes = (p : ℕ) × ((session : Session) (root : Asked) → IsTree graph session root nodes → root.step.ask ≡ Test p)
+
+-- the root moves on by a mark
+abbrev pub MovesRoot : List (List ℕ) → List Node → Mark → List Node → Type 0
+MovesRoot graph old m new = (session : Session) (root : Asked) → IsTree graph session root old → IsTree graph session (next_asked graph root m) new
+
+-- the root moves on to the end of a path
+abbrev pub MovesRootAlong : List Node → List Mark → List Node → Type 0
+MovesRootAlong old path new =
+    (graph : List (List ℕ)) (session : Session) (root : Asked) → IsTree graph session root old → IsTree graph session (asked_at graph root path) new
+
+-- what stays is what was below a path, without its marks
+abbrev pub KeepsPathsBelow : List Node → List Mark → List Node → Type 0
+KeepsPathsBelow old path new = (more : List Mark) → HasPath new more ↔ HasPath old (path ++ more)
+
+-- a mark is a skip, or the guess at it has no node
+abbrev pub LacksGuess : List Node → Mark → Type 0
+LacksGuess nodes m = m ≢ Skip → HasPath nodes (m ∷ []) → ⊥
+
 -- a tree stays a tree, with the same root
 abbrev pub StaysTree : List (List ℕ) → List Node → List Node → Type 0
 StaysTree graph old new = (session : Session) (root : Asked) → IsTree graph session root old → IsTree graph session root new
@@ -74,6 +103,23 @@ pub record Grows (old new : List Node) : Type 0 where
 pub record Extends (graph : List (List ℕ)) (old new : List Node) : Type 0 where
   pub grows : Grows old new
   pub stays : StaysTree graph old new
+
+-- ---- nodes by their indices
+
+-- the node at an index has this path
+abbrev pub IsAt : List Node → List Mark → ℕ → Type 0
+IsAt nodes path i = (i < length nodes) × ((d : Node) → path_of (slice_index_or nodes i d) ≡ path)
+
+-- the node at an index asks for a place
+abbrev pub AsksFor : List Node → ℕ → ℕ → Type 0
+AsksFor nodes i place = (d : Node) → (slice_index_or nodes i d).step.ask ≡ Test place
+
+-- the path of a node leads on from that of another one by a mark
+abbrev pub Follows : List Node → ℕ → Mark → List Node → ℕ → Type 0
+Follows old parent m new child =
+    (child < length new) × ((d : Node) → path_of (slice_index_or new child d) ≡ path_of (slice_index_or old parent d) ++ m ∷ [])
+
+-- ---- open paths
 
 -- the best open path that goes through a node, from the root
 abbrev pub best_at : List (List ℕ) → Outcomes → List Claim → Node → Option OpenPath
@@ -97,9 +143,36 @@ left_at graph nodes i = left_below graph (slice_get nodes i)
 -- where a walk along known outcomes stops
 abbrev pub Stops : List (List ℕ) → Outcomes → List Claim → List Node → Stop → ℕ → Option OpenPath → Type 0
 Stops graph known claims nodes Ended most best = best ≡ None
-Stops graph known claims nodes (Free i p) most best = (i < length nodes) × ((d : Node) → best ≡ Some (record { marks = path_of (slice_index_or nodes i d); place = p; left = left_of graph (slice_index_or nodes i d).state.search }))
+Stops graph known claims nodes (Free i p) most best = (i < length nodes) × ((d : Node) → let node = slice_index_or nodes i d in
+    best ≡ Some (record { marks = path_of node; place = p; left = left_of graph node.state.search }))
 Stops graph known claims nodes (Guess i p) most best = (i < length nodes) × (left_at graph nodes i ≤ most)
     × ((d : Node) → (best ≡ best_at graph known claims (slice_index_or nodes i d)) × (look_of known claims (slice_index_or nodes i d).step.ask ≡ LookGuess p))
+
+-- what is known of a search from outside of its nodes
+pub record Known : Type 0 where
+  pub graph : List (List ℕ)
+  pub outcomes : Outcomes
+  pub claims : List Claim
+
+-- what is known by a table of outcomes
+abbrev pub known_by : List (List ℕ) → List (Option Outcome) → List Claim → Known
+known_by graph table claims = record { graph = graph; outcomes = outcomes_of_table table; claims = claims }
+
+-- a walk from a node along known outcomes stops there
+abbrev pub StopsFrom : Known → List Node → ℕ → List Node → Stop → Type 0
+StopsFrom known old start new stop = (d : Node) →
+    Stops known.graph known.outcomes known.claims new stop (left_at known.graph old start)
+    (best_at known.graph known.outcomes known.claims (slice_index_or old start d))
+
+-- what was found is the best open path through a node
+abbrev pub IsBestFrom : Known → List Node → ℕ → List Node → Option Found → Type 0
+IsBestFrom known old start new found = (d : Node) →
+    IsFound new found (best_at known.graph known.outcomes known.claims (slice_index_or old start d))
+
+-- what was found is the best open path from the root
+abbrev pub IsBest : Known → List Node → List Node → Option Found → Type 0
+IsBest known old new found = (session : Session) (root : Asked) → IsTree known.graph session root old →
+    IsFound new found (best_open known.graph known.outcomes known.claims root.search)
 
 -- the better one of what was found below the two guesses
 abbrev pub wins : Found → Found → Bool

@@ -1,5 +1,6 @@
 -- What is kept of the nodes when the root moves on.
-use Rattle.std.specs.Prelude.{◌≡◌, ℕ, Bool, true, false, ◌&&◌, List, [], ◌∷◌, drop}
+use Rattle.std.specs.Prelude.{◌≡◌, ℕ, ◌<◌, Bool, true, false, ◌&&◌, List, [], ◌∷◌, length, drop}
+use Rattle.std.specs.List.{slice_index_or}
 use Rattle.bf_search.specs.declared.outcomes.Mark.{Mark}
 use Rattle.bf_search.specs.declared.outcomes.Mark.TheVariants.{Good, Bad, Skip}
 use Rattle.bf_spec.specs.declared.node.Node.{Node}
@@ -23,3 +24,7 @@ pub record IsCut (count : ℕ) (old new : Node) : Type 0 where
   pub state : new.state ≡ old.state
   pub step : new.step ≡ old.step
   pub sight : new.sight ≡ old.sight
+
+-- each node without the first marks of its path
+abbrev pub AreCut : ℕ → List Node → List Node → Type 0
+AreCut count old new = (k : ℕ) (d : Node) → k < length old → IsCut count (slice_index_or old k d) (slice_index_or new k d)

@@ -1,16 +1,20 @@
 -- What contracts see of a tree of guesses.
-use Rattle.std.specs.Prelude.{ℕ, Bool, true, false, if◌then◌else◌, List, [], ◌∷◌, map, Contains, Option, None}
+use Rattle.std.specs.Prelude.{◌≡◌, ◌≢◌, ◌↔◌, ℕ, Bool, true, false, IsTrue, if◌then◌else◌, List, [], ◌∷◌, ◌++◌, map, Contains, Option, Some, None}
 use Rattle.bf_search.specs.declared.asks.Ask.TheVariants.{WaitBoth}
 use Rattle.bf_search.specs.declared.asks.Step.{Step}
+use Rattle.bf_search.specs.declared.farm.Claim.{Claim}
 use Rattle.bf_search.specs.declared.outcomes.Mark.{Mark}
+use Rattle.bf_search.specs.declared.outcomes.Mark.TheVariants.{Skip}
 use Rattle.bf_search.specs.declared.outcomes.Outcome.{Outcome}
+use Rattle.bf_search.specs.OpenPaths.{OpenPath, best_open, place_of}
 use Rattle.bf_search.specs.Outcomes.{outcomes_of_table}
 use Rattle.bf_search.specs.Run.{Run, run}
 use Rattle.bf_search.specs.State.{Asked}
-use Rattle.bf_state.specs.Session.{Session}
+use Rattle.bf_state.specs.Session.{Session, with_search}
 use Rattle.bf_texts.specs.Texts.{standard_sides}
 use Rattle.bf_spec.specs.declared.node.Node.{Node}
 use Rattle.bf_spec.specs.Nodes.{path_of, IsTree}
+use Rattle.bf_spec.specs.Ways.{IsAsked}
 
 -- The graph, the state at the root, which has asked, what was asked there, and the paths that have a node.
 pub record Guesses : Type 0 where
@@ -65,3 +69,40 @@ HasNode tree path = Contains tree.paths path
 -- the run over the outcomes of a table from the root on, with so many marks left in its leg
 abbrev pub run_of : Guesses → List (Option Outcome) → Option ℕ → Run
 run_of tree table left = run tree.graph (outcomes_of_table table) left tree.root.search
+
+-- the best open path from the root over the outcomes of a table
+abbrev pub best_of : Guesses → List (Option Outcome) → List Claim → Option OpenPath
+best_of tree table claims = best_open tree.graph (outcomes_of_table table) claims tree.root.search
+
+-- the place that this path asks for
+abbrev pub best_place : Guesses → List (Option Outcome) → List Claim → Option ℕ
+best_place tree table claims = place_of (best_of tree table claims)
+
+-- some path from the root over the outcomes of a table asks for a place
+abbrev pub IsAskedIn : Guesses → List (Option Outcome) → ℕ → Type 0
+IsAskedIn tree table place = IsAsked tree.graph (outcomes_of_table table) tree.root.search place
+
+-- the answer says whether some path from the root asks for a place
+abbrev pub TellsIfAsked : List (List ℕ) → List (Option Outcome) → List Node → ℕ → Bool → Type 0
+TellsIfAsked graph table nodes place answer = (session : Session) (root : Asked) → IsTree graph session root nodes →
+    (IsTrue answer ↔ IsAsked graph (outcomes_of_table table) root.search place)
+
+-- what a path begins with has a node where the path has one
+abbrev pub HasBeginnings : Guesses → Type 0
+HasBeginnings tree = (begin end : List Mark) → HasNode tree (begin ++ end) → HasNode tree begin
+
+-- the nodes along an open path are there
+abbrev pub HasOpenPath : Guesses → Option OpenPath → Type 0
+HasOpenPath tree best = (path : OpenPath) → best ≡ Some path → HasNode tree path.marks
+
+-- the state goes on with the search at the new root
+abbrev pub MovesSession : Guesses → Guesses → Type 0
+MovesSession old new = new.session ≡ with_search old.session new.root.search
+
+-- what stays is what was below a path, without its marks
+abbrev pub KeepsNodesBelow : Guesses → List Mark → Guesses → Type 0
+KeepsNodesBelow old path new = (more : List Mark) → HasNode new more ↔ HasNode old (path ++ more)
+
+-- a mark is a skip, or the guess at it has no node
+abbrev pub LacksNode : Guesses → Mark → Type 0
+LacksNode tree m = m ≢ Skip → HasNode tree (m ∷ []) → ⊥

@@ -1,10 +1,10 @@
 -- Runs through the nodes of a tree.
-use Rattle.std.specs.Prelude.{◌≡◌, ◌≢◌, ℕ, zero, ◌<◌, Bool, true, false, List, [], ◌∷◌, ◌++◌, length, Option, Some, None}
+use Rattle.std.specs.Prelude.{◌≡◌, ◌≢◌, ℕ, zero, ◌<◌, Bool, true, false, List, [], ◌∷◌, ◌++◌, length, map, Option, Some, None}
 use Rattle.std.specs.List.{slice_index_or}
 use Rattle.bf_search.specs.declared.asks.Ask.{Ask}
 use Rattle.bf_search.specs.declared.asks.Ask.TheVariants.{Test, FirstBad, OnlySkipped, WaitBoth, WaitBad, WaitGood}
 use Rattle.bf_search.specs.declared.entries.Entry.{Entry}
-use Rattle.bf_search.specs.declared.entries.Entry.TheVariants.{FirstBadFound, OnlySkippedLeft}
+use Rattle.bf_search.specs.declared.entries.Entry.TheVariants.{FirstBadFound, OnlySkippedLeft, SkippedBase}
 use Rattle.bf_search.specs.declared.farm.Ending.{Ending}
 use Rattle.bf_search.specs.declared.farm.Ending.TheVariants as endings
 use Rattle.bf_search.specs.declared.outcomes.Mark.{Mark}
@@ -12,7 +12,7 @@ use Rattle.bf_search.specs.declared.outcomes.Outcome.{Outcome}
 use Rattle.bf_search.specs.declared.outcomes.Verdict.{Verdict}
 use Rattle.bf_search.specs.declared.outcomes.Verdict.TheVariants.{Mark as MarkOf, Abort}
 use Rattle.bf_search.specs.Farm.{end_of}
-use Rattle.bf_search.specs.Outcomes.{Outcomes, verdict_of}
+use Rattle.bf_search.specs.Outcomes.{Outcomes, outcomes_of_table, verdict_of}
 use Rattle.bf_search.specs.Run.{End, Answered, Leg, Open, Aborted, Run, ended, after_step, run}
 use Rattle.bf_search.specs.State.{Asked, mark}
 use Rattle.bf_state.specs.Runs.{is_open}
@@ -26,7 +26,7 @@ use Rattle.bf_spec.specs.declared.follow.Walked.{Walked}
 use Rattle.bf_spec.specs.declared.node.Node.{Node}
 use Rattle.bf_guesses.specs.Ends.{marks_of}
 use Rattle.bf_spec.specs.Guessed.{asked_at}
-use Rattle.bf_spec.specs.Nodes.{path_of, HasPath}
+use Rattle.bf_spec.specs.Nodes.{path_of, HasPath, IsTree}
 
 -- ---- what contracts say of a run
 
@@ -78,6 +78,24 @@ run_below graph known left node = after_step known (run graph known) left node.s
 abbrev pub behind : List Entry → List (ℕ × Outcome) → Run → Run
 behind entries used run = record run { entries = entries ++ run.entries; used = used ++ run.used }
 
+-- what is left of a run over the outcomes of a table where the node at an index has asked
+abbrev pub run_at : List (List ℕ) → List (Option Outcome) → Option ℕ → List Node → ℕ → Node → Run
+run_at graph table left nodes i d = run_below graph (outcomes_of_table table) left (slice_index_or nodes i d)
+
+-- ---- what a run makes on its way
+
+-- an entry for each skipped merge base
+abbrev pub warnings : List ℕ → List Entry
+warnings warned = map {A = ℕ} {B = Entry} (λ p. SkippedBase p) warned
+
+-- a trail logs some entries more
+abbrev pub Logs : Trail → List Entry → Trail → Type 0
+Logs old entries new = new.entries.items ≡ old.entries.items ++ entries
+
+-- a trail uses one outcome more
+abbrev pub Uses : Trail → ℕ × Outcome → Trail → Type 0
+Uses old outcome new = new.used.items ≡ old.used.items ++ outcome ∷ []
+
 -- nothing was made yet
 pub record IsEmptyTrail (trail : Trail) : Type 0 where
   pub entries : trail.entries.items ≡ []
@@ -86,13 +104,21 @@ pub record IsEmptyTrail (trail : Trail) : Type 0 where
 -- Where a run halts: its node, and what is left of the run there.
 abbrev pub HaltsAt : List Node → List Entry → List (ℕ × Outcome) → Halt → Run → Type 0
 HaltsAt nodes entries used (halts.Answered i) run = (i < length nodes) × ((d : Node) → let node = slice_index_or nodes i d in
-    IsAnswer node.step.ask × (run ≡ behind entries used (ended (answer_entries node.step.ask) node.state.search (Answered node.step.ask))) × (path_of node ≡ marks_of entries))
+    IsAnswer node.step.ask × (run ≡ behind entries used (ended (answer_entries node.step.ask) node.state.search (Answered node.step.ask)))
+    × (path_of node ≡ marks_of entries))
 HaltsAt nodes entries used (halts.Waits i) run = (i < length nodes) × ((d : Node) → let node = slice_index_or nodes i d in
     (p : ℕ) × (node.step.ask ≡ Test p) × (run ≡ behind entries used (ended [] node.state.search (Open p))) × (path_of node ≡ marks_of entries))
 HaltsAt nodes entries used (halts.Aborted i p outcome) run = (i < length nodes) × ((d : Node) → let node = slice_index_or nodes i d in
     (run ≡ behind entries used (ended [] node.state.search (Aborted p outcome))) × (path_of node ≡ marks_of entries))
 HaltsAt nodes entries used (halts.Over i j m p) run = (i < length nodes) × (j < length nodes) × ((d : Node) →
-    (run ≡ behind entries used (ended [] (mark (slice_index_or nodes i d).state.search m p) Leg)) × (path_of (slice_index_or nodes j d) ≡ marks_of entries) × ((slice_index_or nodes i d).step.ask ≡ Test p))
+    (run ≡ behind entries used (ended [] (mark (slice_index_or nodes i d).state.search m p) Leg))
+    × (path_of (slice_index_or nodes j d) ≡ marks_of entries) × ((slice_index_or nodes i d).step.ask ≡ Test p))
+
+-- a run halts there, where this was made of it on its way
+abbrev pub HaltsWith : List Node → Trail → Halt → Run → Type 0
+HaltsWith nodes trail halt run = HaltsAt nodes trail.entries.items trail.used.items halt run
+
+-- ---- what was walked
 
 -- what was walked to a node, with this ending
 pub record IsEndedAt (node : Node) (trail : Trail) (told : Option Ending) (walked : Walked) : Type 0 where
@@ -110,13 +136,53 @@ pub record IsOverAt (from to : Node) (m : Mark) (p : ℕ) (trail : Trail) (walke
   pub state : walked.state ≡ with_search from.state (mark from.state.search m p)
   pub path : walked.path.items ≡ path_of to
 
+-- what was walked has the entries of a run
+abbrev pub HasEntries : Run → Walked → Type 0
+HasEntries run walked = walked.entries.items ≡ run.entries
+
+-- what was walked used the outcomes of a run
+abbrev pub HasUsed : Run → Walked → Type 0
+HasUsed run walked = walked.used.items ≡ run.used
+
+-- what was walked ended as a run ended
+abbrev pub HasEnding : Run → Walked → Type 0
+HasEnding run walked = Tells walked.ending run.end
+
+-- what was walked reached the state of a run, which began in a session
+abbrev pub HasState : Session → Run → Walked → Type 0
+HasState session run walked = walked.state ≡ with_search session run.search
+
+-- what was walked has the marks of a run
+abbrev pub HasMarks : Run → Walked → Type 0
+HasMarks run walked = walked.path.items ≡ marks_of run.entries
+
+-- the search of a run is what the end of the walked path has reached, except where a leg was over
+abbrev pub IsThere : List (List ℕ) → Asked → Run → Walked → Type 0
+IsThere graph root run walked = run.end ≢ Leg → (asked_at graph root walked.path.items).search ≡ run.search
+
+-- the end of the walked path asks for the place whose outcome a run waits for
+abbrev pub IsWaiting : List (List ℕ) → Asked → Run → Walked → Type 0
+IsWaiting graph root run walked = (p : ℕ) → run.end ≡ Open p → (asked_at graph root walked.path.items).step.ask ≡ Test p
+
 -- What was walked is this run, in all parts, and its path has a node.
 pub record IsWalked (graph : List (List ℕ)) (session : Session) (root : Asked) (nodes : List Node) (run : Run) (walked : Walked) : Type 0 where
-  pub entries : walked.entries.items ≡ run.entries
-  pub used : walked.used.items ≡ run.used
-  pub ending : Tells walked.ending run.end
-  pub state : walked.state ≡ with_search session run.search
-  pub path : walked.path.items ≡ marks_of run.entries
+  pub entries : HasEntries run walked
+  pub used : HasUsed run walked
+  pub ending : HasEnding run walked
+  pub state : HasState session run walked
+  pub path : HasMarks run walked
   pub node : HasPath nodes walked.path.items
-  pub there : run.end ≢ Leg → (asked_at graph root walked.path.items).search ≡ run.search
-  pub waits : (p : ℕ) → run.end ≡ Open p → (asked_at graph root walked.path.items).step.ask ≡ Test p
+  pub there : IsThere graph root run walked
+  pub waits : IsWaiting graph root run walked
+
+-- what was walked is each run that halts there
+abbrev pub WalksHalted : List Node → Trail → Halt → Walked → Type 0
+WalksHalted nodes trail halt walked =
+    (graph : List (List ℕ)) (session : Session) (root : Asked) (run : Run) → IsTree graph session root nodes → HaltsWith nodes trail halt run
+    → IsWalked graph session root nodes run walked
+
+-- what was walked is the run from the root over the outcomes of a table
+abbrev pub WalksRun : List (List ℕ) → List (Option Outcome) → Option ℕ → List Node → List Node → Walked → Type 0
+WalksRun graph table left old new walked =
+    (session : Session) (root : Asked) → IsTree graph session root old
+    → IsWalked graph session root new (run graph (outcomes_of_table table) left root.search) walked

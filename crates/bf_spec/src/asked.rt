@@ -1,12 +1,9 @@
 //! Whether some path asks for a place.
-ghost use Rattle.std.specs.Prelude.{◌≡◌, ◌↔◌, ℕ, ◌<◌, length, IfOk, IsTrue};
-ghost use Rattle.std.specs.List.{slice_index_or};
+ghost use Rattle.std.specs.Prelude.{◌≡◌, ℕ, ◌<◌, length, IfOk};
 ghost use Rattle.bf_search.specs.declared.asks.Ask.TheVariants.{Test};
-ghost use Rattle.bf_search.specs.Outcomes.{outcomes_of_table};
 ghost use Rattle.bf_spec.specs.Nodes as nodes_;
 ghost use Rattle.bf_guesses.specs.Way.{way};
-ghost use Rattle.bf_spec.specs.Ways.{IsAsked, way_of};
-ghost use Rattle.bf_spec.specs.declared.node.Node.{Node as NodeValue};
+ghost use Rattle.bf_spec.specs.Ways.{way_from, TellsIfAskedFrom};
 
 use crate::node::Node;
 use crate::table::Table;
@@ -48,7 +45,7 @@ fn way_at(reach: &Reach, node: &Node, table: &Table, place: u32, scratch: &mut R
     requires asked { (p : ℕ) → node.now.step.ask ≡ Test p → p < length reach.now }
     requires place { place < length reach.now }
     requires scratch { length scratch.old ≡ length reach.now }
-    ensures way { result ≡ way_of reach.now (outcomes_of_table table.now) node.now.state.search node.now.step.ask place }
+    ensures way { result ≡ way_from reach.now table.now node.now place }
     ensures scratch { length scratch.new ≡ length scratch.old }
 {
     let Ask::Test(asked) = node.step.ask else {
@@ -82,7 +79,8 @@ pub(crate) fn is_asked_from(
     requires nodes { nodes_.AreNodes reach.now nodes.old.items }
     requires place { place < length reach.now }
     ensures extends { nodes_.Extends reach.now nodes.old.items nodes.new.items }
-    ensures asked { IfOk result (λ asked. (d : NodeValue) → IsTrue asked ↔ IsAsked reach.now (outcomes_of_table table.now) (slice_index_or nodes.old.items start d).state.search place) }
+    ensures asked { IfOk result
+        (TellsIfAskedFrom reach.now table.now nodes.old.items start place) }
 {
     let mut scratch = Row::new(alloc, reach.len())?;
     let mut index = start;

@@ -1,13 +1,12 @@
 //! The run over the outcomes that are known.
-ghost use Rattle.std.specs.Prelude.{◌≡◌, ℕ, ◌<◌, ◌++◌, ◌∷◌, [], false, List, length, map, IfOk, OnOk};
+ghost use Rattle.std.specs.Prelude.{◌≡◌, ℕ, ◌<◌, ◌++◌, ◌∷◌, [], false, List, length, IfOk, OnOk};
 ghost use Rattle.std.specs.List.{slice_index_or};
 ghost use Rattle.bf_search.specs.Farm.{end_of};
 ghost use Rattle.bf_search.specs.Outcomes.{outcomes_of_table};
 ghost use Rattle.bf_search.specs.Run as runs;
-ghost use Rattle.bf_search.specs.State.{Asked};
-ghost use Rattle.bf_state.specs.Session.{Session};
 ghost use Rattle.bf_spec.specs.Nodes as nodes_;
-ghost use Rattle.bf_spec.specs.Walks.{IsAnswer, answer_entries, next_of, is_over, run_below, IsEmptyTrail, HaltsAt, IsEndedAt, IsOverAt, IsWalked};
+ghost use Rattle.bf_spec.specs.Walks.{IsAnswer, answer_entries, next_of, is_over, run_at, warnings, Logs, Uses};
+ghost use Rattle.bf_spec.specs.Walks.{IsEmptyTrail, HaltsWith, IsEndedAt, IsOverAt, WalksHalted, WalksRun};
 ghost use Rattle.bf_spec.specs.declared.node.Node.{Node as NodeValue};
 
 use crate::node::Node;
@@ -99,7 +98,7 @@ fn one_less(left: Option<u32>) -> Option<u32>
 
 /// Adds an entry for each skipped merge base.
 fn warn(entries: &mut Vec<Entry>, warned: &[u32]) -> Result<(), AllocError>
-    ensures { OnOk result (entries.new.items ≡ entries.old.items ++ map (λ p. Entry.SkippedBase p) warned.now) }
+    ensures { OnOk result (entries.new.items ≡ entries.old.items ++ warnings warned.now) }
 {
     for place in warned {
         entries.push(Entry::SkippedBase { place: *place })?;
@@ -110,7 +109,7 @@ fn warn(entries: &mut Vec<Entry>, warned: &[u32]) -> Result<(), AllocError>
 impl Trail {
     /// Adds an entry for each skipped merge base.
     fn warn(&mut self, warned: &[u32]) -> Result<(), AllocError>
-        ensures entries { OnOk result (self.new.entries.items ≡ self.old.entries.items ++ map (λ p. Entry.SkippedBase p) warned.now) }
+        ensures entries { OnOk result (Logs self.old (warnings warned.now) self.new) }
         ensures used { self.new.used ≡ self.old.used }
     {
         warn(&mut self.entries, warned)
@@ -119,7 +118,7 @@ impl Trail {
     /// Adds an outcome that is used.
     fn take(&mut self, place: u32, outcome: Outcome) -> Result<(), AllocError>
         ensures entries { self.new.entries ≡ self.old.entries }
-        ensures used { OnOk result (self.new.used.items ≡ self.old.used.items ++ (place, outcome) ∷ []) }
+        ensures used { OnOk result (Uses self.old (place, outcome) self.new) }
     {
         self.used.push((place, outcome))?;
         Ok(())
@@ -127,7 +126,7 @@ impl Trail {
 
     /// Adds a mark.
     fn mark(&mut self, mark: Mark, place: u32) -> Result<(), AllocError>
-        ensures entries { OnOk result (self.new.entries.items ≡ self.old.entries.items ++ Entry.Marked mark place ∷ []) }
+        ensures entries { OnOk result (Logs self.old (Entry.Marked mark place ∷ []) self.new) }
         ensures used { self.new.used ≡ self.old.used }
     {
         self.entries.push(Entry::Marked { mark, place })?;
@@ -137,7 +136,7 @@ impl Trail {
     /// Adds the entry of an answer, if it has one, and gives the ending that it tells.
     fn answer(&mut self, ask: &Ask) -> Result<Ending, AllocError>
         requires { IsAnswer ask.now }
-        ensures entries { OnOk result (self.new.entries.items ≡ self.old.entries.items ++ answer_entries ask.now) }
+        ensures entries { OnOk result (Logs self.old (answer_entries ask.now) self.new) }
         ensures used { self.new.used ≡ self.old.used }
         ensures ending { IfOk result (λ ending. end_of ending ≡ runs.End.Answered ask.now) }
     {
@@ -176,8 +175,8 @@ fn follow(
     requires trail { IsEmptyTrail trail.old }
     requires root { (d : NodeValue) → nodes_.path_of (slice_index_or nodes.old.items start d) ≡ [] }
     ensures extends { nodes_.Extends reach.now nodes.old.items nodes.new.items }
-    ensures halts { IfOk result (λ halt. (d : NodeValue) → HaltsAt nodes.new.items trail.new.entries.items trail.new.used.items halt
-        (run_below reach.now (outcomes_of_table table.now) left (slice_index_or nodes.old.items start d))) }
+    ensures halts { IfOk result (λ halt. (d : NodeValue) → HaltsWith nodes.new.items trail.new halt
+        (run_at reach.now table.now left nodes.old.items start d)) }
 {
     let mut index = start;
     let mut left = left;
@@ -250,10 +249,9 @@ fn over_at(
 
 /// The run that halted there.
 fn halted(alloc: Global, nodes: &[Node], halt: Halt, mut trail: Trail) -> Result<Walked, AllocError>
-    requires halts { (run : runs.Run) × HaltsAt nodes.now trail.entries.items trail.used.items halt run }
+    requires halts { (run : runs.Run) × HaltsWith nodes.now trail halt run }
     requires places { (graph : List (List ℕ)) × nodes_.AreNodes graph nodes.now }
-    ensures { IfOk result (λ walked. (graph : List (List ℕ)) (session : Session) (root : Asked) (run : runs.Run) → nodes_.IsTree graph session root nodes.now →
-        HaltsAt nodes.now trail.entries.items trail.used.items halt run → IsWalked graph session root nodes.now run walked) }
+    ensures { IfOk result (WalksHalted nodes.now trail halt) }
 {
     match halt {
         Halt::Answered(index) => {
@@ -286,8 +284,8 @@ pub(crate) fn run_from(
     requires nodes { nodes_.AreNodes reach.now nodes.old.items }
     requires root { (d : NodeValue) → nodes_.path_of (slice_index_or nodes.old.items start d) ≡ [] }
     ensures extends { nodes_.Extends reach.now nodes.old.items nodes.new.items }
-    ensures walked { IfOk result (λ walked. (session : Session) (root : Asked) → nodes_.IsTree reach.now session root nodes.old.items →
-        IsWalked reach.now session root nodes.new.items (runs.run reach.now (outcomes_of_table table.now) left root.search) walked) }
+    ensures walked { IfOk result
+        (WalksRun reach.now table.now left nodes.old.items nodes.new.items) }
 {
     let mut trail = Trail {
         entries: Vec::new(alloc),

@@ -1,7 +1,6 @@
 //! How nodes are made.
 ghost use Rattle.std.specs.Prelude.{◌≡◌, ◌<◌, ◌++◌, ◌∷◌, [], length, IfOk, Some};
 ghost use Rattle.bf_search.specs.declared.asks.Ask.TheVariants.{Test};
-ghost use Rattle.bf_search.specs.State.{ask};
 ghost use Rattle.bf_guesses.specs.Ends.{HasEnds};
 ghost use Rattle.bf_spec.specs.Nodes as nodes_;
 ghost use Rattle.bf_spec.specs.Sights.{IsSight, IsOrder, IsFresh};
@@ -33,7 +32,7 @@ fn fresh(alloc: Global, path: Vec<Mark>, state: State, weighed: Weighed) -> Resu
 pub(crate) fn first(alloc: Global, reach: &Reach, mut state: State) -> Result<Node, AllocError>
     requires len { length reach.now ≡ state.len }
     requires ends { HasEnds state.search }
-    ensures tree { IfOk result (λ node. nodes_.IsTree reach.now state (ask reach.now state.search) (node ∷ [])) }
+    ensures tree { IfOk result (nodes_.IsFirst reach.now state) }
     ensures path { IfOk result (λ node. nodes_.path_of node ≡ []) }
 {
     let weighed = state.weigh(reach)?;

@@ -1,13 +1,7 @@
 //! What is kept of the nodes when the root moves on.
-ghost use Rattle.std.specs.Prelude.{◌≡◌, ◌↔◌, ℕ, List, ◌<◌, ◌≤◌, ◌++◌, length, drop, All, filter};
-ghost use Rattle.std.specs.List.{slice_index_or};
-ghost use Rattle.bf_search.specs.declared.outcomes.Mark.{Mark as MarkValue};
-ghost use Rattle.bf_search.specs.State.{Asked};
-ghost use Rattle.bf_state.specs.Session.{Session};
-ghost use Rattle.bf_spec.specs.Guessed.{asked_at};
+ghost use Rattle.std.specs.Prelude.{◌≡◌, ◌≤◌, length, drop, All, filter};
 ghost use Rattle.bf_spec.specs.Nodes as nodes_;
-ghost use Rattle.bf_spec.specs.Reroot.{begins, IsCut};
-ghost use Rattle.bf_spec.specs.declared.node.Node.{Node as NodeValue};
+ghost use Rattle.bf_spec.specs.Reroot.{begins, IsCut, AreCut};
 
 use crate::node::Node;
 use bf_search::Mark;
@@ -46,7 +40,7 @@ fn cut(node: &mut Node, count: usize)
 fn cut_all(nodes: &mut Vec<Node>, count: usize)
     requires { All (λ n. count ≤ length (nodes_.path_of n)) nodes.old.items }
     ensures len { length nodes.new.items ≡ length nodes.old.items }
-    ensures cut { (k : ℕ) (d : NodeValue) → k < length nodes.old.items → IsCut count (slice_index_or nodes.old.items k d) (slice_index_or nodes.new.items k d) }
+    ensures cut { AreCut count nodes.old.items nodes.new.items }
 {
     for node in nodes.iter_mut() {
         cut(node, count);
@@ -56,8 +50,8 @@ fn cut_all(nodes: &mut Vec<Node>, count: usize)
 /// Keeps what is below a node, which then is the root.
 pub(crate) fn reroot(nodes: &mut Vec<Node>, prefix: &[Mark])
     requires { nodes_.HasPath nodes.old.items prefix.now }
-    ensures tree { (graph : List (List ℕ)) (session : Session) (root : Asked) → nodes_.IsTree graph session root nodes.old.items → nodes_.IsTree graph session (asked_at graph root prefix.now) nodes.new.items }
-    ensures paths { (path : List MarkValue) → nodes_.HasPath nodes.new.items path ↔ nodes_.HasPath nodes.old.items (prefix.now ++ path) }
+    ensures tree { nodes_.MovesRootAlong nodes.old.items prefix.now nodes.new.items }
+    ensures paths { nodes_.KeepsPathsBelow nodes.old.items prefix.now nodes.new.items }
 {
     keep(nodes, prefix);
     cut_all(nodes, prefix.len());

@@ -1,21 +1,18 @@
 //! The tree of guesses.
-ghost use Rattle.std.specs.Prelude.{◌≡◌, ◌≢◌, ◌↔◌, ℕ, ◌<◌, ◌∷◌, [], ◌++◌, List, length, Some, IfOk, OnOk, OnErr, IsOk, IsTrue};
+ghost use Rattle.std.specs.Prelude.{◌≡◌, ◌≢◌, ◌↔◌, ℕ, ◌<◌, ◌∷◌, [], List, length, IfOk, OnOk, OnErr, IsOk, IsTrue};
 ghost use Rattle.bf_search.specs.declared.asks.Ask.TheVariants.{Test};
 ghost use Rattle.bf_search.specs.declared.outcomes.Mark.{Mark as MarkValue};
 ghost use Rattle.bf_search.specs.declared.outcomes.Mark.TheVariants.{Skip};
-ghost use Rattle.bf_search.specs.Outcomes.{outcomes_of_table};
-ghost use Rattle.bf_search.specs.Run.{Leg, Open, run};
-ghost use Rattle.bf_search.specs.State.{Asked, ask};
-ghost use Rattle.bf_search.specs.OpenPaths.{OpenPath, best_open, place_of};
+ghost use Rattle.bf_search.specs.State.{ask};
 ghost use Rattle.bf_guesses.specs.Ends.{HasEnds};
 ghost use Rattle.bf_spec.specs.Guessed.{next_asked, asked_at};
-ghost use Rattle.bf_state.specs.Session.{Session, with_search};
-ghost use Rattle.bf_spec.specs.Nodes.{path_of, HasPath, IsTree, AreNodes, Extends, IsFound};
+ghost use Rattle.bf_state.specs.Session.{with_search};
+ghost use Rattle.bf_spec.specs.Nodes.{path_of, HasPath, AreNodes, Extends, IsBest, known_by, RootAsks};
+ghost use Rattle.bf_spec.specs.Nodes.{MovesRoot, KeepsPathsBelow, LacksGuess};
 ghost use Rattle.bf_spec.specs.Paths.{place_in};
-ghost use Rattle.bf_guesses.specs.Ends.{marks_of};
-ghost use Rattle.bf_spec.specs.Walks.{Tells, IsWalked};
-ghost use Rattle.bf_spec.specs.Ways.{IsAsked};
-ghost use Rattle.bf_spec.specs.Tree.{Guesses, HasNode, run_of, paths_of, root_of};
+ghost use Rattle.bf_spec.specs.Walks.{HasEntries, HasUsed, HasEnding, HasState, HasMarks, IsThere, IsWaiting, WalksRun};
+ghost use Rattle.bf_spec.specs.Tree.{HasNode, HasBeginnings, HasOpenPath, KeepsNodesBelow, LacksNode, MovesSession};
+ghost use Rattle.bf_spec.specs.Tree.{best_of, best_place, run_of, IsAskedIn, TellsIfAsked, paths_of, root_of};
 
 use crate::asked::is_asked_from;
 use crate::follow::{Walked, run_from};
@@ -83,15 +80,16 @@ impl<'r> SpecTree<'r> {
     /// Whether a path has a node.
     pub fn has_node(&self, path: &[Mark]) -> bool
         ensures node { IsTrue result ↔ HasNode self.now path.now }
-        ensures prefixes { (begin end : List MarkValue) → HasNode self.now (begin ++ end) → HasNode self.now begin }
+        ensures prefixes { HasBeginnings self.now }
     {
         has_path(self.nodes.as_slice(), path)
     }
 
     /// The place of the best open path. No node is lost, also where memory runs out.
     pub fn best_open(&mut self, table: &Table, claims: &[Claim]) -> Result<Option<u32>, AllocError>
-        ensures best { IfOk result (λ place. place ≡ place_of (best_open self.old.graph (outcomes_of_table table.now) claims.now self.old.root.search)) }
-        ensures answer { IfOk result (λ place. (path : OpenPath) → best_open self.old.graph (outcomes_of_table table.now) claims.now self.old.root.search ≡ Some path → HasNode self.new path.marks) }
+        ensures best { IfOk result (λ place. place ≡ best_place self.old table.now claims.now) }
+        ensures answer { IfOk result
+            (λ place. HasOpenPath self.new (best_of self.old table.now claims.now)) }
         ensures kept { (path : List MarkValue) → HasNode self.old path → HasNode self.new path }
         ensures root { self.new.root ≡ self.old.root }
         ensures session { self.new.session ≡ self.old.session }
@@ -106,9 +104,10 @@ impl<'r> SpecTree<'r> {
     pub fn advance_root(&mut self, mark: Mark) -> Result<(), AllocError>
         requires { (p : ℕ) × (self.old.root.step.ask ≡ Test p) }
         ensures root { OnOk result (self.new.root ≡ next_asked self.old.graph self.old.root mark) }
-        ensures session { OnOk result (self.new.session ≡ with_search self.old.session self.new.root.search) }
-        ensures kept { mark ≢ Skip → HasNode self.old (mark ∷ []) → IsOk result × ((path : List MarkValue) → HasNode self.new path ↔ HasNode self.old (mark ∷ path)) }
-        ensures fresh { OnOk result ((mark ≢ Skip → HasNode self.old (mark ∷ []) → ⊥) → self.new.paths ≡ [] ∷ []) }
+        ensures session { OnOk result (MovesSession self.old self.new) }
+        ensures kept { mark ≢ Skip → HasNode self.old (mark ∷ [])
+            → IsOk result × KeepsNodesBelow self.old (mark ∷ []) self.new }
+        ensures fresh { OnOk result (LacksNode self.old mark → self.new.paths ≡ [] ∷ []) }
         ensures graph { self.new.graph ≡ self.old.graph }
         ensures err { OnErr result (self.new ≡ self.old) }
     {
@@ -118,16 +117,16 @@ impl<'r> SpecTree<'r> {
     /// The run over the outcomes of a table from the root on, with so many marks left in its leg, if it has legs. Each
     /// of its marks has a node afterwards, also the last one of a leg. No node is lost, also where memory runs out.
     pub fn run(&mut self, table: &Table, left: Option<u32>) -> Result<Walked, AllocError>
-        ensures entries { IfOk result (λ walked. walked.entries.items ≡ (run_of self.old table.now left).entries) }
-        ensures used { IfOk result (λ walked. walked.used.items ≡ (run_of self.old table.now left).used) }
-        ensures ending { IfOk result (λ walked. Tells walked.ending (run_of self.old table.now left).end) }
-        ensures state { IfOk result (λ walked. walked.state ≡ with_search self.old.session (run_of self.old table.now left).search) }
-        ensures path { IfOk result (λ walked. walked.path.items ≡ marks_of (run_of self.old table.now left).entries) }
+        ensures entries { IfOk result (HasEntries (run_of self.old table.now left)) }
+        ensures used { IfOk result (HasUsed (run_of self.old table.now left)) }
+        ensures ending { IfOk result (HasEnding (run_of self.old table.now left)) }
+        ensures state { IfOk result (HasState self.old.session (run_of self.old table.now left)) }
+        ensures path { IfOk result (HasMarks (run_of self.old table.now left)) }
         ensures node { IfOk result (λ walked. HasNode self.new walked.path.items) }
-        ensures there { IfOk result (λ walked. (run_of self.old table.now left).end ≢ Leg →
-            (asked_at self.old.graph self.old.root walked.path.items).search ≡ (run_of self.old table.now left).search) }
-        ensures waits { IfOk result (λ walked. (p : ℕ) → (run_of self.old table.now left).end ≡ Open p →
-            (asked_at self.old.graph self.old.root walked.path.items).step.ask ≡ Test p) }
+        ensures there { IfOk result
+            (IsThere self.old.graph self.old.root (run_of self.old table.now left)) }
+        ensures waits { IfOk result
+            (IsWaiting self.old.graph self.old.root (run_of self.old table.now left)) }
         ensures kept { (path : List MarkValue) → HasNode self.old path → HasNode self.new path }
         ensures root { self.new.root ≡ self.old.root }
         ensures session { self.new.session ≡ self.old.session }
@@ -139,7 +138,7 @@ impl<'r> SpecTree<'r> {
     /// Whether some path over the outcomes of a table asks for a place. No node is lost, also where memory runs out.
     pub fn is_asked(&mut self, table: &Table, place: u32) -> Result<bool, AllocError>
         requires { place < length self.old.graph }
-        ensures asked { IfOk result (λ asked. IsTrue asked ↔ IsAsked self.old.graph (outcomes_of_table table.now) self.old.root.search place) }
+        ensures asked { IfOk result (λ asked. IsTrue asked ↔ IsAskedIn self.old table.now place) }
         ensures kept { (path : List MarkValue) → HasNode self.old path → HasNode self.new path }
         ensures root { self.new.root ≡ self.old.root }
         ensures session { self.new.session ≡ self.old.session }
@@ -152,8 +151,8 @@ impl<'r> SpecTree<'r> {
     pub fn jump(&mut self, path: &[Mark])
         requires { HasNode self.old path.now }
         ensures root { self.new.root ≡ asked_at self.old.graph self.old.root path.now }
-        ensures session { self.new.session ≡ with_search self.old.session self.new.root.search }
-        ensures paths { (more : List MarkValue) → HasNode self.new more ↔ HasNode self.old (path.now ++ more) }
+        ensures session { MovesSession self.old self.new }
+        ensures paths { KeepsNodesBelow self.old path.now self.new }
         ensures graph { self.new.graph ≡ self.old.graph }
     {
         reroot(&mut self.nodes, path);
@@ -161,7 +160,7 @@ impl<'r> SpecTree<'r> {
 }
 
 fn root_step(nodes: &[Node]) -> &Step
-    requires { (graph : List (List ℕ)) × (session : Session) × (root : Asked) × IsTree graph session root nodes.now }
+    requires { (graph : List (List ℕ)) × AreNodes graph nodes.now }
     ensures { result.now ≡ (root_of nodes.now).step }
 {
     let none: [Mark; 0] = [];
@@ -199,8 +198,8 @@ fn best_in(
 ) -> Result<Option<Found>, AllocError>
     requires { AreNodes reach.now nodes.old.items }
     ensures extends { Extends reach.now nodes.old.items nodes.new.items }
-    ensures found { IfOk result (λ found. (session : Session) (root : Asked) → IsTree reach.now session root nodes.old.items →
-        IsFound nodes.new.items found (best_open reach.now (outcomes_of_table table.now) claims.now root.search)) }
+    ensures found { IfOk result
+        (IsBest (known_by reach.now table.now claims.now) nodes.old.items nodes.new.items) }
 {
     let none: [Mark; 0] = [];
     let Some(start) = find(nodes.as_slice(), &none) else {
@@ -219,8 +218,8 @@ fn run_in(
 ) -> Result<Walked, AllocError>
     requires { AreNodes reach.now nodes.old.items }
     ensures extends { Extends reach.now nodes.old.items nodes.new.items }
-    ensures walked { IfOk result (λ walked. (session : Session) (root : Asked) → IsTree reach.now session root nodes.old.items →
-        IsWalked reach.now session root nodes.new.items (run reach.now (outcomes_of_table table.now) left root.search) walked) }
+    ensures walked { IfOk result
+        (WalksRun reach.now table.now left nodes.old.items nodes.new.items) }
 {
     let none: [Mark; 0] = [];
     let Some(start) = find(nodes.as_slice(), &none) else {
@@ -240,8 +239,7 @@ fn asked_in(
     requires nodes { AreNodes reach.now nodes.old.items }
     requires place { place < length reach.now }
     ensures extends { Extends reach.now nodes.old.items nodes.new.items }
-    ensures asked { IfOk result (λ asked. (session : Session) (root : Asked) → IsTree reach.now session root nodes.old.items →
-        (IsTrue asked ↔ IsAsked reach.now (outcomes_of_table table.now) root.search place)) }
+    ensures asked { IfOk result (TellsIfAsked reach.now table.now nodes.old.items place) }
 {
     let none: [Mark; 0] = [];
     let Some(start) = find(nodes.as_slice(), &none) else {
@@ -253,8 +251,8 @@ fn asked_in(
 /// The root after one more mark, made anew.
 fn moved(alloc: Global, reach: &Reach, nodes: &[Node], mark: Mark) -> Result<Node, AllocError>
     requires nodes { AreNodes reach.now nodes.now }
-    requires asks { (p : ℕ) × ((session : Session) (root : Asked) → IsTree reach.now session root nodes.now → root.step.ask ≡ Test p) }
-    ensures tree { IfOk result (λ node. (session : Session) (root : Asked) → IsTree reach.now session root nodes.now → IsTree reach.now session (next_asked reach.now root mark) (node ∷ [])) }
+    requires asks { RootAsks reach.now nodes.now }
+    ensures tree { IfOk result (λ node. MovesRoot reach.now nodes.now mark (node ∷ [])) }
     ensures path { IfOk result (λ node. path_of node ≡ []) }
 {
     let none: [Mark; 0] = [];
@@ -277,10 +275,12 @@ fn advance_nodes(
     mark: Mark,
 ) -> Result<(), AllocError>
     requires nodes { AreNodes reach.now nodes.old.items }
-    requires asks { (p : ℕ) × ((session : Session) (root : Asked) → IsTree reach.now session root nodes.old.items → root.step.ask ≡ Test p) }
-    ensures tree { OnOk result ((session : Session) (root : Asked) → IsTree reach.now session root nodes.old.items → IsTree reach.now session (next_asked reach.now root mark) nodes.new.items) }
-    ensures kept { mark ≢ Skip → HasPath nodes.old.items (mark ∷ []) → IsOk result × ((path : List MarkValue) → HasPath nodes.new.items path ↔ HasPath nodes.old.items (mark ∷ path)) }
-    ensures fresh { OnOk result ((mark ≢ Skip → HasPath nodes.old.items (mark ∷ []) → ⊥) → paths_of nodes.new.items ≡ [] ∷ []) }
+    requires asks { RootAsks reach.now nodes.old.items }
+    ensures tree { OnOk result (MovesRoot reach.now nodes.old.items mark nodes.new.items) }
+    ensures kept { mark ≢ Skip → HasPath nodes.old.items (mark ∷ [])
+        → IsOk result × KeepsPathsBelow nodes.old.items (mark ∷ []) nodes.new.items }
+    ensures fresh { OnOk result
+        (LacksGuess nodes.old.items mark → paths_of nodes.new.items ≡ [] ∷ []) }
     ensures err { OnErr result (nodes.new ≡ nodes.old) }
 {
     if is_guess(mark) && has_path(nodes.as_slice(), &[mark]) {

@@ -1,15 +1,9 @@
 //! The walk through the nodes.
-ghost use Rattle.std.specs.Prelude.{◌≡◌, ◌↔◌, ℕ, ◌<◌, vec_len, ◌∷◌, ◌++◌, [], List, length, Some, None, IfSome, IfNone, IfOk, OnOk, OnErr, IsTrue};
-ghost use Rattle.std.specs.List.{slice_index_or};
-ghost use Rattle.bf_search.specs.declared.asks.Ask.TheVariants.{Test};
+ghost use Rattle.std.specs.Prelude.{◌≡◌, ◌↔◌, ◌<◌, length, IfSome, IfNone, IfOk, IsTrue};
 ghost use Rattle.bf_search.specs.Outcomes.{outcomes_of_table};
-ghost use Rattle.bf_search.specs.State.{Asked, ask};
-ghost use Rattle.bf_state.specs.Session.{Session};
 ghost use Rattle.bf_search.specs.OpenPaths.{is_claimed};
-ghost use Rattle.bf_guesses.specs.Ends.{HasEnds};
 ghost use Rattle.bf_spec.specs.Guessed.{look_of};
 ghost use Rattle.bf_spec.specs.Nodes as nodes_;
-ghost use Rattle.bf_spec.specs.declared.node.Node.{Node as NodeValue};
 
 use crate::grow::grown;
 use crate::node::Node;
@@ -59,7 +53,7 @@ fn is_same(path: &[Mark], other: &[Mark]) -> bool
 
 /// The node of a path.
 pub(crate) fn find(nodes: &[Node], path: &[Mark]) -> Option<usize>
-    ensures found { IfSome result (λ i. (i < length nodes.now) × ((d : NodeValue) → nodes_.path_of (slice_index_or nodes.now i d) ≡ path.now)) }
+    ensures found { IfSome result (nodes_.IsAt nodes.now path.now) }
     ensures none { IfNone result (nodes_.HasPath nodes.now path.now → ⊥) }
 {
     for (i, node) in nodes.iter().enumerate() {
@@ -108,9 +102,9 @@ pub(crate) fn child(
 ) -> Result<usize, AllocError>
     requires index { index < length nodes.old.items }
     requires nodes { nodes_.AreNodes reach.now nodes.old.items }
-    requires asks { (d : NodeValue) → (slice_index_or nodes.old.items index d).step.ask ≡ Test place }
+    requires asks { nodes_.AsksFor nodes.old.items index place }
     ensures extends { nodes_.Extends reach.now nodes.old.items nodes.new.items }
-    ensures child { IfOk result (λ i. (i < length nodes.new.items) × ((d : NodeValue) → nodes_.path_of (slice_index_or nodes.new.items i d) ≡ nodes_.path_of (slice_index_or nodes.old.items index d) ++ mark ∷ [])) }
+    ensures child { IfOk result (nodes_.Follows nodes.old.items index mark nodes.new.items) }
 {
     let mut path = Vec::from_slice(alloc, nodes[index].path.as_slice())?;
     path.push(mark)?;
@@ -151,8 +145,8 @@ fn settle(
     requires start { start < length nodes.old.items }
     requires nodes { nodes_.AreNodes reach.now nodes.old.items }
     ensures extends { nodes_.Extends reach.now nodes.old.items nodes.new.items }
-    ensures stops { IfOk result (λ stop. (d : NodeValue) → nodes_.Stops reach.now (outcomes_of_table table.now) claims.now nodes.new.items stop
-        (nodes_.left_at reach.now nodes.old.items start) (nodes_.best_at reach.now (outcomes_of_table table.now) claims.now (slice_index_or nodes.old.items start d))) }
+    ensures stops { IfOk result (nodes_.StopsFrom
+        (nodes_.known_by reach.now table.now claims.now) nodes.old.items start nodes.new.items) }
 {
     let mut index = start;
     loop {
@@ -177,8 +171,8 @@ pub(crate) fn best_from(
     requires start { start < length nodes.old.items }
     requires nodes { nodes_.AreNodes reach.now nodes.old.items }
     ensures extends { nodes_.Extends reach.now nodes.old.items nodes.new.items }
-    ensures found { IfOk result (λ found. (d : NodeValue) → nodes_.IsFound nodes.new.items found
-        (nodes_.best_at reach.now (outcomes_of_table table.now) claims.now (slice_index_or nodes.old.items start d))) }
+    ensures found { IfOk result (nodes_.IsBestFrom
+        (nodes_.known_by reach.now table.now claims.now) nodes.old.items start nodes.new.items) }
 {
     match settle(alloc, reach, nodes, start, table, claims)? {
         Stop::Ended => Ok(None),

@@ -22,21 +22,25 @@ best_again s e warned ps (Some p) = refl
 best_again s e warned ps None = refl
 
 one_again : (b : Bool) (s : Search) (e : Option ℕ) (bad : ℕ) (warned ps : List ℕ) (chosen : Option ℕ)
-    → cond b (without_test (expecting s e) [] (FirstBad bad)) (ask_best (expecting s e) [] ps chosen) ≡ quiet (cond b (without_test s warned (FirstBad bad)) (ask_best s warned ps chosen))
+    → cond b (without_test (expecting s e) [] (FirstBad bad)) (ask_best (expecting s e) [] ps chosen) ≡ quiet
+    (cond b (without_test s warned (FirstBad bad)) (ask_best s warned ps chosen))
 one_again true s e bad warned ps chosen = refl
 one_again false s e bad warned ps chosen = best_again s e warned ps chosen
 
-among_again : (s : Search) (e : Option ℕ) (bad : ℕ) (warned ps : List ℕ) (chosen : Option ℕ) → ask_among (expecting s e) bad [] ps chosen ≡ quiet (ask_among s bad warned ps chosen)
+among_again : (s : Search) (e : Option ℕ) (bad : ℕ) (warned ps : List ℕ) (chosen : Option ℕ)
+    → ask_among (expecting s e) bad [] ps chosen ≡ quiet (ask_among s bad warned ps chosen)
 among_again s e bad warned [] chosen = refl
 among_again s e bad warned (p ∷ []) chosen = one_again (p == bad) s e bad warned (p ∷ []) chosen
 among_again s e bad warned (p ∷ q ∷ ps) chosen = best_again s e warned (p ∷ q ∷ ps) chosen
 
-candidates_again : (graph : List (List ℕ)) (s : Search) (e : Option ℕ) (bad : ℕ) (warned : List ℕ) → ask_candidates graph (expecting s e) bad [] ≡ quiet (ask_candidates graph s bad warned)
+candidates_again : (graph : List (List ℕ)) (s : Search) (e : Option ℕ) (bad : ℕ) (warned : List ℕ)
+    → ask_candidates graph (expecting s e) bad [] ≡ quiet (ask_candidates graph s bad warned)
 unfolding best_of
 candidates_again graph s e bad warned = among_again s e bad warned (candidates graph bad s.goods s.first_parent) (best_of graph s bad)
 
 -- an ask among candidates, once the check has passed
-settled_again : (graph : List (List ℕ)) (s : Search) (bad : ℕ) (warned : List ℕ) → s.bad ≡ Some bad → (s.goods ≡ [] → ⊥) → s.checked ≡ true → ask graph (ask_candidates graph s bad warned).search ≡ quiet (ask_candidates graph s bad warned)
+settled_again : (graph : List (List ℕ)) (s : Search) (bad : ℕ) (warned : List ℕ) → s.bad ≡ Some bad → (s.goods ≡ [] → ⊥) → s.checked ≡ true
+    → ask graph (ask_candidates graph s bad warned).search ≡ quiet (ask_candidates graph s bad warned)
 settled_again graph s bad warned b g passed =
     ap (λ (t : Search). ask graph t) (candidates_settle graph s bad warned)
     ∙ known_ends graph (expecting s e) bad b g
@@ -47,26 +51,30 @@ settled_again graph s bad warned b g passed =
     e = tested (ask_candidates graph s bad warned).step.ask
 
 -- an ask while no check has passed
-unchecked : (graph : List (List ℕ)) (s : Search) (e : Option ℕ) (bad : ℕ) (c : Check) → s.bad ≡ Some bad → (s.goods ≡ [] → ⊥) → s.checked ≡ false → c ≡ check graph bad s.goods s.skips → ask graph (expecting s e) ≡ ask_checked graph (expecting s e) bad c
+unchecked : (graph : List (List ℕ)) (s : Search) (e : Option ℕ) (bad : ℕ) (c : Check) → s.bad ≡ Some bad → (s.goods ≡ [] → ⊥) → s.checked ≡ false
+    → c ≡ check graph bad s.goods s.skips → ask graph (expecting s e) ≡ ask_checked graph (expecting s e) bad c
 unchecked graph s e bad c b g unpassed same =
     known_ends graph (expecting s e) bad b g
     ∙ ap (λ (v : Bool). cond v (ask_candidates graph (expecting s e) bad []) (ask_checked graph (expecting s e) bad (check graph bad s.goods s.skips))) unpassed
     ∙ ap (λ (k : Check). ask_checked graph (expecting s e) bad k) (sym same)
 
-checked_again : (graph : List (List ℕ)) (s : Search) (bad : ℕ) (c : Check) → s.bad ≡ Some bad → (s.goods ≡ [] → ⊥) → s.checked ≡ false → c ≡ check graph bad s.goods s.skips → ask graph (ask_checked graph s bad c).search ≡ quiet (ask_checked graph s bad c)
+checked_again : (graph : List (List ℕ)) (s : Search) (bad : ℕ) (c : Check) → s.bad ≡ Some bad → (s.goods ≡ [] → ⊥) → s.checked ≡ false
+    → c ≡ check graph bad s.goods s.skips → ask graph (ask_checked graph s bad c).search ≡ quiet (ask_checked graph s bad c)
 checked_again graph s bad (TestBase p) b g unpassed same = unchecked graph s (Some p) bad (TestBase p) b g unpassed same
 checked_again graph s bad (BaseIsBad p) b g unpassed same = unchecked graph s None bad (BaseIsBad p) b g unpassed same
 checked_again graph s bad (Passed warned) b g unpassed same = settled_again graph (record s { checked = true }) bad warned b g refl
 
 known_again : (v : Bool) (graph : List (List ℕ)) (s : Search) (bad : ℕ) → s.bad ≡ Some bad → (s.goods ≡ [] → ⊥) → s.checked ≡ v
-    → ask graph (cond v (ask_candidates graph s bad []) (ask_checked graph s bad (check graph bad s.goods s.skips))).search ≡ quiet (cond v (ask_candidates graph s bad []) (ask_checked graph s bad (check graph bad s.goods s.skips)))
+    → ask graph (cond v (ask_candidates graph s bad []) (ask_checked graph s bad (check graph bad s.goods s.skips))).search ≡ quiet
+    (cond v (ask_candidates graph s bad []) (ask_checked graph s bad (check graph bad s.goods s.skips)))
 known_again true graph s bad b g is = settled_again graph s bad [] b g is
 known_again false graph s bad b g is = checked_again graph s bad (check graph bad s.goods s.skips) b g is refl
 
 nonempty : {goods : List ℕ} {good : ℕ} {others : List ℕ} → goods ≡ good ∷ others → goods ≡ [] → ⊥
 nonempty h e = cc
 
-ends_again : (graph : List (List ℕ)) (s : Search) (bad : Option ℕ) (goods : List ℕ) → s.bad ≡ bad → s.goods ≡ goods → ask graph (ask_ends graph s bad goods).search ≡ quiet (ask_ends graph s bad goods)
+ends_again : (graph : List (List ℕ)) (s : Search) (bad : Option ℕ) (goods : List ℕ) → s.bad ≡ bad → s.goods ≡ goods
+    → ask graph (ask_ends graph s bad goods).search ≡ quiet (ask_ends graph s bad goods)
 ends_again graph s None [] b g = ends_are graph (expecting s None) None [] b g
 ends_again graph s None (good ∷ goods) b g = ends_are graph (expecting s None) None (good ∷ goods) b g
 ends_again graph s (Some bad) [] b g = ends_are graph (expecting s None) (Some bad) [] b g

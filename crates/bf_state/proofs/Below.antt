@@ -28,11 +28,13 @@ below_with_good len s p b here = record {
   expected = b.expected;
 }
 
-pub below_added : (len : ℕ) (s : Search) (p : ℕ) (goods : List ℕ) {T E : Type 0} (r : Result T E) → IsSearchBelow len s → p < len → OnOk r (goods ≡ with_good s.goods p) → OnErr r (goods ≡ s.goods) → IsSearchBelow len (record s { goods = goods })
+pub below_added : (len : ℕ) (s : Search) (p : ℕ) (goods : List ℕ) {T E : Type 0} (r : Result T E) → IsSearchBelow len s → p < len
+    → OnOk r (goods ≡ with_good s.goods p) → OnErr r (goods ≡ s.goods) → IsSearchBelow len (record s { goods = goods })
 below_added len s p goods (Ok x) b here ok err = subst (λ (gs : List ℕ). IsSearchBelow len (record s { goods = gs })) (sym ok) (below_with_good len s p b here)
 below_added len s p goods (Err x) b here ok err = subst (λ (gs : List ℕ). IsSearchBelow len (record s { goods = gs })) (sym err) b
 
-pub below_begun : (len : ℕ) (first_parent : Bool) (bad : Option ℕ) (goods : List ℕ) → IfSome bad (λ p. p < len) → All (λ good. good < len) goods → IsSearchBelow len (begun len first_parent bad goods)
+pub below_begun : (len : ℕ) (first_parent : Bool) (bad : Option ℕ) (goods : List ℕ) → IfSome bad (λ p. p < len) → All (λ good. good < len) goods
+    → IsSearchBelow len (begun len first_parent bad goods)
 below_begun len first_parent bad goods b g = record {
   bad = b;
   goods = All-with_goods (λ good. good < len) [] goods (λ k d l. absurd (omega arith)) g;
@@ -52,23 +54,31 @@ settled_good v p asked known a = λ i. with_search v (record v.search { goods = 
     kept = sym (with_good-known v.search.goods p known)
 
 pub settled_bad : (v : Session) (p : ℕ) (asked : Bool) → asked ≡ is_expected v.search p
-    → with_search v (record v.search { bad = Some p; checked = v.search.checked && asked; expected = None; bad_asked = asked }) ≡ with_search v (mark v.search Bad p)
+    → with_search v (record v.search { bad = Some p; checked = v.search.checked && asked; expected = None; bad_asked = asked }) ≡ with_search v
+    (mark v.search Bad p)
 unfolding mark
 settled_bad v p asked a = λ i. with_search v (record v.search { bad = Some p; checked = v.search.checked && a i; expected = None; bad_asked = a i })
 
-pub settled_skip : (v : Session) (p : ℕ) → with_search v (record v.search { skips = set v.search.skips p true; expected = None }) ≡ with_search v (mark v.search Skip p)
+pub settled_skip : (v : Session) (p : ℕ) → with_search v (record v.search { skips = set v.search.skips p true; expected = None }) ≡ with_search v
+    (mark v.search Skip p)
 unfolding mark
 settled_skip v p = refl
 
 -- a place that is marked good and stands among the good ones is marked in the same way
 pub mark_added : (s : Search) (m : Mark) (p : ℕ) → mark (with_marked_good s m p) m p ≡ mark s m p
 unfolding mark
-mark_added s Good p = λ i. record s { goods = with_good-known (with_good s.goods p) p (has_place-with_good s.goods p) i; checked = s.checked && is_expected s p; expected = None; bad_asked = false }
+mark_added s Good p = λ i. record s {
+  goods = with_good-known (with_good s.goods p) p (has_place-with_good s.goods p) i;
+  checked = s.checked && is_expected s p;
+  expected = None;
+  bad_asked = false;
+}
 mark_added s Bad p = refl
 mark_added s Skip p = refl
 
 -- what an ask leaves is left in the same way beside one more good place
-pub follow_added : (s : Search) (m : Mark) (p : ℕ) (checked : Bool) (expected : Option ℕ) → followed (with_marked_good s m p) checked expected ≡ with_marked_good (followed s checked expected) m p
+pub follow_added : (s : Search) (m : Mark) (p : ℕ) (checked : Bool) (expected : Option ℕ)
+    → followed (with_marked_good s m p) checked expected ≡ with_marked_good (followed s checked expected) m p
 follow_added s Good p checked expected = refl
 follow_added s Bad p checked expected = refl
 follow_added s Skip p checked expected = refl

@@ -18,12 +18,13 @@ with_good-known goods p h = cond-true (has_place goods p) goods (goods ++ p ∷ 
 pub with_good-fresh : (goods : List ℕ) (p : ℕ) → has_place goods p ≡ false → with_good goods p ≡ goods ++ p ∷ []
 with_good-fresh goods p h = cond-false (has_place goods p) goods (goods ++ p ∷ []) h
 
+-- a test that adds nothing
+pub or_false : (b : Bool) → (b || false) ≡ b
+or_false true = refl
+or_false false = refl
+
 pub has_place-append : (goods : List ℕ) (p q : ℕ) → has_place (goods ++ p ∷ []) q ≡ (has_place goods q || (p == q))
 has_place-append goods p q = list_any-append (λ r. r == q) goods (p ∷ []) ∙ ap (λ b. has_place goods q || b) (or_false (p == q))
-  where
-    or_false : (b : Bool) → (b || false) ≡ b
-    or_false true = refl
-    or_false false = refl
 
 -- afterwards it is there
 pub has_place-with_good : (goods : List ℕ) (p : ℕ) → has_place (with_good goods p) p ≡ true

@@ -23,17 +23,20 @@ use Rattle.bf_state.proofs.Weighing.{length-weights, weights_within}
 
 -- ---- the check
 
-pub stopped_without_bad : (graph : List (List ℕ)) (s : Search) (next : Step) → s.bad ≡ None → IsDecision (ask graph s) s.checked next → IsStopped (ask graph s) s next
+pub stopped_without_bad : (graph : List (List ℕ)) (s : Search) (next : Step) → s.bad ≡ None → IsDecision (ask graph s) s.checked next
+    → IsStopped (ask graph s) s next
 stopped_without_bad graph s next b d = record { decides = d; unpassed = λ bad e g. absurd (apart (sym b ∙ e)) }
   where
     apart : {x : ℕ} → None ≡ Some x → ⊥
     apart e = cc
 
-pub stopped_without_good : (graph : List (List ℕ)) (s : Search) (next : Step) → s.goods ≡ [] → IsDecision (ask graph s) s.checked next → IsStopped (ask graph s) s next
+pub stopped_without_good : (graph : List (List ℕ)) (s : Search) (next : Step) → s.goods ≡ [] → IsDecision (ask graph s) s.checked next
+    → IsStopped (ask graph s) s next
 stopped_without_good graph s next none d = record { decides = d; unpassed = λ bad e g. absurd (g none) }
 
 -- where the check has passed before, it is not made
-pub passes_checked : (graph : List (List ℕ)) (s : Search) (bad : ℕ) (warned : List ℕ) → s.bad ≡ Some bad → (s.goods ≡ [] → ⊥) → s.checked ≡ true → warned ≡ [] → HasPassed graph (ask graph s) s warned bad
+pub passes_checked : (graph : List (List ℕ)) (s : Search) (bad : ℕ) (warned : List ℕ) → s.bad ≡ Some bad → (s.goods ≡ [] → ⊥) → s.checked ≡ true → warned ≡ []
+    → HasPassed graph (ask graph s) s warned bad
 passes_checked graph s bad warned b g c w = record {
   bad_is = b;
   some_good = g;
@@ -43,7 +46,8 @@ passes_checked graph s bad warned b g c w = record {
       ∙ ap (λ (ps : List ℕ). ask_candidates graph (record s { checked = true }) bad ps) (sym w);
 }
 
-pub passes_by_check : (graph : List (List ℕ)) (s : Search) (bad : ℕ) (c : Check) (passage : Passage) → s.bad ≡ Some bad → (s.goods ≡ [] → ⊥) → s.checked ≡ false → c ≡ check graph bad s.goods s.skips
+pub passes_by_check : (graph : List (List ℕ)) (s : Search) (bad : ℕ) (c : Check) (passage : Passage) → s.bad ≡ Some bad → (s.goods ≡ [] → ⊥) → s.checked ≡ false
+    → c ≡ check graph bad s.goods s.skips
     → IsPassage graph (ask_checked graph s bad c) s passage → IsPassage graph (ask graph s) s passage
 passes_by_check graph s bad c passage b g f e p =
     subst (λ (x : Asked). IsPassage graph x s passage) (ap (λ (k : Check). ask_checked graph s bad k) e ∙ sym whole) p
@@ -53,16 +57,19 @@ passes_by_check graph s bad c passage b g f e p =
 
 -- ---- what is known then
 
-pub passed_is : (graph : List (List ℕ)) (s : Search) (passage : Passage) → IsPassage graph (ask graph s) s passage → passed_after s.checked passage ≡ (ask graph s).search.checked
+pub passed_is : (graph : List (List ℕ)) (s : Search) (passage : Passage) → IsPassage graph (ask graph s) s passage
+    → passed_after s.checked passage ≡ (ask graph s).search.checked
 passed_is graph s (Asks next) p = p.decides.checked
 passed_is graph s (Passed warned bad) p =
     sym (ap (λ (x : Asked). x.search.checked) p.asks ∙ ap (λ (t : Search). t.checked) (candidates_settle graph (record s { checked = true }) bad warned))
 
-pub warned_is : (graph : List (List ℕ)) (s : Search) (passage : Passage) → IsPassage graph (ask graph s) s passage → warned_after passage ≡ (ask graph s).step.warned
+pub warned_is : (graph : List (List ℕ)) (s : Search) (passage : Passage) → IsPassage graph (ask graph s) s passage
+    → warned_after passage ≡ (ask graph s).step.warned
 warned_is graph s (Asks next) p = ap (λ (t : Step). t.warned) p.decides.step
 warned_is graph s (Passed warned bad) p =
     sym (ap (λ (x : Asked). x.step.warned) p.asks
-    ∙ ap (λ (t : Step). t.warned) (among_step s (record s { checked = true }) bad warned (candidates graph bad s.goods s.first_parent) (best_of graph (record s { checked = true }) bad)))
+    ∙ ap (λ (t : Step). t.warned) (among_step s (record s { checked = true }) bad warned (candidates graph bad s.goods s.first_parent)
+    (best_of graph (record s { checked = true }) bad)))
 
 -- what an ask chooses plays no part in a skip
 pub skip_taken : (graph : List (List ℕ)) (v : Session) (p : ℕ) (passed : Bool) → passed ≡ (ask graph v.search).search.checked
@@ -75,9 +82,11 @@ skip_taken graph v p passed h =
 -- ---- the ask over the candidates
 
 -- where the check has passed, the ask is among the candidates
-pub decide_among : (graph : List (List ℕ)) (s : Search) (bad : ℕ) (warned : List ℕ) (a : Ask) → HasPassed graph (ask graph s) s warned bad → a ≡ (ask_candidates graph s bad []).step.ask
+pub decide_among : (graph : List (List ℕ)) (s : Search) (bad : ℕ) (warned : List ℕ) (a : Ask) → HasPassed graph (ask graph s) s warned bad
+    → a ≡ (ask_candidates graph s bad []).step.ask
     → IsDecision (ask graph s) true (record { warned = warned; ask = a })
-decide_among graph s bad warned a p e = subst (λ (x : Asked). IsDecision x true (record { warned = warned; ask = a })) (sym p.asks) (decide_passed graph s bad warned a e)
+decide_among graph s bad warned a p e = subst (λ (x : Asked). IsDecision x true (record { warned = warned; ask = a })) (sym p.asks)
+    (decide_passed graph s bad warned a e)
 
 one_listed : (b : Bool) (s : Search) (bad : ℕ) (ps : List ℕ) (chosen : Option ℕ)
     → ask_listed (cond b (Some (FirstBad bad)) None) ps chosen ≡ (cond b (without_test s [] (FirstBad bad)) (ask_best s [] ps chosen)).step.ask
@@ -92,20 +101,24 @@ listed_is s bad (p ∷ q ∷ ps) chosen = sym (best_is s [] (p ∷ q ∷ ps) cho
 row_is : (graph : List (List ℕ)) (s : Search) (bad : ℕ) → s.bad ≡ Some bad → mask_of graph s ≡ candidate_row graph bad s.goods s.first_parent
 row_is graph s bad b = ap (λ (o : Option ℕ). row_below graph o s) b
 
-pub asks_over : (graph : List (List ℕ)) (s : Search) (bad : ℕ) (mask : List Bool) (all : List ℕ) → s.bad ≡ Some bad → mask ≡ mask_of graph s → all ≡ weights_of graph s
+pub asks_over : (graph : List (List ℕ)) (s : Search) (bad : ℕ) (mask : List Bool) (all : List ℕ) → s.bad ≡ Some bad → mask ≡ mask_of graph s
+    → all ≡ weights_of graph s
     → ask_over mask all bad s.skips ≡ (ask_candidates graph s bad []).step.ask
 unfolding best_of
 asks_over graph s bad mask all b m w =
     ap (λ (r : List Bool). ask_over r all bad s.skips) (m ∙ row_is graph s bad b)
     ∙ ap (λ (ws : List ℕ). ask_over row ws bad s.skips) (w ∙ ap (λ (r : List Bool). weights graph r s.first_parent) (row_is graph s bad b))
-    ∙ ap (λ (ps : List ℕ). ask_listed (ending ps bad) ps (best row (weights graph row s.first_parent) bad s.skips)) (places_of-candidate_row graph bad s.goods s.first_parent)
+    ∙ ap (λ (ps : List ℕ). ask_listed (ending ps bad) ps (best row (weights graph row s.first_parent) bad s.skips))
+    (places_of-candidate_row graph bad s.goods s.first_parent)
     ∙ listed_is s bad (candidates graph bad s.goods s.first_parent) (best row (weights graph row s.first_parent) bad s.skips)
   where
     row : List Bool
     row = candidate_row graph bad s.goods s.first_parent
 
-pub decide_over : (graph : List (List ℕ)) (s : Search) (bad : ℕ) (warned : List ℕ) (mask : List Bool) (all : List ℕ) (a : Ask) → HasPassed graph (ask graph s) s warned bad
-    → mask ≡ mask_of graph s → all ≡ weights_of graph s → a ≡ ask_over mask all bad s.skips → IsDecision (ask graph s) true (record { warned = warned; ask = a })
+pub decide_over : (graph : List (List ℕ)) (s : Search) (bad : ℕ) (warned : List ℕ) (mask : List Bool) (all : List ℕ) (a : Ask)
+    → HasPassed graph (ask graph s) s warned bad
+    → mask ≡ mask_of graph s → all ≡ weights_of graph s → a ≡ ask_over mask all bad s.skips
+    → IsDecision (ask graph s) true (record { warned = warned; ask = a })
 decide_over graph s bad warned mask all a p m w e = decide_among graph s bad warned a p (e ∙ asks_over graph s bad mask all p.bad_is m w)
 
 -- ---- rows and weights
@@ -117,14 +130,17 @@ length-row_below graph s (Some bad) = length-candidate_row graph bad s.goods s.f
 pub length-mask : (graph : List (List ℕ)) (s : Search) (mask : List Bool) → mask ≡ mask_of graph s → length mask ≡ length graph
 length-mask graph s mask m = ap length m ∙ length-row_below graph s s.bad
 
-pub length-all : (graph : List (List ℕ)) (s : Search) (mask : List Bool) (all : List ℕ) → mask ≡ mask_of graph s → all ≡ weights_of graph s → length all ≡ length mask
+pub length-all : (graph : List (List ℕ)) (s : Search) (mask : List Bool) (all : List ℕ) → mask ≡ mask_of graph s → all ≡ weights_of graph s
+    → length all ≡ length mask
 length-all graph s mask all m w = ap length w ∙ length-weights graph (mask_of graph s) s.first_parent ∙ sym (length-mask graph s mask m)
 
-pub all_within : (graph : List (List ℕ)) (s : Search) (mask : List Bool) (all : List ℕ) → mask ≡ mask_of graph s → all ≡ weights_of graph s → All (λ w. w ≤ count_in mask) all
+pub all_within : (graph : List (List ℕ)) (s : Search) (mask : List Bool) (all : List ℕ) → mask ≡ mask_of graph s → all ≡ weights_of graph s
+    → All (λ w. w ≤ count_in mask) all
 all_within graph s mask all m w =
     rw (m, w) (weights_within graph (mask_of graph s) s.first_parent (length-row_below graph s s.bad))
 
-pub candidates_of_row : (graph : List (List ℕ)) (len : ℕ) (s : Search) (bad : ℕ) (mask : List Bool) → length graph ≡ len → IsSearchBelow len s → s.bad ≡ Some bad → mask ≡ mask_of graph s → IsCandidateRow graph s.first_parent mask
+pub candidates_of_row : (graph : List (List ℕ)) (len : ℕ) (s : Search) (bad : ℕ) (mask : List Bool) → length graph ≡ len → IsSearchBelow len s
+    → s.bad ≡ Some bad → mask ≡ mask_of graph s → IsCandidateRow graph s.first_parent mask
 candidates_of_row graph len s bad mask l below b m = record {
   bad = bad;
   goods = s.goods;
@@ -148,7 +164,8 @@ needs_none graph s next stopped = by_ends s.bad s.goods refl refl
         apart : {x : ℕ} {xs : List ℕ} → x ∷ xs ≡ [] → ⊥
         apart e = cc
 
-pub needs_all : (graph : List (List ℕ)) (s : Search) (warned : List ℕ) (bad : ℕ) → HasPassed graph (ask graph s) s warned bad → weights_needed graph s ≡ Some (weights_of graph s)
+pub needs_all : (graph : List (List ℕ)) (s : Search) (warned : List ℕ) (bad : ℕ) → HasPassed graph (ask graph s) s warned bad
+    → weights_needed graph s ≡ Some (weights_of graph s)
 needs_all graph s warned bad p = by_ends s.bad s.goods p.bad_is p.some_good
   where
     by_ends : (o : Option ℕ) (goods : List ℕ) → o ≡ Some bad → (goods ≡ [] → ⊥) → weights_between graph s o goods ≡ Some (weights_of graph s)

@@ -22,10 +22,12 @@ goes_on [] bad p among other = absurd (omega (arith, among.1))
 goes_on (q ∷ []) bad p among other = ap (λ (b : Bool). cond b (Some (FirstBad bad)) None) (ne_eqb q bad (λ same. other (sym (only_has q p among) ∙ same)))
 goes_on (q ∷ r ∷ ps) bad p among other = refl
 
-pub over_choice : (mask skips : List Bool) (weights : List ℕ) (bad : ℕ) (choice : Option ℕ) → choice ≡ best mask weights bad skips → IfSome choice (IsOther mask bad) → ask_of_choice mask bad choice ≡ ask_over mask weights bad skips
+pub over_choice : (mask skips : List Bool) (weights : List ℕ) (bad : ℕ) (choice : Option ℕ) → choice ≡ best mask weights bad skips
+    → IfSome choice (IsOther mask bad) → ask_of_choice mask bad choice ≡ ask_over mask weights bad skips
 over_choice mask skips weights bad None chosen other = ap (λ (o : Option ℕ). ask_listed (ending (places_of mask) bad) (places_of mask) o) chosen
 over_choice mask skips weights bad (Some p) chosen other =
-    let among : Contains (places_of mask) p = Contains-filter_range (λ q. is_in mask q) 0 (length mask) p (omega arith) (omega (arith, inside mask p other.0)) other.0 in
+    let among : Contains (places_of mask) p = Contains-filter_range (λ q. is_in mask q) 0 (length mask) p (omega arith) (omega (arith, inside mask p other.0))
+    other.0 in
     sym (ap (λ (e : Option Ask). ask_listed e (places_of mask) (Some p)) (goes_on (places_of mask) bad p among other.1))
     ∙ ap (λ (o : Option ℕ). ask_listed (ending (places_of mask) bad) (places_of mask) o) chosen
 
@@ -37,7 +39,8 @@ one_place : {p q : ℕ} → Some p ≡ Some q → p ≡ q
 one_place e = cc
 
 -- a ranking by the weights of a search is that of the search
-pub ranking_of : (graph : List (List ℕ)) (s : Search) (mask : List Bool) (weights : List ℕ) (bad : ℕ) (ps : List ℕ) → s.bad ≡ Some bad → mask ≡ mask_of graph s → weights ≡ weights_of graph s
+pub ranking_of : (graph : List (List ℕ)) (s : Search) (mask : List Bool) (weights : List ℕ) (bad : ℕ) (ps : List ℕ) → s.bad ≡ Some bad → mask ≡ mask_of graph s
+    → weights ≡ weights_of graph s
     → IsRanking mask weights bad ps → IsRankingOf graph s ps
 ranking_of graph s mask weights bad ps bad_is m w ranking = λ other is.
     let same : bad ≡ other = one_place (sym bad_is ∙ is) in

@@ -17,7 +17,8 @@ count_by-map f (q ∷ qs) =
 -- the places of a row, counted one after another
 count_in-places : (row : List Bool) → count_in row ≡ count_by (λ q. is_in row q) (range_with_len 0 (length row))
 count_in-places row =
-    ap (λ (r : List Bool). count_by (λ v. v) r) (fill_by_all (λ q. is_in row q) row (length row) false refl (λ k h. refl)) ∙ count_by-map (λ q. is_in row q) (range_with_len 0 (length row))
+    ap (λ (r : List Bool). count_by (λ v. v) r) (fill_by_all (λ q. is_in row q) row (length row) false refl (λ k h. refl)) ∙ count_by-map (λ q. is_in row q)
+    (range_with_len 0 (length row))
 
 count_both_le : (f g : ℕ → Bool) (qs : List ℕ) → count_by (λ q. f q && g q) qs ≤ count_by f qs
 count_both_le f g [] = omega arith
@@ -32,19 +33,28 @@ count_both_le f g (q ∷ qs) =
 weight_le : (graph : List (List ℕ)) (row : List Bool) (p : ℕ) → length row ≡ length graph → weight graph row p ≤ count_in row
 unfolding weight
 weight_le graph row p same =
-    omega (arith, count_in-places row, ap (λ n. count_by (λ q. is_in row q) (range_with_len 0 n)) same, count_both_le (λ q. is_in row q) (λ q. reaches graph p q) (places graph))
+    omega (
+      arith,
+      count_in-places row,
+      ap (λ n. count_by (λ q. is_in row q) (range_with_len 0 n)) same,
+      count_both_le (λ q. is_in row q)
+          (λ q. reaches graph p q) (places graph),
+    )
 
 pub length-weights : (graph : List (List ℕ)) (row : List Bool) (first_parent : Bool) → length (weights graph row first_parent) ≡ length graph
 unfolding weights
 length-weights graph row first_parent = length-map-range_with_len (λ p. cond (is_in row p) (weight (in_mode graph first_parent) row p) 0) 0 (length graph)
 
-pub weights_within : (graph : List (List ℕ)) (row : List Bool) (first_parent : Bool) → length row ≡ length graph → All (λ w. w ≤ count_in row) (weights graph row first_parent)
+pub weights_within : (graph : List (List ℕ)) (row : List Bool) (first_parent : Bool) → length row ≡ length graph
+    → All (λ w. w ≤ count_in row) (weights graph row first_parent)
 unfolding weights
-weights_within graph row first_parent same = All-map (λ w. w ≤ count_in row) (λ p. cond (is_in row p) (weight (in_mode graph first_parent) row p) 0) (places graph) (λ k d l. each (get_or (places graph) k d))
+weights_within graph row first_parent same = All-map (λ w. w ≤ count_in row) (λ p. cond (is_in row p) (weight (in_mode graph first_parent) row p) 0)
+    (places graph) (λ k d l. each (get_or (places graph) k d))
   where
     choice : (b : Bool) (n m : ℕ) → n ≤ m → cond b n 0 ≤ m
     choice true n m h = h
     choice false n m h = omega arith
 
     each : (p : ℕ) → cond (is_in row p) (weight (in_mode graph first_parent) row p) 0 ≤ count_in row
-    each p = choice (is_in row p) (weight (in_mode graph first_parent) row p) (count_in row) (weight_le (in_mode graph first_parent) row p (same ∙ sym (length-in_mode graph first_parent)))
+    each p = choice (is_in row p) (weight (in_mode graph first_parent) row p) (count_in row)
+        (weight_le (in_mode graph first_parent) row p (same ∙ sym (length-in_mode graph first_parent)))

@@ -50,12 +50,14 @@ cond_check : (len : ℕ) (b : Bool) (x y : Check) → IsCheckWithin len x → Is
 cond_check len true x y h k = h
 cond_check len false x y h k = k
 
-check_within : (graph : List (List ℕ)) (bad : ℕ) (goods : List ℕ) (skips : List Bool) → bad < length graph → IsCheckWithin (length graph) (check graph bad goods skips)
+check_within : (graph : List (List ℕ)) (bad : ℕ) (goods : List ℕ) (skips : List Bool) → bad < length graph
+    → IsCheckWithin (length graph) (check graph bad goods skips)
 unfolding check check_bases
 check_within graph bad goods skips h =
     cond_check (length graph) (reaches_all graph bad goods) (Passed []) _ (none_below (length graph))
     (cond_check (length graph) (has_place (merge_bases graph bad goods) bad) (BaseIsBad bad) _ h
-    (open_within (length graph) (find (λ p. not (has_place goods p) && not (is_in skips p)) (merge_bases graph bad goods)) (merge_bases graph bad goods) goods skips (bases_within graph bad goods)))
+    (open_within (length graph) (find (λ p. not (has_place goods p) && not (is_in skips p)) (merge_bases graph bad goods)) (merge_bases graph bad goods) goods
+    skips (bases_within graph bad goods)))
 
 -- ---- the ask
 
@@ -73,7 +75,8 @@ pub record IsAskedWithin (len : ℕ) (asked : Asked) : Type 0 where
   pub warned : AllBelow len asked.step.warned
   pub told : IsToldWithin len asked.step.ask
 
-best_within : (len : ℕ) (s : Search) (warned ps : List ℕ) (chosen : Option ℕ) → AllBelow len warned → AllBelow len ps → IsAskedWithin len (ask_best s warned ps chosen)
+best_within : (len : ℕ) (s : Search) (warned ps : List ℕ) (chosen : Option ℕ) → AllBelow len warned → AllBelow len ps
+    → IsAskedWithin len (ask_best s warned ps chosen)
 best_within len s warned ps (Some p) w h = record { warned = w; told = tt }
 best_within len s warned ps None w h = record { warned = w; told = h }
 
@@ -82,20 +85,24 @@ one_within : (len : ℕ) (b : Bool) (s : Search) (bad : ℕ) (warned ps : List �
 one_within len true s bad warned ps chosen b w h = record { warned = w; told = b }
 one_within len false s bad warned ps chosen b w h = best_within len s warned ps chosen w h
 
-among_within : (len : ℕ) (s : Search) (bad : ℕ) (warned ps : List ℕ) (chosen : Option ℕ) → bad < len → AllBelow len warned → AllBelow len ps → IsAskedWithin len (ask_among s bad warned ps chosen)
+among_within : (len : ℕ) (s : Search) (bad : ℕ) (warned ps : List ℕ) (chosen : Option ℕ) → bad < len → AllBelow len warned → AllBelow len ps
+    → IsAskedWithin len (ask_among s bad warned ps chosen)
 among_within len s bad warned [] chosen b w h = record { warned = w; told = b }
 among_within len s bad warned (p ∷ []) chosen b w h = one_within len (p == bad) s bad warned (p ∷ []) chosen b w h
 among_within len s bad warned (p ∷ q ∷ ps) chosen b w h = best_within len s warned (p ∷ q ∷ ps) chosen w h
 
-among_candidates : (graph : List (List ℕ)) (s : Search) (bad : ℕ) (warned : List ℕ) → bad < length graph → AllBelow (length graph) warned → IsAskedWithin (length graph) (ask_candidates graph s bad warned)
+among_candidates : (graph : List (List ℕ)) (s : Search) (bad : ℕ) (warned : List ℕ) → bad < length graph → AllBelow (length graph) warned
+    → IsAskedWithin (length graph) (ask_candidates graph s bad warned)
 among_candidates graph s bad warned b w =
-    among_within (length graph) s bad warned (candidates graph bad s.goods s.first_parent) (best_of graph s bad) b w (candidates_within graph bad s.goods s.first_parent)
+    among_within (length graph) s bad warned (candidates graph bad s.goods s.first_parent) (best_of graph s bad) b w
+    (candidates_within graph bad s.goods s.first_parent)
 
 bad_base_within : (len : ℕ) (b : Bool) (p : ℕ) → p < len → IsToldWithin len (cond b (MergeBaseBad p) (GoodNotAncestor p))
 bad_base_within len true p h = h
 bad_base_within len false p h = h
 
-checked_within : (graph : List (List ℕ)) (s : Search) (bad : ℕ) (c : Check) → bad < length graph → IsCheckWithin (length graph) c → IsAskedWithin (length graph) (ask_checked graph s bad c)
+checked_within : (graph : List (List ℕ)) (s : Search) (bad : ℕ) (c : Check) → bad < length graph → IsCheckWithin (length graph) c
+    → IsAskedWithin (length graph) (ask_checked graph s bad c)
 checked_within graph s bad (TestBase p) b h = record { warned = none_below (length graph); told = tt }
 checked_within graph s bad (BaseIsBad p) b h = record { warned = none_below (length graph); told = bad_base_within (length graph) s.bad_asked p h }
 checked_within graph s bad (Passed warned) b h = among_candidates graph (record s { checked = true }) bad warned b h
@@ -105,7 +112,8 @@ known_within : (b : Bool) (graph : List (List ℕ)) (s : Search) (bad : ℕ) →
 known_within true graph s bad b = among_candidates graph s bad [] b (none_below (length graph))
 known_within false graph s bad b = checked_within graph s bad (check graph bad s.goods s.skips) b (check_within graph bad s.goods s.skips b)
 
-ends_within : (graph : List (List ℕ)) (s : Search) (bad : Option ℕ) (goods : List ℕ) → IfSome bad (λ p. p < length graph) → IsAskedWithin (length graph) (ask_ends graph s bad goods)
+ends_within : (graph : List (List ℕ)) (s : Search) (bad : Option ℕ) (goods : List ℕ) → IfSome bad (λ p. p < length graph)
+    → IsAskedWithin (length graph) (ask_ends graph s bad goods)
 ends_within graph s None [] h = record { warned = none_below (length graph); told = tt }
 ends_within graph s None (good ∷ goods) h = record { warned = none_below (length graph); told = tt }
 ends_within graph s (Some bad) [] h = record { warned = none_below (length graph); told = tt }
@@ -120,6 +128,8 @@ pub warned_within : (graph : List (List ℕ)) (s : Search) → IfSome s.bad (λ 
 warned_within graph s h = (asked_within graph s h).warned
 
 -- the same, by the number of commits of a session
-pub warned_in_session : (graph : List (List ℕ)) (session : Session) → length graph ≡ session.len → IsSearchBelow session.len session.search → All (λ p. p < session.len) (ask graph session.search).step.warned
+pub warned_in_session : (graph : List (List ℕ)) (session : Session) → length graph ≡ session.len → IsSearchBelow session.len session.search
+    → All (λ p. p < session.len) (ask graph session.search).step.warned
 warned_in_session graph session e h =
-    subst (λ (n : ℕ). All (λ p. p < n) (ask graph session.search).step.warned) e (warned_within graph session.search (subst (λ (n : ℕ). IfSome session.search.bad (λ p. p < n)) (sym e) h.bad))
+    subst (λ (n : ℕ). All (λ p. p < n) (ask graph session.search).step.warned) e
+    (warned_within graph session.search (subst (λ (n : ℕ). IfSome session.search.bad (λ p. p < n)) (sym e) h.bad))

@@ -1,20 +1,20 @@
 //! The choice of the next ask.
-ghost use Rattle.std.specs.Prelude.{◌≡◌, ◌≢◌, ℕ, ◌≤◌, false, List, All, [], length, if◌then◌else◌, Some, IfOk};
+ghost use Rattle.std.specs.Prelude.{◌≡◌, ◌≢◌, ◌≤◌, false, All, [], length, if◌then◌else◌, Some, IfOk};
 ghost use Rattle.bf_graph.specs.Graph.{IsGraph};
-ghost use Rattle.bf_search.specs.Candidates.{candidate_row, IsCandidateRow};
+ghost use Rattle.bf_search.specs.Candidates.{IsCandidateRow};
 ghost use Rattle.bf_search.specs.Choice.{count_in};
-ghost use Rattle.bf_search.specs.State.{best_of, ask_candidates, ask_checked, ask};
+ghost use Rattle.bf_search.specs.State.{best_of};
 ghost use Rattle.bf_search.specs.Bases.{check};
 ghost use Rattle.bf_state.specs.Session.{IsSearchBelow};
 ghost use Rattle.bf_state.specs.Steps as steps;
+ghost use Rattle.bf_state.specs.Weighed.{row_below};
 
-use crate::rows::true_places;
 use crate::state::State;
 use bf_bases::check;
 use bf_cands::candidates;
 use bf_choice::choose;
 use bf_graph::Places;
-use bf_reach::Reach;
+use bf_reach::{Reach, true_places};
 use bf_rows::Row;
 use bf_search::{Ask, Check, Step};
 use bf_weights::weights;
@@ -90,7 +90,7 @@ fn ask_of_best(places: Places, best: Option<u32>) -> Ask
 fn best(state: &State, reach: &Reach, bad: u32, mask: &Row) -> Result<Option<u32>, AllocError>
     requires len { length reach.now ≡ state.now.len }
     requires candidates { IsCandidateRow reach.now state.now.search.first_parent mask.now }
-    requires mask { mask.now ≡ candidate_row reach.now bad state.now.search.goods state.now.search.first_parent }
+    requires mask { mask.now ≡ row_below reach.now (Some bad) state.now.search }
     ensures { IfOk result (λ best. best ≡ best_of reach.now state.now.search bad) }
 {
     let alloc = state.goods.allocator();
@@ -102,7 +102,7 @@ fn best(state: &State, reach: &Reach, bad: u32, mask: &Row) -> Result<Option<u32
 fn ask_candidates(state: &State, reach: &Reach, bad: u32) -> Result<Ask, AllocError>
     requires len { length reach.now ≡ state.now.len }
     requires bad { state.now.search.bad ≡ Some bad }
-    ensures { IfOk result (λ answer. answer ≡ (ask_candidates reach.now state.now.search bad []).step.ask) }
+    ensures { IfOk result (λ answer. answer ≡ steps.candidate_ask reach.now state.now.search bad) }
 {
     let alloc = state.goods.allocator();
     let goods = state.goods.as_slice();
@@ -125,7 +125,7 @@ pub(crate) fn ask_over(
     requires len { length mask.now ≡ state.now.len }
     requires weights { length weights.now ≡ length mask.now }
     requires within { All (λ weight. weight ≤ count_in mask.now) weights.now }
-    ensures { IfOk result (λ answer. answer ≡ steps.ask_over mask.now weights.now bad state.now.search.skips) }
+    ensures { IfOk result (steps.IsAskOver mask.now weights.now bad state.now.search) }
 {
     let places = true_places(state.goods.allocator(), mask)?;
     if let Some(ask) = ending(places.as_slice(), bad) {
@@ -149,7 +149,7 @@ fn passage_of(state: &State, bad: u32, answer: Check) -> Passage
     requires bad { state.now.search.bad ≡ Some bad }
     requires goods { state.now.search.goods ≢ [] }
     requires unchecked { state.now.search.checked ≡ false }
-    ensures { (graph : List (List ℕ)) → steps.IsPassage graph (ask_checked graph state.now.search bad answer) state.now.search result }
+    ensures { steps.IsPassageAfter state.now.search bad answer result }
 {
     match answer {
         Check::Passed { warned } => Passage::Passed { warned, bad },
@@ -173,7 +173,7 @@ pub(crate) fn pass(state: &State, reach: &Reach) -> Result<Passage, AllocError>
     requires { length reach.now ≡ state.now.len }
     ensures graph { IsGraph reach.now }
     ensures below { IsSearchBelow state.now.len state.now.search }
-    ensures passes { IfOk result (λ passage. steps.IsPassage reach.now (ask reach.now state.now.search) state.now.search passage) }
+    ensures passes { IfOk result (steps.IsPassageOf reach.now state.now.search) }
 {
     prove!(reach.len() == state.len);
     let Some(bad) = state.bad else {
@@ -203,7 +203,7 @@ pub(crate) fn decide(state: &State, reach: &Reach) -> Result<Decision, AllocErro
     requires { length reach.now ≡ state.now.len }
     ensures graph { IsGraph reach.now }
     ensures below { IsSearchBelow state.now.len state.now.search }
-    ensures decides { IfOk result (λ d. steps.IsDecision (ask reach.now state.now.search) d.checked d.step) }
+    ensures decides { IfOk result (steps.IsDecisionOf reach.now state.now.search) }
 {
     match pass(state, reach)? {
         Passage::Asks(step) => Ok(Decision {

@@ -4,12 +4,11 @@
 mod asking;
 pub mod laws;
 mod ranked;
-mod rows;
 mod state;
 mod weighed;
 
+pub use bf_reach::true_places;
 pub use ranked::Ranked;
-pub use rows::true_places;
 pub use state::State;
 pub use weighed::Weighed;
 

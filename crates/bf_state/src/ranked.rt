@@ -1,19 +1,16 @@
 //! Asks over a ranking of the candidates, which skips leave as it is.
-ghost use Rattle.std.specs.Prelude.{◌≡◌, ◌<◌, ℕ, List, Some, length, All, IfOk};
-ghost use Rattle.bf_choice.specs.Ranking.{IsRanking, IsPassed};
+ghost use Rattle.std.specs.Prelude.{◌≡◌, ◌<◌, Some, length, All, IfOk};
 ghost use Rattle.bf_graph.specs.Graph.{IsGraph};
-ghost use Rattle.bf_search.specs.State.{ask};
-ghost use Rattle.bf_state.specs.Ranked.{IsRankingOf, ask_of_choice};
+ghost use Rattle.bf_state.specs.Ranked.{IsRankingOf, AreSkipped, IsAskRanked, ask_of_choice};
 ghost use Rattle.bf_state.specs.Session.{IsSearchBelow};
 ghost use Rattle.bf_state.specs.Steps as steps;
 ghost use Rattle.bf_state.specs.Weighed.{mask_of};
 
 use crate::asking::{Decision, Passage, ending, pass};
-use crate::rows::true_places;
 use crate::state::State;
 use crate::weighed::weights_of;
 use bf_choice::Ranking;
-use bf_reach::Reach;
+use bf_reach::{Reach, true_places};
 use bf_rows::Row;
 use bf_search::{Ask, Step};
 use std::alloc::AllocError;
@@ -79,9 +76,9 @@ fn ask_ranked(
     passed: usize,
 ) -> Result<(Ask, usize), AllocError>
     requires within { All (λ p. p < length state.now.search.skips) ranking.now }
-    requires passed { IsPassed state.now.search.skips ranking.now passed }
-    ensures answer { IfOk result (λ found. (weights : List ℕ) → IsRanking mask.now weights bad ranking.now → found.0 ≡ steps.ask_over mask.now weights bad state.now.search.skips) }
-    ensures passed { IfOk result (λ found. IsPassed state.now.search.skips ranking.now found.1) }
+    requires passed { AreSkipped state.now ranking.now passed }
+    ensures answer { IfOk result (λ found. IsAskRanked mask.now ranking.now bad state.now found.0) }
+    ensures passed { IfOk result (λ found. AreSkipped state.now ranking.now found.1) }
 {
     let chosen = ranking.choose(&state.skips, passed);
     let ask = ask_of_choice(state, bad, mask, chosen.place)?;
@@ -99,11 +96,11 @@ pub(crate) fn decide_ranked(
     requires len { length reach.now ≡ state.now.len }
     requires mask { mask.now ≡ mask_of reach.now state.now.search }
     requires ranking { IsRankingOf reach.now state.now.search ranking.now }
-    requires passed { IsPassed state.now.search.skips ranking.now passed }
+    requires passed { AreSkipped state.now ranking.now passed }
     ensures graph { IsGraph reach.now }
     ensures below { IsSearchBelow state.now.len state.now.search }
-    ensures decides { IfOk result (λ d. steps.IsDecision (ask reach.now state.now.search) d.decision.checked d.decision.step) }
-    ensures passed { IfOk result (λ d. IsPassed state.now.search.skips ranking.now d.passed) }
+    ensures decides { IfOk result (λ d. steps.IsDecisionOf reach.now state.now.search d.decision) }
+    ensures passed { IfOk result (λ d. AreSkipped state.now ranking.now d.passed) }
 {
     match pass(state, reach)? {
         Passage::Asks(step) => Ok(RankedDecision {

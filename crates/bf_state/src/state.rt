@@ -3,14 +3,12 @@ ghost use Rattle.std.specs.Prelude.{◌≡◌, ℕ, ◌<◌, true, false, length
 ghost use Rattle.bf_texts.specs.Texts.{with_good};
 ghost use Rattle.bf_search.specs.Bases.{has_place};
 ghost use Rattle.bf_search.specs.State as searches;
-ghost use Rattle.bf_search.specs.declared.asks.Ask.TheVariants.{Test, FirstBad};
-ghost use Rattle.bf_state.specs.Session.{with_search, begun, IsSearchBelow};
-ghost use Rattle.bf_state.specs.FirstBad.{IsFirstBad};
-ghost use Rattle.std.specs.Option.{option_map};
+ghost use Rattle.bf_search.specs.declared.asks.Ask.TheVariants.{Test};
+ghost use Rattle.bf_state.specs.Session.{after_ask, asked_step, bases_warned_of, after_mark, after_take, IsNewSession, IsSearchBelow};
+ghost use Rattle.bf_state.specs.FirstBad.{TellsFirstBad};
 ghost use Rattle.bf_state.specs.Steps as steps;
-ghost use Rattle.bf_choice.specs.Ranking.{IsPassed};
-ghost use Rattle.bf_state.specs.Ranked.{IsRankingOf};
-ghost use Rattle.bf_state.specs.Weighed.{mask_of, weights_of, weights_needed};
+ghost use Rattle.bf_state.specs.Ranked.{IsRankingOf, AreSkipped};
+ghost use Rattle.bf_state.specs.Weighed.{mask_of, weights_of, AreNeeded};
 
 use crate::asking::{Decision, decide, pass, passed_after, tested, warned_after};
 use crate::ranked::{self, Ranked, RankedDecision, decide_ranked};
@@ -62,10 +60,26 @@ impl Model for State {
       len = s.len;
       terms = s.terms;
       terms_open = s.terms_open;
-      search = record { first_parent = s.first_parent; bad = s.bad; goods = s.goods; skips = s.skips; checked = s.checked; expected = s.expected; bad_asked = s.bad_asked };
+      search = record {
+        first_parent = s.first_parent;
+        bad = s.bad;
+        goods = s.goods;
+        skips = s.skips;
+        checked = s.checked;
+        expected = s.expected;
+        bad_asked = s.bad_asked;
+      };
     } };
 
-    ghost invariant = { λ s. IsSearchBelow s.len (record { first_parent = s.first_parent; bad = s.bad; goods = s.goods; skips = s.skips; checked = s.checked; expected = s.expected; bad_asked = s.bad_asked }) };
+    ghost invariant = { λ s. IsSearchBelow s.len (record {
+      first_parent = s.first_parent;
+      bad = s.bad;
+      goods = s.goods;
+      skips = s.skips;
+      checked = s.checked;
+      expected = s.expected;
+      bad_asked = s.bad_asked;
+    }) };
 }
 
 impl State {
@@ -81,7 +95,7 @@ impl State {
     ) -> Result<State, AllocError>
         requires bad { IfSome bad (λ bad. bad < len) }
         requires goods { All (λ good. good < len) goods.now }
-        ensures { IfOk result (λ state. state ≡ record { len = len; terms = terms; terms_open = terms_open; search = begun len first_parent bad goods.now }) }
+        ensures { IfOk result (IsNewSession len terms terms_open first_parent bad goods.now) }
     {
         let goods = Goods::each_once(alloc, goods)?;
         let skips = Row::new(alloc, len)?;
@@ -129,12 +143,12 @@ impl State {
     /// bases has passed, one is made. After an error the state is as before.
     pub fn advance(&mut self, reach: &Reach) -> Result<Step, AllocError>
         requires { length reach.now ≡ self.old.len }
-        ensures step { IfOk result (λ step. step ≡ (searches.ask reach.now self.old.search).step) }
-        ensures state { OnOk result (self.new ≡ with_search self.old (searches.ask reach.now self.old.search).search) }
+        ensures step { IfOk result (λ step. step ≡ asked_step reach.now self.old) }
+        ensures state { OnOk result (self.new ≡ after_ask reach.now self.old) }
         ensures err { OnErr result (self.new ≡ self.old) }
         ensures asked { IfOk result (λ step. (p : ℕ) → step.ask ≡ Test p → p < self.old.len) }
         ensures warned { IfOk result (λ step. All (λ p. p < self.old.len) step.warned) }
-        ensures first_bad { IfOk result (λ step. (p : ℕ) → step.ask ≡ FirstBad p → IsFirstBad reach.now self.old.search p) }
+        ensures first_bad { IfOk result (TellsFirstBad reach.now self.old.search) }
     {
         let decision = decide(self, reach)?;
         self.follow(&decision);
@@ -145,10 +159,10 @@ impl State {
     /// After an error the state is as before.
     pub fn weigh(&mut self, reach: &Reach) -> Result<Weighed, AllocError>
         requires { length reach.now ≡ self.old.len }
-        ensures step { IfOk result (λ weighed. weighed.step ≡ (searches.ask reach.now self.old.search).step) }
+        ensures step { IfOk result (λ weighed. weighed.step ≡ asked_step reach.now self.old) }
         ensures mask { IfOk result (λ weighed. weighed.mask ≡ mask_of reach.now self.old.search) }
-        ensures weights { IfOk result (λ weighed. option_map (λ all. all.items) weighed.weights ≡ weights_needed reach.now self.old.search) }
-        ensures state { OnOk result (self.new ≡ with_search self.old (searches.ask reach.now self.old.search).search) }
+        ensures weights { IfOk result (λ weighed. AreNeeded reach.now self.old weighed.weights) }
+        ensures state { OnOk result (self.new ≡ after_ask reach.now self.old) }
         ensures err { OnErr result (self.new ≡ self.old) }
     {
         let mask = weighed::mask_of(self, reach)?;
@@ -159,10 +173,10 @@ impl State {
     pub fn weigh_over(&mut self, reach: &Reach, mask: Row) -> Result<Weighed, AllocError>
         requires len { length reach.now ≡ self.old.len }
         requires mask { mask ≡ mask_of reach.now self.old.search }
-        ensures step { IfOk result (λ weighed. weighed.step ≡ (searches.ask reach.now self.old.search).step) }
+        ensures step { IfOk result (λ weighed. weighed.step ≡ asked_step reach.now self.old) }
         ensures mask { IfOk result (λ weighed. weighed.mask ≡ mask_of reach.now self.old.search) }
-        ensures weights { IfOk result (λ weighed. option_map (λ all. all.items) weighed.weights ≡ weights_needed reach.now self.old.search) }
-        ensures state { OnOk result (self.new ≡ with_search self.old (searches.ask reach.now self.old.search).search) }
+        ensures weights { IfOk result (λ weighed. AreNeeded reach.now self.old weighed.weights) }
+        ensures state { OnOk result (self.new ≡ after_ask reach.now self.old) }
         ensures err { OnErr result (self.new ≡ self.old) }
     {
         let Weighing { decision, weights } = weighed::weigh(self, reach, &mask)?;
@@ -185,8 +199,8 @@ impl State {
         requires len { length reach.now ≡ self.old.len }
         requires mask { mask.now ≡ mask_of reach.now self.old.search }
         requires weights { weights.now ≡ weights_of reach.now self.old.search }
-        ensures step { IfOk result (λ step. step ≡ (searches.ask reach.now self.old.search).step) }
-        ensures state { OnOk result (self.new ≡ with_search self.old (searches.ask reach.now self.old.search).search) }
+        ensures step { IfOk result (λ step. step ≡ asked_step reach.now self.old) }
+        ensures state { OnOk result (self.new ≡ after_ask reach.now self.old) }
         ensures err { OnErr result (self.new ≡ self.old) }
     {
         let decision = decide_over(self, reach, mask, weights)?;
@@ -217,10 +231,10 @@ impl State {
         requires len { length reach.now ≡ self.old.len }
         requires mask { mask.now ≡ mask_of reach.now self.old.search }
         requires ranking { IsRankingOf reach.now self.old.search ranking.now }
-        requires passed { IsPassed self.old.search.skips ranking.now passed }
-        ensures step { IfOk result (λ ranked. ranked.step ≡ (searches.ask reach.now self.old.search).step) }
-        ensures state { OnOk result (self.new ≡ with_search self.old (searches.ask reach.now self.old.search).search) }
-        ensures passed { IfOk result (λ ranked. IsPassed self.old.search.skips ranking.now ranked.passed) }
+        requires passed { AreSkipped self.old ranking.now passed }
+        ensures step { IfOk result (λ ranked. ranked.step ≡ asked_step reach.now self.old) }
+        ensures state { OnOk result (self.new ≡ after_ask reach.now self.old) }
+        ensures passed { IfOk result (λ ranked. AreSkipped self.old ranking.now ranked.passed) }
         ensures err { OnErr result (self.new ≡ self.old) }
     {
         let RankedDecision { decision, passed } = decide_ranked(
@@ -236,7 +250,7 @@ impl State {
     /// Marks a place. After an error the state is as before.
     pub fn mark(&mut self, mark: Mark, place: u32) -> Result<(), AllocError>
         requires { place < self.old.len }
-        ensures ok { OnOk result (self.new ≡ with_search self.old (searches.mark self.old.search mark place)) }
+        ensures ok { OnOk result (self.new ≡ after_mark self.old mark place) }
         ensures err { OnErr result (self.new ≡ self.old) }
     {
         self.add_if_good(mark, place)?;
@@ -249,8 +263,8 @@ impl State {
     pub fn take(&mut self, reach: &Reach, mark: Mark, place: u32) -> Result<Vec<u32>, AllocError>
         requires len { length reach.now ≡ self.old.len }
         requires place { place < self.old.len }
-        ensures warned { IfOk result (λ warned. warned.items ≡ (searches.ask reach.now self.old.search).step.warned) }
-        ensures state { OnOk result (self.new ≡ with_search self.old (searches.mark (searches.ask reach.now self.old.search).search mark place)) }
+        ensures warned { IfOk result (λ warned. warned.items ≡ bases_warned_of reach.now self.old) }
+        ensures state { OnOk result (self.new ≡ after_take reach.now self.old mark place) }
         ensures err { OnErr result (self.new ≡ self.old) }
     {
         if let Mark::Skip = mark {
@@ -268,8 +282,8 @@ impl State {
     fn take_skip(&mut self, reach: &Reach, place: u32) -> Result<Vec<u32>, AllocError>
         requires len { length reach.now ≡ self.old.len }
         requires place { place < self.old.len }
-        ensures warned { IfOk result (λ warned. warned.items ≡ (searches.ask reach.now self.old.search).step.warned) }
-        ensures state { OnOk result (self.new ≡ with_search self.old (searches.mark (searches.ask reach.now self.old.search).search Mark.Skip place)) }
+        ensures warned { IfOk result (λ warned. warned.items ≡ bases_warned_of reach.now self.old) }
+        ensures state { OnOk result (self.new ≡ after_take reach.now self.old Mark.Skip place) }
         ensures err { OnErr result (self.new ≡ self.old) }
     {
         let passage = pass(self, reach)?;
@@ -281,7 +295,7 @@ impl State {
     /// Adds a place that is marked good. After an error the state is as before.
     fn add_if_good(&mut self, mark: Mark, place: u32) -> Result<(), AllocError>
         requires { place < self.old.len }
-        ensures ok { OnOk result (self.new ≡ with_search self.old (steps.with_marked_good self.old.search mark place)) }
+        ensures ok { OnOk result (self.new ≡ steps.added_if_good self.old mark place) }
         ensures err { OnErr result (self.new ≡ self.old) }
     {
         match mark {
@@ -293,7 +307,7 @@ impl State {
     /// Keeps what an ask leaves.
     fn follow(&mut self, decision: &Decision)
         requires { IfSome (steps.tested decision.now.step.ask) (λ p. p < self.old.len) }
-        ensures { self.new ≡ with_search self.old (steps.followed self.old.search decision.now.checked (steps.tested decision.now.step.ask)) }
+        ensures { self.new ≡ steps.after_decision self.old decision.now }
     {
         self.checked = decision.checked;
         self.expected = tested(&decision.step.ask);
@@ -303,7 +317,7 @@ impl State {
     fn settle(&mut self, mark: Mark, place: u32)
         requires place { place < self.old.len }
         requires added { mark ≡ Mark.Good → has_place self.old.search.goods place ≡ true }
-        ensures { self.new ≡ with_search self.old (searches.mark self.old.search mark place) }
+        ensures { self.new ≡ after_mark self.old mark place }
     {
         let asked = is_place(self.expected, place);
         match mark {

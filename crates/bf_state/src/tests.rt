@@ -1,7 +1,6 @@
 //! Searches over small graphs.
 ghost use Rattle.std.specs.Prelude.{◌≡◌, ◌<◌, length, All, IfOk};
-ghost use Rattle.std.specs.Option.{option_map};
-ghost use Rattle.bf_state.specs.Weighed.{mask_of, weights_needed};
+ghost use Rattle.bf_state.specs.Weighed.{mask_of, AreNeeded};
 
 use crate::{State, Weighed};
 use bf_graph::Graph;
@@ -98,8 +97,7 @@ fn mask_again(reach: &Reach, state: &State) -> Result<Row, AllocError>
 fn weighed_again(reach: &Reach, state: &State) -> Result<Weighed, AllocError>
     requires { length reach.now ≡ state.now.len }
     ensures mask { IfOk result (λ weighed. weighed.mask ≡ mask_of reach.now state.now.search) }
-    ensures weights { IfOk result (λ weighed.
-        option_map (λ all. all.items) weighed.weights ≡ weights_needed reach.now state.now.search) }
+    ensures weights { IfOk result (λ weighed. AreNeeded reach.now state.now weighed.weights) }
 {
     let mask = mask_again(reach, state)?;
     state.try_clone()?.weigh_over(reach, mask)

@@ -1,11 +1,9 @@
 //! Asks that hand out the candidates and their weights, or are given them.
 ghost use Rattle.std.specs.Prelude.{◌≡◌, length, Some, IfOk};
-ghost use Rattle.std.specs.Option.{option_map};
 ghost use Rattle.bf_graph.specs.Graph.{IsGraph};
-ghost use Rattle.bf_search.specs.State.{ask};
 ghost use Rattle.bf_state.specs.Session.{IsSearchBelow};
 ghost use Rattle.bf_state.specs.Steps as steps;
-ghost use Rattle.bf_state.specs.Weighed.{mask_of, weights_of, weights_needed};
+ghost use Rattle.bf_state.specs.Weighed.{mask_of, weights_of, AreNeeded};
 
 use crate::asking::{Decision, Passage, ask_over, pass};
 use crate::state::State;
@@ -75,8 +73,8 @@ pub(crate) fn weigh(state: &State, reach: &Reach, mask: &Row) -> Result<Weighing
     requires mask { mask.now ≡ mask_of reach.now state.now.search }
     ensures graph { IsGraph reach.now }
     ensures below { IsSearchBelow state.now.len state.now.search }
-    ensures decides { IfOk result (λ w. steps.IsDecision (ask reach.now state.now.search) w.decision.checked w.decision.step) }
-    ensures weights { IfOk result (λ w. option_map (λ all. all.items) w.weights ≡ weights_needed reach.now state.now.search) }
+    ensures decides { IfOk result (λ w. steps.IsDecisionOf reach.now state.now.search w.decision) }
+    ensures weights { IfOk result (λ w. AreNeeded reach.now state.now w.weights) }
 {
     match pass(state, reach)? {
         Passage::Asks(step) => Ok(Weighing {
@@ -112,7 +110,7 @@ pub(crate) fn decide_over(
     requires weights { weights.now ≡ weights_of reach.now state.now.search }
     ensures graph { IsGraph reach.now }
     ensures below { IsSearchBelow state.now.len state.now.search }
-    ensures decides { IfOk result (λ d. steps.IsDecision (ask reach.now state.now.search) d.checked d.step) }
+    ensures decides { IfOk result (steps.IsDecisionOf reach.now state.now.search) }
 {
     match pass(state, reach)? {
         Passage::Asks(step) => Ok(Decision {

@@ -1,5 +1,3 @@
-pub mod Chains
-pub mod Choices
-pub mod Fronts
+pub mod Lines
 pub mod Starts
 pub mod Turns

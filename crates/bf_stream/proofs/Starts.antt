@@ -1,83 +1,129 @@
--- What the first line of a command gives, and the end of the input.
-use Rattle.std.proofs.Common.{◌≡◌, ℕ, Bool, true, false, List, Option, Some, None, Result, Ok, Err, refl, sym, ◌∙◌, ap, cond}
-use Rattle.std.specs.Prelude.{◌++◌, ◌||◌, take, length, nat_lt, if◌then◌else◌}
-use Rattle.std.specs.Option.{option_map}
+-- What the lines of data parts and changes, the first line of a command and the end of the input give.
+use Rattle.std.proofs.Common.{◌≡◌, ℕ, Bool, true, false, cond, ◌++◌, ◌||◌, List, take, Option, Some, None, Result, Ok, Err, refl, sym, ◌∙◌, ap, length, nat_lt}
+use Rattle.std.proofs.Common.{codes, arith}
+use Rattle.bf_grammar.specs.declared.command.Change.{Change}
+use Rattle.bf_grammar.specs.declared.command.Change.TheVariants.{Modify, Delete, DeleteAll}
 use Rattle.bf_grammar.specs.declared.command.Command.{Command}
+use Rattle.bf_grammar.specs.declared.command.ContentForm.{ContentForm}
+use Rattle.bf_grammar.specs.declared.command.DataForm.{DataForm}
+use Rattle.bf_grammar.specs.declared.command.DataRef.{DataRef}
 use Rattle.bf_grammar.specs.declared.command.Head.{Head}
 use Rattle.bf_grammar.specs.declared.fault.Limits.{Limits}
 use Rattle.bf_grammar.specs.declared.fault.StreamFault.{StreamFault}
-use Rattle.bf_grammar.specs.declared.fault.StreamFault.TheVariants as faults
-use Rattle.bf_grammar.specs.Place.{Place, Reading, pure, ◌>>=◌, Gives}
-use Rattle.bf_grammar.specs.Lines.{past_line, take_line, at_command}
-use Rattle.bf_grammar.specs.Forms.{head_of}
-use Rattle.bf_grammar.specs.Commands.{some, done_is_due, command_of, end_of_input, headed_at, command_at}
-use Rattle.bf_grammar.proofs.Composing.{gives_stopped, gives_then, gives_pure, gives_past_line}
-use Rattle.bf_grammar.proofs.Parts.{LineIs, line_refused, line_read}
-use Rattle.bf_lines.specs.Held.{Held, place_of}
-use Rattle.bf_stream.proofs.Choices.{some_whole, some_stopped}
+use Rattle.bf_grammar.specs.declared.fault.StreamFault.TheVariants.{Syntax, Read, NoDone}
+use Rattle.bf_oid.specs.declared.object.Mode.{Mode}
+use Rattle.bf_grammar.specs.Place.{Place, Reading, Gives, pure, lifted, ◌>>=◌}
+use Rattle.bf_grammar.specs.Lines.{is_text, take_line}
+use Rattle.bf_grammar.specs.Forms.{where_so, data_form, modified_path}
+use Rattle.bf_grammar.specs.Commands.{content_at, announced_at, dataref_at, command_of, done_is_due, end_of_input}
+use Rattle.bf_grammar.proofs.Parts.{LineIs}
+use Rattle.bf_lines.specs.declared.cursor.Cursor.{Cursor}
+use Rattle.bf_lines.specs.Cursor.{Reads, place_at, limits_of, line_of, is_due}
+use Rattle.bf_lines.specs.Held.{Held, place_in, place_of}
+use Rattle.bf_lines.proofs.Chains.{reads_then, reads_stopped, reads_pure, reads_said, reads_unsaid, reads_line, reads_same}
+use Rattle.bf_stream.specs.Parts.{content_named}
+use Rattle.bf_stream.proofs.Lines.{reads_value}
 
-pub headed_refused : (limits : Limits) (place after : Option Place) (number : ℕ) (text : List ℕ) (fault : StreamFault) → LineIs place number text → head_of number text ≡ Err fault → Gives (λ x. x) place after (Err fault) (headed_at limits)
-unfolding headed_at
-headed_refused limits place after number text fault is refused = line_refused place after number text fault head_of (command_of limits) is refused
+-- what follows a line `M`, `D` or `deleteall` that is read, and the first line of a command
+abbrev pub modify_next : ℕ → List ℕ → Mode × ContentForm → Limits → Reading Change
+modify_next line text form limits = take_line >>= (λ _. dataref_at limits form.1 >>= (λ dataref. pure (Modify line form.0 dataref (modified_path text))))
 
-pub headed_whole : (limits : Limits) (place after : Option Place) (number : ℕ) (text : List ℕ) (first : Head) (result : Result (Option Command) StreamFault) → LineIs place number text → head_of number text ≡ Ok first → Gives (λ x. x) place after result (command_of limits number text first) → Gives (λ x. x) place after result (headed_at limits)
-unfolding headed_at
-headed_whole limits place after number text first result is says gives = line_read place after number text first result head_of (command_of limits) is says gives
+abbrev pub delete_next : ℕ → List ℕ → List ℕ → Limits → Reading Change
+delete_next line text path limits = take_line >>= (λ _. pure (Delete line path))
 
--- behind the first line
-pub parts_whole : (place mid after : Option Place) (read : Reading Command) (command : Command) → mid ≡ option_map past_line place → Gives (λ x. x) mid after (Ok command) read → Gives (λ x. x) place after (Ok (Some command)) (take_line >>= (λ _. some read))
-parts_whole place mid after read command goes gives = gives_past_line (λ x. x) place mid after (Ok (Some command)) (λ _. some read) goes (some_whole mid after read command gives)
+abbrev pub delete_all_form : ℕ → List ℕ → Result (Unit {0}) StreamFault
+delete_all_form line text = where_so {X = Unit {0}} (is_text (codes "deleteall") text) (Syntax line) tt
 
-pub parts_stopped : (place mid after : Option Place) (read : Reading Command) (fault : StreamFault) → mid ≡ option_map past_line place → Gives (λ x. x) mid after (Err fault) read → Gives (λ x. x) place after (Err fault) (take_line >>= (λ _. some read))
-parts_stopped place mid after read fault goes gives = gives_past_line (λ x. x) place mid after (Err fault) (λ _. some read) goes (some_stopped mid after read fault gives)
+abbrev pub delete_all_next : ℕ → List ℕ → Unit {0} → Limits → Reading Change
+delete_all_next line text _ limits = take_line >>= (λ _. pure (DeleteAll line))
 
--- a command of one line
-pub line_alone : (place after : Option Place) (command : Command) → after ≡ option_map past_line place → Gives (λ x. x) place after (Ok (Some command)) (take_line >>= (λ _. pure (Some command)))
-line_alone place after command goes = gives_past_line (λ x. x) place after after (Ok (Some command)) (λ _. pure (Some command)) goes (gives_pure (λ x. x) after (Some command) (Some command) refl)
+abbrev pub command_next : ℕ → List ℕ → Head → Limits → Reading (Option Command)
+command_next line text first limits = command_of limits line text first
 
--- `feature done`
+-- a file whose line was taken, and its content
+module _ {S : Type 0} {left : S → Option (List ℕ)} {faults : S → ℕ} {a b c : Cursor S} (line : ℕ) (text : List ℕ) (mode : Mode) (form : ContentForm)
+    (taken : Reads left faults a b (Ok tt) (λ _. take_line)) where
+  pub modify_stopped : {fault : StreamFault} → Reads left faults b c (Err fault) (content_named form)
+      → Reads left faults a c (Err fault) (modify_next line text (mode, form))
+  modify_stopped reads =
+      reads_then (λ _ limits. dataref_at limits form >>= (λ dataref. pure (Modify line mode dataref (modified_path text)))) taken
+      (reads_stopped (λ dataref _. pure (Modify line mode dataref (modified_path text))) reads)
 
-done_due_then : (held now : Held) (left : Option (List ℕ)) (command : Command) → now ≡ record held { done_due = true } → Gives (λ x. x) (place_of held left) (place_of now left) (Ok (Some command)) (done_is_due >>= (λ _. pure (Some command)))
-done_due_then held now None command is = refl
-done_due_then held now (Some left) command is = (_, refl, ap (λ (h : Held). place_of h (Some left)) is)
+  pub modify_read : {dataref : DataRef} (path : List ℕ) → path ≡ modified_path text → Reads left faults b c (Ok dataref) (content_named form)
+      → Reads left faults a c (Ok (Modify line mode dataref path)) (modify_next line text (mode, form))
+  modify_read {dataref = dataref} path is reads =
+      reads_then (λ _ limits. dataref_at limits form >>= (λ dataref. pure (Modify line mode dataref (modified_path text)))) taken
+      (reads_then (λ dataref _. pure (Modify line mode dataref (modified_path text))) reads
+      (reads_value left faults c (Modify line mode dataref path) (Modify line mode dataref (modified_path text)) (ap (λ p. Modify line mode dataref p) is)))
 
-pub done_due_alone : (place : Option Place) (held now : Held) (left : Option (List ℕ)) (command : Command) → place_of held left ≡ option_map past_line place → now ≡ record held { done_due = true } → Gives (λ x. x) place (place_of now left) (Ok (Some command)) (take_line >>= (λ _. done_is_due >>= (λ _. pure (Some command))))
-done_due_alone place held now left command goes is = gives_past_line (λ x. x) place (place_of held left) (place_of now left) (Ok (Some command)) (λ _. done_is_due >>= (λ _. pure (Some command))) goes (done_due_then held now left command is)
+-- what follows a line `data` that is read
+abbrev data_next : ℕ → List ℕ → DataForm → Limits → Reading (List ℕ)
+data_next line text form limits = take_line >>= (λ _. content_at limits line text form)
 
--- the next command
-module _ (limits : Limits) (before mid after : Option Place) where
-  pub command_stopped : (fault : StreamFault) → Gives (λ x. x) before after (Err fault) (at_command limits) → Gives (λ x. x) before after (Err fault) (command_at limits)
-  unfolding command_at
-  command_stopped fault gives = gives_stopped (λ x. x) (λ x. x) before after after (at_command limits) (λ there. if there then headed_at limits else end_of_input) fault gives
+module _ {S : Type 0} {left : S → Option (List ℕ)} {faults : S → ℕ} {a : Cursor S} (number : ℕ) (text : List ℕ) (is : LineIs (place_at left a) number text)
+  where
+    -- the line `data` in front is refused
+    pub announced_refused : (fault : StreamFault) → data_form (limits_of a) number text ≡ Err fault → (fault ≡ Read → ⊥)
+        → Reads left faults a a (Err fault) announced_at
+    unfolding announced_at
+    announced_refused fault refused other =
+        reads_line number text (λ line text limits. lifted (data_form limits line text) >>= λ form. data_next line text form limits) is
+        (reads_same {first = λ limits. lifted (data_form (limits_of a) number text) >>= λ form. data_next number text form limits}
+        (λ limits. lifted (data_form limits number text) >>= λ form. data_next number text form limits) refl
+        (reads_unsaid left faults a (data_form (limits_of a) number text) fault (data_next number text) refused other))
 
-  pub command_there : (result : Result (Option Command) StreamFault) → Gives (λ x. x) before mid (Ok true) (at_command limits) → Gives (λ x. x) mid after result (headed_at limits) → Gives (λ x. x) before after result (command_at limits)
-  unfolding command_at
-  command_there result first second = gives_then (λ x. x) (λ x. x) before mid after (at_command limits) (λ there. if there then headed_at limits else end_of_input) true result first second
+    -- the line `data` in front was taken, and then what it announces
+    pub announced_read : {b c : Cursor S} {result : Result (List ℕ) StreamFault} (form : DataForm) → data_form (limits_of a) number text ≡ Ok form
+        → Reads left faults a b (Ok tt) (λ _. take_line)
+        → Reads left faults b c result (λ limits. content_at limits number text form) → Reads left faults a c result announced_at
+    unfolding announced_at
+    announced_read form says taken reads =
+        reads_line number text (λ line text limits. lifted (data_form limits line text) >>= λ form. data_next line text form limits) is
+        (reads_same {first = λ limits. lifted (data_form (limits_of a) number text) >>= λ form. data_next number text form limits}
+        (λ limits. lifted (data_form limits number text) >>= λ form. data_next number text form limits) refl
+        (reads_said (data_form (limits_of a) number text) form (data_next number text) says
+        (reads_then (λ _ limits. content_at limits number text form) taken reads)))
 
-  pub command_absent : (result : Result (Option Command) StreamFault) → Gives (λ x. x) before mid (Ok false) (at_command limits) → Gives (λ x. x) mid after result end_of_input → Gives (λ x. x) before after result (command_at limits)
-  unfolding command_at
-  command_absent result first second = gives_then (λ x. x) (λ x. x) before mid after (at_command limits) (λ there. if there then headed_at limits else end_of_input) false result first second
+-- the line `feature done` was taken, and from now on the stream must end with `done`
+pub feature_done : {S : Type 0} {left : S → Option (List ℕ)} {faults : S → ℕ} {a b c : Cursor S} (command : Command)
+    → Reads left faults a b (Ok tt) (λ _. take_line) → Reads left faults b c (Ok tt) (λ _. done_is_due)
+    → Reads left faults a c (Ok (Some command)) (λ _. take_line >>= λ _. done_is_due >>= λ _. pure (Some command))
+feature_done {left = left} {faults = faults} {c = c} command taken due =
+    reads_then (λ _ _. done_is_due >>= λ _. pure (Some command)) taken (reads_then (λ _ _. pure (Some command)) due (reads_pure left faults c (Some command)))
 
--- the place where a window stands whose source tells what it has left
-abbrev place_in : Held → List ℕ → Place
-place_in held left = record {
-  line = held.line;
-  rest = held.bytes ++ take held.quota left;
-  more = held.past || nat_lt held.quota (length left);
-  done_due = held.done_due;
-}
-
-end_at_due : (place : Place) → place.done_due ≡ true → end_of_input place ≡ Err (faults.NoDone place.line)
-end_at_due place due = ap (λ (b : Bool). cond {A = Result (Option Command × Place) StreamFault} b (Err (faults.NoDone place.line)) (Ok (None, place))) due
+end_at_due : (place : Place) → place.done_due ≡ true → end_of_input place ≡ Err (NoDone place.line)
+end_at_due place due = ap (λ (b : Bool). cond {A = Result (Option Command × Place) StreamFault} b (Err (NoDone place.line)) (Ok (None, place))) due
 
 end_at_free : (place : Place) → place.done_due ≡ false → end_of_input place ≡ Ok (None, place)
-end_at_free place free = ap (λ (b : Bool). cond {A = Result (Option Command × Place) StreamFault} b (Err (faults.NoDone place.line)) (Ok (None, place))) free
+end_at_free place free = ap (λ (b : Bool). cond {A = Result (Option Command × Place) StreamFault} b (Err (NoDone place.line)) (Ok (None, place))) free
 
 -- the end of the input, where `done` is due, and where it isn't
-pub end_due : (held : Held) (left : Option (List ℕ)) (after : Option Place) (number : ℕ) → held.done_due ≡ true → number ≡ held.line → Gives (λ x. x) (place_of held left) after (Err (faults.NoDone number)) end_of_input
+end_due : (held : Held) (left : Option (List ℕ)) (after : Option Place) (number : ℕ) → held.done_due ≡ true → number ≡ held.line
+    → Gives (λ x. x) (place_of held left) after (Err (NoDone number)) end_of_input
 end_due held None after number due is = tt
-end_due held (Some left) after number due is = end_at_due (place_in held left) due ∙ ap (λ n. Err (faults.NoDone n)) (sym is)
+end_due held (Some left) after number due is = end_at_due (place_in held left) due ∙ ap (λ n. Err (NoDone n)) (sym is)
 
-pub end_free : (held : Held) (left : Option (List ℕ)) → held.done_due ≡ false → Gives (λ x. x) (place_of held left) (place_of held left) (Ok None) end_of_input
+end_free : (held : Held) (left : Option (List ℕ)) → held.done_due ≡ false → Gives (λ x. x) (place_of held left) (place_of held left) (Ok None) end_of_input
 end_free held None free = refl
 end_free held (Some left) free = (place_in held left, end_at_free (place_in held left) free, refl)
+
+-- the same, as a cursor stands there
+pub ends_due : {S : Type 0} (left : S → Option (List ℕ)) (faults : S → ℕ) (a : Cursor S) (number : ℕ) → is_due a ≡ true → number ≡ line_of a
+    → Reads left faults a a (Err (NoDone number)) (λ _. end_of_input)
+ends_due left faults a number due is = record {
+  gives = end_due a.window (left a.source.now) (place_at left a) number due is;
+  turns = omega arith;
+  cause = record { later = omega arith; failed = λ is. absurd (cc) };
+  limits = refl;
+  source = refl;
+}
+
+pub ends_free : {S : Type 0} (left : S → Option (List ℕ)) (faults : S → ℕ) (a : Cursor S) → is_due a ≡ false
+    → Reads left faults a a (Ok None) (λ _. end_of_input)
+ends_free left faults a free = record {
+  gives = end_free a.window (left a.source.now) free;
+  turns = omega arith;
+  cause = record { later = omega arith; failed = λ is. absurd (cc) };
+  limits = refl;
+  source = refl;
+}

@@ -1,197 +1,149 @@
 //! Commands.
-ghost use Rattle.std.specs.Prelude.{◌≡◌, ◌≤◌, ◌<◌, codes, IfOk, OnOk, OnSome};
-ghost use Rattle.bf_io.specs.Causes.{FailsOnlyAt};
-ghost use Rattle.bf_grammar.specs.Limits.{IsWithin};
 ghost use Rattle.bf_grammar.specs.Commands as grammar;
-ghost use Rattle.bf_lines.specs.Held.{HasLine, Reads, remaining};
+ghost use Rattle.bf_stream.specs.Parts.{blob_from, commit_from, tag_from, reset_from};
+ghost use Rattle.bf_stream.specs.Standing.{HasLine, Reads, TakesIfSome};
 
-use crate::changes::changes;
-use crate::parts::{
-    committer, data, encoding, mark, merges, no_signature, optional_ident, required_from,
-    skip_original_oid, target,
-};
-use bf_forms::{head_of, name_after};
-use bf_grammar::{Command, Head, Limits, StreamFault};
+use crate::Reader;
+use bf_forms::{FirstLine, first_line};
+use bf_grammar::{Command, Commit, Header, StreamFault};
 use bf_io::{Bytes, Source};
-use bf_lines::{Window, at_command};
-use std::alloc::Global;
 
-/// The next command of the stream, or `None` at its end. Each command takes at least one byte.
-pub fn take_command<S: Source>(
-    alloc: Global,
-    window: &mut Window,
-    source: &mut S,
-    limits: Limits,
-) -> Result<Option<Command>, StreamFault>
-    requires { IsWithin limits }
-    ensures command { Reads window.old (S.left source.old) window.new (S.left source.new) result (grammar.command_at limits) }
-    ensures turns { IfOk result (λ command. OnSome command (remaining window.new < remaining window.old)) }
-    ensures cause { FailsOnlyAt StreamFault.Read (S.faults source.old) (S.faults source.new) result }
-{
-    if at_command(window, source, limits)? {
-        return command_in_front(alloc, window, source, limits);
+impl<'a, S: Source> Reader<'a, S> {
+    /// The next command of the stream, or `None` at its end. Each command takes at least one byte.
+    pub(crate) fn command(&mut self) -> Result<Option<Command>, StreamFault>
+        ensures reads { Reads S.left S.faults self.old self.new result grammar.command_at }
+        ensures takes { TakesIfSome self.old self.new result }
+    {
+        if self.cursor.at_command()? {
+            return self.command_in_front();
+        }
+        if self.cursor.is_done_due() {
+            return Err(StreamFault::NoDone {
+                line: self.cursor.line_number(),
+            });
+        }
+        Ok(None)
     }
-    if window.is_done_due() {
-        return Err(StreamFault::NoDone {
-            line: window.line_number(),
-        });
-    }
-    Ok(None)
-}
 
-/// The command whose first line is in front.
-fn command_in_front<S: Source>(
-    alloc: Global,
-    window: &mut Window,
-    source: &mut S,
-    limits: Limits,
-) -> Result<Option<Command>, StreamFault>
-    requires limits { IsWithin limits }
-    requires line { HasLine window.old (S.left source.old) }
-    ensures command { Reads window.old (S.left source.old) window.new (S.left source.new) result (grammar.headed_at limits) }
-    ensures turns { IfOk result (λ command. OnSome command (remaining window.new < remaining window.old)) }
-    ensures cause { FailsOnlyAt StreamFault.Read (S.faults source.old) (S.faults source.new) result }
-{
-    let line = window.line_number();
-    match head_of(line, window.line())? {
-        Head::Done => Ok(None),
-        Head::Blob => {
-            window.take_line();
-            Ok(Some(blob(alloc, window, source, limits, line)?))
-        }
-        Head::Commit => {
-            let branch = Bytes::from_slice(alloc, name_after(b"commit", window.line()))?;
-            window.take_line();
-            Ok(Some(commit(alloc, window, source, limits, line, branch)?))
-        }
-        Head::Tag => {
-            let name = Bytes::from_slice(alloc, name_after(b"tag", window.line()))?;
-            window.take_line();
-            Ok(Some(tag(alloc, window, source, limits, line, name)?))
-        }
-        Head::Reset => {
-            let branch = Bytes::from_slice(alloc, name_after(b"reset", window.line()))?;
-            window.take_line();
-            Ok(Some(reset(alloc, window, source, limits, line, branch)?))
-        }
-        Head::Progress => {
-            window.take_line();
-            Ok(Some(Command::Progress { line }))
-        }
-        Head::Feature => {
-            window.take_line();
-            Ok(Some(Command::Feature { line }))
-        }
-        Head::FeatureDone => {
-            window.take_line();
-            window.make_done_due();
-            Ok(Some(Command::Feature { line }))
+    /// The command whose first line is in front.
+    fn command_in_front(&mut self) -> Result<Option<Command>, StreamFault>
+        requires { HasLine S.left self.old }
+        ensures reads { Reads S.left S.faults self.old self.new result grammar.headed_at }
+        ensures takes { TakesIfSome self.old self.new result }
+    {
+        let alloc = self.cursor.allocator();
+        let line = self.cursor.line_number();
+        match first_line(line, self.cursor.line())? {
+            FirstLine::Done => Ok(None),
+            FirstLine::Blob => {
+                self.cursor.take_line();
+                Ok(Some(self.blob(line)?))
+            }
+            FirstLine::Commit(name) => {
+                let branch = Bytes::from_slice(alloc, name)?;
+                self.cursor.take_line();
+                Ok(Some(self.commit(line, branch)?))
+            }
+            FirstLine::Tag(name) => {
+                let name = Bytes::from_slice(alloc, name)?;
+                self.cursor.take_line();
+                Ok(Some(self.tag(line, name)?))
+            }
+            FirstLine::Reset(name) => {
+                let branch = Bytes::from_slice(alloc, name)?;
+                self.cursor.take_line();
+                Ok(Some(self.reset(line, branch)?))
+            }
+            FirstLine::Progress => {
+                self.cursor.take_line();
+                Ok(Some(Command::Progress { line }))
+            }
+            FirstLine::Feature => {
+                self.cursor.take_line();
+                Ok(Some(Command::Feature { line }))
+            }
+            FirstLine::FeatureDone => {
+                self.cursor.take_line();
+                self.cursor.make_done_due();
+                Ok(Some(Command::Feature { line }))
+            }
         }
     }
-}
 
-/// The parts of a `blob`.
-fn blob<S: Source>(
-    alloc: Global,
-    window: &mut Window,
-    source: &mut S,
-    limits: Limits,
-    line: u64,
-) -> Result<Command, StreamFault>
-    requires { IsWithin limits }
-    ensures reading { Reads window.old (S.left source.old) window.new (S.left source.new) result (grammar.blob_at limits line) }
-    ensures turns { remaining window.new ≤ remaining window.old }
-    ensures cause { FailsOnlyAt StreamFault.Read (S.faults source.old) (S.faults source.new) result }
-{
-    let mark = mark(window, source, limits)?;
-    skip_original_oid(window, source, limits)?;
-    let content = data(alloc, window, source, limits)?;
-    Ok(Command::Blob {
-        line,
-        mark,
-        content,
-    })
-}
+    /// The parts of a `blob`.
+    fn blob(&mut self, line: u64) -> Result<Command, StreamFault>
+        ensures { Reads S.left S.faults self.old self.new result (blob_from line) }
+    {
+        let mark = self.mark()?;
+        self.skip_original_oid()?;
+        let content = self.data()?;
+        Ok(Command::Blob {
+            line,
+            mark,
+            content,
+        })
+    }
 
-/// The parts of a `commit`.
-fn commit<S: Source>(
-    alloc: Global,
-    window: &mut Window,
-    source: &mut S,
-    limits: Limits,
-    line: u64,
-    branch: Bytes,
-) -> Result<Command, StreamFault>
-    requires { IsWithin limits }
-    ensures reading { Reads window.old (S.left source.old) window.new (S.left source.new) result (grammar.commit_at limits line branch) }
-    ensures turns { remaining window.new ≤ remaining window.old }
-    ensures cause { FailsOnlyAt StreamFault.Read (S.faults source.old) (S.faults source.new) result }
-{
-    let mark = mark(window, source, limits)?;
-    skip_original_oid(window, source, limits)?;
-    let author = optional_ident(alloc, window, source, limits, b"author")?;
-    let committer = committer(alloc, window, source, limits)?;
-    let encoding = encoding(alloc, window, source, limits)?;
-    no_signature(window, source, limits)?;
-    let message = data(alloc, window, source, limits)?;
-    let from = target(alloc, window, source, limits, b"from")?;
-    let merges = merges(alloc, window, source, limits)?;
-    let changes = changes(alloc, window, source, limits)?;
-    Ok(Command::Commit {
-        line,
-        branch,
-        mark,
-        author,
-        committer,
-        encoding,
-        message,
-        from,
-        merges,
-        changes,
-    })
-}
+    /// The parts of a `commit`.
+    fn commit(&mut self, line: u64, branch: Bytes) -> Result<Command, StreamFault>
+        ensures { Reads S.left S.faults self.old self.new result (commit_from line branch) }
+    {
+        let mark = self.mark()?;
+        self.skip_original_oid()?;
+        let header = self.header()?;
+        let from = self.target(b"from")?;
+        let merges = self.merges()?;
+        let changes = self.changes()?;
+        Ok(Command::Commit(Commit {
+            line,
+            branch,
+            mark,
+            header,
+            from,
+            merges,
+            changes,
+        }))
+    }
 
-/// The parts of a `tag`.
-fn tag<S: Source>(
-    alloc: Global,
-    window: &mut Window,
-    source: &mut S,
-    limits: Limits,
-    line: u64,
-    name: Bytes,
-) -> Result<Command, StreamFault>
-    requires { IsWithin limits }
-    ensures reading { Reads window.old (S.left source.old) window.new (S.left source.new) result (grammar.tag_at limits line name) }
-    ensures turns { remaining window.new ≤ remaining window.old }
-    ensures cause { FailsOnlyAt StreamFault.Read (S.faults source.old) (S.faults source.new) result }
-{
-    let mark = mark(window, source, limits)?;
-    let from = required_from(alloc, window, source, limits)?;
-    skip_original_oid(window, source, limits)?;
-    optional_ident(alloc, window, source, limits, b"tagger")?;
-    data(alloc, window, source, limits)?;
-    Ok(Command::Tag {
-        line,
-        name,
-        mark,
-        from,
-    })
-}
+    /// Who wrote and who committed a commit, and what they say of it.
+    fn header(&mut self) -> Result<Header, StreamFault>
+        ensures { Reads S.left S.faults self.old self.new result grammar.header_at }
+    {
+        let author = self.optional_ident(b"author")?;
+        let committer = self.committer()?;
+        let encoding = self.encoding()?;
+        self.no_signature()?;
+        let message = self.data()?;
+        Ok(Header {
+            author,
+            committer,
+            encoding,
+            message,
+        })
+    }
 
-/// The parts of a `reset`.
-fn reset<S: Source>(
-    alloc: Global,
-    window: &mut Window,
-    source: &mut S,
-    limits: Limits,
-    line: u64,
-    branch: Bytes,
-) -> Result<Command, StreamFault>
-    requires { IsWithin limits }
-    ensures reading { Reads window.old (S.left source.old) window.new (S.left source.new) result (grammar.reset_at limits line branch) }
-    ensures turns { remaining window.new ≤ remaining window.old }
-    ensures cause { FailsOnlyAt StreamFault.Read (S.faults source.old) (S.faults source.new) result }
-{
-    let from = target(alloc, window, source, limits, b"from")?;
-    Ok(Command::Reset { line, branch, from })
+    /// The parts of a `tag`.
+    fn tag(&mut self, line: u64, name: Bytes) -> Result<Command, StreamFault>
+        ensures { Reads S.left S.faults self.old self.new result (tag_from line name) }
+    {
+        let mark = self.mark()?;
+        let from = self.required_from()?;
+        self.skip_original_oid()?;
+        self.optional_ident(b"tagger")?;
+        self.data()?;
+        Ok(Command::Tag {
+            line,
+            name,
+            mark,
+            from,
+        })
+    }
+
+    /// The parts of a `reset`.
+    fn reset(&mut self, line: u64, branch: Bytes) -> Result<Command, StreamFault>
+        ensures { Reads S.left S.faults self.old self.new result (reset_from line branch) }
+    {
+        let from = self.target(b"from")?;
+        Ok(Command::Reset { line, branch, from })
+    }
 }

@@ -1,6 +1,6 @@
 //! The commands of a git fast-import stream (git-fast-import(1)), read from any source in whatever pieces
 //! the bytes come. The definition of a stream stands in `bf_grammar`; here each reader gives what the
-//! definition reads at the place where the window stands.
+//! definition reads at the place where the reader stands.
 #![tactic(auto)]
 
 mod changes;
@@ -10,13 +10,12 @@ mod reader;
 mod reading;
 
 pub use bf_grammar::{
-    Change, Changes, Command, DataRef, Limit, Limits, StreamFault, Target, Targets,
+    Change, Changes, Command, Commit, DataRef, Header, Limit, Limits, StreamFault, Target, Targets,
 };
 pub use bf_lines::Window;
-pub use commands::take_command;
 pub use reader::Reader;
 
 #[cfg(test)]
-mod refusals;
-#[cfg(test)]
 mod tests;
+#[cfg(test)]
+mod tests_refusals;

@@ -2,7 +2,7 @@
 ghost use Rattle.std.specs.Prelude.{◌<◌};
 ghost use Rattle.bf_grammar.specs.Limits.{IsWithin};
 
-use crate::{Command, Limit, Limits, Reader, StreamFault};
+use crate::{Command, Commit, Limit, Limits, Reader, StreamFault};
 use bf_io::{Bytes, MemSource};
 use std::alloc::{AllocError, Global};
 use std::test::Fail;
@@ -26,17 +26,11 @@ fn short(alloc: Global, command: &Command) -> Result<String, AllocError> {
             let bytes = content.len();
             format!(in alloc; "blob {line} {mark:?} {bytes}\n")
         }
-        Command::Commit {
-            line,
-            mark,
-            message,
-            merges,
-            changes,
-            ..
-        } => {
-            let bytes = message.len();
-            let merges = merges.as_slice().len();
-            let changes = changes.as_slice().len();
+        Command::Commit(commit) => {
+            let Commit { line, mark, .. } = commit;
+            let bytes = commit.header.message.len();
+            let merges = commit.merges.as_slice().len();
+            let changes = commit.changes.as_slice().len();
             format!(in alloc; "commit {line} {mark:?} {bytes} {merges} {changes}\n")
         }
         Command::Tag {

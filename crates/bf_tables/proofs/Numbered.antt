@@ -1,5 +1,6 @@
 -- Refs that are found by the numbers of their slots.
-use Rattle.std.proofs.Common.{◌≡◌, ℕ, zero, suc, ◌+◌, ◌<◌, true, false, nat_eq, cond, List, [], ◌∷◌, ◌++◌, length, take, slice_get, set, Option, Some, None, is_some, Result, Ok, Err, if◌then◌else◌, refl, sym, ap, ◌∙◌, subst, inl, inr, length-append, eq-eqb, arith}
+use Rattle.std.proofs.Common.{◌≡◌, ℕ, zero, suc, ◌+◌, ◌<◌, true, false, nat_eq, cond, List, [], ◌∷◌, ◌++◌, length, take, slice_get, set, Option, Some, None}
+use Rattle.std.proofs.Common.{is_some, Result, Ok, Err, if◌then◌else◌, refl, sym, ap, ◌∙◌, subst, inl, inr, length-append, eq-eqb, arith}
 use Rattle.std.specs.Result.{OnErr}
 use Rattle.std.proofs.lemmas.Bool.{cases_Bool, false≢true, eqb-true}
 use Rattle.std.proofs.lemmas.Slice.Eq.{bytes_eq-Decides}
@@ -34,7 +35,8 @@ lacking_value name (Some given ∷ slots) h =
     ap (λ b. if b then Some given.1 else value_of is_same name (filled slots)) (another name given slots h)
     ∙ lacking_value name slots (λ number place e. h (suc number) place e)
 
-pub lacking_with : (name : List ℕ) (value : ℕ) (slots : Slots) → IsLacking name slots → with_value is_same name value (filled slots) ≡ filled slots ++ (name, value) ∷ []
+pub lacking_with : (name : List ℕ) (value : ℕ) (slots : Slots) → IsLacking name slots
+    → with_value is_same name value (filled slots) ≡ filled slots ++ (name, value) ∷ []
 lacking_with name value [] h = refl
 lacking_with name value (None ∷ slots) h = lacking_with name value slots (λ number place e. h (suc number) place e)
 lacking_with name value (Some given ∷ slots) h =
@@ -56,7 +58,8 @@ IsAlone name number slots = (other place : ℕ) → slice_get slots other ≡ So
 rest_alone : (name : List ℕ) (number : ℕ) (slot : Option (List ℕ × ℕ)) (slots : Slots) → IsAlone name (suc number) (slot ∷ slots) → IsAlone name number slots
 rest_alone name number slot slots h = λ other place e. let same = h (suc other) place e in omega (arith, same)
 
-another_first : (name : List ℕ) (number : ℕ) (given : List ℕ × ℕ) (slots : Slots) → IsAlone name (suc number) (Some given ∷ slots) → is_same name given.0 ≡ false
+another_first : (name : List ℕ) (number : ℕ) (given : List ℕ × ℕ) (slots : Slots) → IsAlone name (suc number) (Some given ∷ slots)
+    → is_same name given.0 ≡ false
 another_first name number given slots h = elim (cases_Bool (is_same name given.0)) [
   | inl same ↦
       let e = same_name name given.0 same in
@@ -121,7 +124,8 @@ at_set [] number slot l = absurd (omega arith)
 at_set (first ∷ slots) zero slot l = refl
 at_set (first ∷ slots) (suc number) slot l = at_set slots number slot (omega arith)
 
-beside_set : (slots : Slots) (number other : ℕ) (slot : Option (List ℕ × ℕ)) → (other ≡ number → ⊥) → slice_get (set slots number slot) other ≡ slice_get slots other
+beside_set : (slots : Slots) (number other : ℕ) (slot : Option (List ℕ × ℕ)) → (other ≡ number → ⊥)
+    → slice_get (set slots number slot) other ≡ slice_get slots other
 beside_set [] number other slot h = refl
 beside_set (first ∷ slots) zero zero slot h = absurd (h refl)
 beside_set (first ∷ slots) zero (suc other) slot h = refl
@@ -143,7 +147,8 @@ filled_last [] given = refl
 filled_last (None ∷ slots) given = filled_last slots given
 filled_last (Some first ∷ slots) given = ap (λ v. first ∷ v) (filled_last slots given)
 
-pub same_length : (name : List ℕ) (value : ℕ) (refs : List (List ℕ × ℕ)) (place : ℕ) → value_of is_same name refs ≡ Some place → length (with_value is_same name value refs) ≡ length refs
+pub same_length : (name : List ℕ) (value : ℕ) (refs : List (List ℕ × ℕ)) (place : ℕ) → value_of is_same name refs ≡ Some place
+    → length (with_value is_same name value refs) ≡ length refs
 same_length name value [] place e = cc
 same_length name value (given ∷ refs) place e = elim (cases_Bool (is_same name given.0)) [
   | inl same ↦ ap (λ b. length (if b then (given.0, value) ∷ refs else given ∷ with_value is_same name value refs)) same
@@ -153,7 +158,8 @@ same_length name value (given ∷ refs) place e = elim (cases_Bool (is_same name
       ap (λ b. length (if b then (given.0, value) ∷ refs else given ∷ with_value is_same name value refs)) other ∙ ap suc more
 ]
 
-pub one_less : (name : List ℕ) (refs : List (List ℕ × ℕ)) (place : ℕ) → value_of is_same name refs ≡ Some place → suc (length (without_value is_same name refs)) ≡ length refs
+pub one_less : (name : List ℕ) (refs : List (List ℕ × ℕ)) (place : ℕ) → value_of is_same name refs ≡ Some place
+    → suc (length (without_value is_same name refs)) ≡ length refs
 one_less name [] place e = cc
 one_less name (given ∷ refs) place e = elim (cases_Bool (is_same name given.0)) [
   | inl same ↦ ap (λ b. suc (length (if b then refs else given ∷ without_value is_same name refs))) same
@@ -168,7 +174,8 @@ front_at [] more number slot at = cc
 front_at (first ∷ slots) more zero slot at = at
 front_at (first ∷ slots) more (suc number) slot at = front_at slots more number slot at
 
-not_last : (slots : Slots) (number : ℕ) (given : List ℕ × ℕ) → slice_get (slots ++ None ∷ []) number ≡ Some (Some given) → slice_get slots number ≡ Some (Some given)
+not_last : (slots : Slots) (number : ℕ) (given : List ℕ × ℕ) → slice_get (slots ++ None ∷ []) number ≡ Some (Some given)
+    → slice_get slots number ≡ Some (Some given)
 not_last [] zero given at = cc
 not_last [] (suc number) given at = cc
 not_last (first ∷ slots) zero given at = at
@@ -202,7 +209,8 @@ module _ (number_of : List ℕ → Option ℕ) (slots : Slots) (leads : Leads nu
     led_set = λ other p k e. elim (cases_Bool (nat_eq k number)) [
       | inl same ↦
           let is : k ≡ number = eqb-true k number same in
-          let after : slice_get (set slots number (Some (name, value))) number ≡ Some (Some (other, p)) = ap (slice_get (set slots number (Some (name, value)))) (sym is) ∙ e in
+          let after : slice_get (set slots number (Some (name, value))) number ≡ Some (Some (other, p)) = ap (slice_get (set slots number (Some (name, value))))
+          (sym is) ∙ e in
           let first = here in
           let pair : (other, p) ≡ (name, value) = cc in
           let names = ap (λ (v : List ℕ × ℕ). v.0) pair in
@@ -234,8 +242,11 @@ module _ (number_of : List ℕ → Option ℕ) (slots : Slots) (leads : Leads nu
       | inr other_name ↦
           let found : number_of other ≡ Some k = sym (is_next other ∙ ap (λ b. cond b (Some (length slots)) (number_of other)) other_name) ∙ e in
           let old = leads other k found in
-          let less = within slots k (Some (other, old.0)) old.1 in
-          (old.0, beside_set (slots ++ None ∷ []) (length slots) k (Some (name, value)) (λ is. absurd (omega (arith, less, is))) ∙ front_at slots (None ∷ []) k (Some (other, old.0)) old.1)
+          let less = within slots k (Some (other, old.0)) old.1 in (
+            old.0,
+            beside_set (slots ++ None ∷ []) (length slots) k (Some (name, value)) (λ is. absurd (omega (arith, less, is))) ∙ front_at slots (None ∷ []) k
+                (Some (other, old.0)) old.1,
+          )
     ]
 
     pub led_new : IsLedTo next (set (slots ++ None ∷ []) (length slots) (Some (name, value)))
@@ -249,7 +260,8 @@ module _ (number_of : List ℕ → Option ℕ) (slots : Slots) (leads : Leads nu
           let names = ap (λ (v : List ℕ × ℕ). v.0) pair in
           is_next other ∙ ap (λ b. cond b (Some (length slots)) (number_of other)) (ap (is_same name) (sym names) ∙ is_itself name) ∙ ap (λ v. Some v) (sym is)
       | inr other_slot ↦
-          let before = not_last slots k (other, p) (sym (beside_set (slots ++ None ∷ []) (length slots) k (Some (name, value)) (different k (length slots) other_slot)) ∙ e) in
+          let before = not_last slots k (other, p) (sym (beside_set (slots ++ None ∷ []) (length slots) k (Some (name, value))
+          (different k (length slots) other_slot)) ∙ e) in
           let old = led other p k before in
           elim (cases_Bool (is_same name other)) [
             | inl same ↦

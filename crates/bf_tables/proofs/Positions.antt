@@ -1,12 +1,13 @@
 -- The position of a name in a list where each name stands once.
-use Rattle.std.proofs.Common.{◌≡◌, ℕ, zero, suc, ◌+◌, Bool, true, false, cond, not, nat_lt, List, [], ◌∷◌, ◌++◌, length, slice_get, position, Option, Some, None, if◌then◌else◌, refl, sym, ap, ◌∙◌, subst, inl, inr, arith}
+use Rattle.std.proofs.Common.{◌≡◌, ℕ, zero, suc, ◌+◌, Bool, true, false, cond, not, nat_lt, List, [], ◌∷◌, ◌++◌, length, slice_get, position, Option, Some}
+use Rattle.std.proofs.Common.{None, if◌then◌else◌, refl, sym, ap, ◌∙◌, subst, inl, inr, arith}
 use Rattle.std.specs.List.{list_any, position_or_len, IsDistinct, AllByRecursion}
 use Rattle.std.specs.Option.{option_map}
 use Rattle.std.proofs.lemmas.Bool.{or_from, cases_Bool, false≢true}
 use Rattle.std.proofs.lemmas.Bool.Decides.{nat_tests}
 use Rattle.std.proofs.lemmas.Slice.Eq.{bytes_eq-Decides}
 use Rattle.indexmap.specs.IndexSet.{insert_key}
-use Rattle.bf_grammar.specs.declared.object.Oid.{Oid}
+use Rattle.bf_oid.specs.declared.object.Oid.{Oid}
 use Rattle.bf_forest.specs.Files.{is_same}
 use Rattle.bf_history.specs.Meanings.{place_named}
 
@@ -23,7 +24,8 @@ module _ {X : Type 0} (p : X → Bool) where
   less_on n len = grind (arith, nat_tests)
 
   by_head : (b : Bool) (n len : ℕ)
-      → cond (nat_lt (cond (not b) (1 + n) 0) (suc len)) (Some (cond (not b) (1 + n) 0)) None ≡ cond b (Some 0) (option_map suc (cond (nat_lt n len) (Some n) None))
+      → cond (nat_lt (cond (not b) (1 + n) 0) (suc len)) (Some (cond (not b) (1 + n) 0)) None ≡ cond b (Some 0)
+      (option_map suc (cond (nat_lt n len) (Some n) None))
   by_head true n len =
       let first : nat_lt 0 (suc len) ≡ true = grind (arith, nat_tests) in
       ap (λ b. cond b (Some 0) None) first
@@ -46,7 +48,8 @@ module _ {X : Type 0} (p : X → Bool) where
   absent (x ∷ xs) h = elim (cases_Bool (p x)) [
     | inl here ↦ absurd (some_none 0 (sym (ap (λ b. cond b (Some 0) (option_map suc (position p xs))) here) ∙ sym (position_more x xs) ∙ h))
     | inr other ↦
-        let rest : option_map suc (position p xs) ≡ None = sym (ap (λ b. cond b (Some 0) (option_map suc (position p xs))) other) ∙ sym (position_more x xs) ∙ h in
+        let rest : option_map suc (position p xs) ≡ None = sym (ap (λ b. cond b (Some 0) (option_map suc (position p xs))) other) ∙ sym (position_more x xs) ∙
+        h in
         or_from (p x) (list_any p xs) other (absent xs (no_more (position p xs) rest))
   ]
 
@@ -65,7 +68,8 @@ other_way a b h = elim (cases_Bool (is_same_name b a)) [
 ]
 
 -- a name leads to its own place
-pub own_place : (names : List Oid) (place : ℕ) (name : Oid) → IsDistinct is_same_name names → slice_get names place ≡ Some name → place_named names name ≡ Some place
+pub own_place : (names : List Oid) (place : ℕ) (name : Oid) → IsDistinct is_same_name names → slice_get names place ≡ Some name
+    → place_named names name ≡ Some place
 unfolding IsDistinct
 own_place [] place name once at = cc
 own_place (first ∷ rest) zero name once at =

@@ -1,9 +1,10 @@
 //! The names of the commits of a history, by place.
-ghost use Rattle.std.specs.Prelude.{◌≡◌, ℕ, ◌<◌, ◌++◌, ◌∷◌, [], length, slice_get, None, Some, IfSome, OnOk, OnErr};
-ghost use Rattle.bf_grammar.specs.declared.object.Oid.{Oid};
+ghost use Rattle.std.specs.Prelude.{◌≡◌, ◌<◌, ◌++◌, ◌∷◌, [], length, take, None, Some, IfSome, OnOk, OnErr};
+ghost use Rattle.bf_oid.specs.declared.object.Oid.{Oid};
 ghost use Rattle.bf_history.specs.Meanings.{place_named};
+ghost use Rattle.bf_tables.specs.Named.{LeadEachToItself};
 
-use bf_grammar::Oid;
+use bf_oid::Oid;
 use indexmap::IndexSet;
 use std::alloc::{AllocError, Global};
 use std::marker::Model;
@@ -17,7 +18,7 @@ pub struct Names {
 
 impl Model for Names {
     ghost use Rattle.std.specs.Prelude.{◌≤◌, List, length};
-    ghost use Rattle.bf_grammar.specs.declared.object.Oid.{Oid};
+    ghost use Rattle.bf_oid.specs.declared.object.Oid.{Oid};
 
     ghost Value = { List Oid };
 
@@ -46,7 +47,7 @@ impl Names {
     /// The names in order of their places. Each leads to its own place, so no two are the same.
     pub fn as_slice(&self) -> &[Oid]
         ensures value { result.now ≡ self.now }
-        ensures distinct { (place : ℕ) (name : Oid) → slice_get self.now place ≡ Some name → place_named self.now name ≡ Some place }
+        ensures distinct { LeadEachToItself self.now }
     {
         self.set.as_slice()
     }
@@ -69,5 +70,12 @@ impl Names {
     {
         self.set.insert(name)?;
         Ok(())
+    }
+
+    /// Leaves the first names, so many at most.
+    pub fn truncate(&mut self, count: u32)
+        ensures { self.new ≡ take count self.old }
+    {
+        self.set.truncate(count as usize);
     }
 }

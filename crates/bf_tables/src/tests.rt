@@ -1,8 +1,8 @@
 //! The tables with ample memory, where each call gives its value.
 use super::*;
-use bf_grammar::Oid;
 use bf_history::Marked;
 use bf_io::{Bytes, put_decimal};
+use bf_oid::Oid;
 use std::alloc::{AllocError, Global};
 use std::test::Fail;
 
@@ -87,5 +87,19 @@ fn names_stand_once(rt: HostRuntime) -> Result<(), Fail> {
         names.as_slice(),
         [Oid([3; 20]), Oid([1; 20]), Oid([2; 20])].as_slice()
     );
+    Ok(())
+}
+
+#[test]
+fn the_first_names_are_left(rt: HostRuntime) -> Result<(), Fail> {
+    let mut names = Names::new(rt.alloc());
+    place_of(&mut names, Oid([3; 20]))?;
+    place_of(&mut names, Oid([1; 20]))?;
+    names.truncate(5);
+    assert_eq!(rt; names.len(), 2);
+    names.truncate(1);
+    assert_eq!(rt; names.as_slice(), [Oid([3; 20])].as_slice());
+    assert_eq!(rt; names.place_of(Oid([1; 20])), None);
+    assert_eq!(rt; place_of(&mut names, Oid([2; 20]))?, 1);
     Ok(())
 }

@@ -4,3 +4,4 @@ pub mod Noted
 pub mod Plans
 pub mod Replies
 pub mod Scripts
+pub mod Shown

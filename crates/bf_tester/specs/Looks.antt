@@ -1,6 +1,10 @@
 -- What a look at a flag knows.
-use Rattle.std.specs.Prelude.{Bool}
+use Rattle.std.specs.Prelude.{◌≡◌, Bool, true, false}
 
 pub record Look : Type 0 where
   pub seen : Bool  -- whether a look found the flag raised
   pub bare : Bool  -- whether there is no flag
+
+-- there is a flag, and a look found it raised
+abbrev pub SawRaised : Look → Type 0
+SawRaised look = (look.seen ≡ true) × (look.bare ≡ false)

@@ -13,9 +13,17 @@ is_letter letter = is_some (outcome_of_letter letter)
 abbrev pub plan_of : List ℕ → List Outcome
 plan_of letters = map (λ letter. unwrap_or (outcome_of_letter letter) (Exit 125)) letters
 
+-- what is told is the plan that these letters write
+abbrev pub IsPlan : Option (List Outcome) → List ℕ → Type 0
+IsPlan told letters = told ≡ Some (plan_of letters)
+
 -- an outcome as it is, or in its lenient reading
 abbrev pub read_as : Bool → Outcome → Outcome
 read_as is_lenient outcome = if is_lenient then lenient outcome else outcome
+
+-- where outcomes are read leniently, this one is a lenient reading
+abbrev pub IsReadAs : Bool → Outcome → Type 0
+IsReadAs is_lenient outcome = is_lenient ≡ true → lenient outcome ≡ outcome
 
 -- a plan as it is, or in the lenient reading of each outcome
 abbrev pub plan_read_as : Bool → List Outcome → List Outcome

@@ -1,10 +1,11 @@
 -- What a reply to a test says of the tester.
 use Rattle.std.specs.Prelude.{◌≡◌, ℕ, Bool, true, false, ◌||◌, List, [], ◌∷◌, ◌++◌, Option, Some, None}
-use Rattle.bf_grammar.specs.declared.object.Oid.{Oid}
+use Rattle.bf_oid.specs.declared.object.Oid.{Oid}
 use Rattle.bf_search.specs.declared.outcomes.Outcome.{Outcome}
-use Rattle.bf_search.specs.Outcomes.{planned, lenient}
+use Rattle.bf_search.specs.Outcomes.{planned}
 use Rattle.bf_tester.specs.declared.answer.Answer.{Answer}
 use Rattle.bf_tester.specs.Looks.{Look}
+use Rattle.bf_tester.specs.Plans.{IsReadAs}
 use Rattle.bf_tester.specs.declared.answer.TestReply.{TestReply}
 use Rattle.bf_tester.specs.declared.answer.TestReply.TheVariants.{Done, Dropped, Failed, NoMemory}
 
@@ -38,10 +39,14 @@ ReplyFollowsPlan told place NoMemory = Unit {0}
 
 -- a tester that reads leniently answers lenient readings alone
 abbrev pub ReplyIsReadAs : Bool → TestReply → Type 0
-ReplyIsReadAs is_lenient (Done outcome) = is_lenient ≡ true → lenient outcome ≡ outcome
+ReplyIsReadAs is_lenient (Done outcome) = IsReadAs is_lenient outcome
 ReplyIsReadAs is_lenient Dropped = Unit {0}
 ReplyIsReadAs is_lenient Failed = Unit {0}
 ReplyIsReadAs is_lenient NoMemory = Unit {0}
+
+-- where the outcome is a lenient reading, so is the reply
+abbrev pub RepliesAsRead : Bool → Outcome → TestReply → Type 0
+RepliesAsRead is_lenient outcome reply = IsReadAs is_lenient outcome → ReplyIsReadAs is_lenient reply
 
 abbrev pub is_dropped : TestReply → Bool
 is_dropped Dropped = true

@@ -1,8 +1,8 @@
 //! What every tester notes: its command, its answers, and how it reads outcomes.
-ghost use Rattle.std.specs.Prelude.{◌≡◌, true, false, ◌||◌, ◌⊎◌, [], ◌∷◌, ◌++◌, IfOk, OnOk, OnErr, IfErr};
+ghost use Rattle.std.specs.Prelude.{◌≡◌, ◌⊎◌, [], ◌∷◌, IfOk, OnOk, OnErr, IfErr};
 ghost use Rattle.std.specs.List.{slice_get};
-ghost use Rattle.bf_search.specs.Outcomes.{lenient};
-ghost use Rattle.bf_tester.specs.Replies.{answers_after, ReplyIsReadAs};
+ghost use Rattle.bf_tester.specs.Noted.{first_notes, prepared_by, with_more, notes_after, split_notes};
+ghost use Rattle.bf_tester.specs.Replies.{RepliesAsRead};
 
 use crate::answer::{Answer, TestReply};
 use crate::words::Words;
@@ -28,13 +28,18 @@ impl Model for Notes {
 
     ghost Value = { Noted };
 
-    ghost view = { λ n. record { command = n.command; answers = n.answers.items; is_lenient = n.is_lenient; is_split = n.is_split } };
+    ghost view = { λ n. record {
+      command = n.command;
+      answers = n.answers.items;
+      is_lenient = n.is_lenient;
+      is_split = n.is_split;
+    } };
 }
 
 impl Notes {
     /// The notes of a new tester. It takes no memory.
     pub(crate) fn new(alloc: Global) -> Notes
-        ensures { result ≡ record { command = []; answers = []; is_lenient = false; is_split = false } }
+        ensures { result ≡ first_notes }
     {
         Notes {
             alloc,
@@ -47,7 +52,7 @@ impl Notes {
 
     /// Takes a command, and reads outcomes leniently from now on where that is asked.
     pub(crate) fn prepare(&mut self, words: &[Word], leniently: bool) -> Result<(), AllocError>
-        ensures ok { OnOk result (self.new ≡ record self.old { command = words.now; is_lenient = self.old.is_lenient || leniently }) }
+        ensures ok { OnOk result (self.new ≡ prepared_by self.old words.now leniently) }
         ensures err { OnErr result (self.new ≡ self.old) }
     {
         self.command = Words::copy_of(self.alloc, words)?;
@@ -57,7 +62,7 @@ impl Notes {
 
     /// Adds an answer.
     pub(crate) fn note(&mut self, answer: Answer) -> Result<(), AllocError>
-        ensures ok { OnOk result (self.new ≡ record self.old { answers = self.old.answers ++ answer ∷ [] }) }
+        ensures ok { OnOk result (self.new ≡ with_more self.old (answer ∷ [])) }
         ensures err { OnErr result (self.new ≡ self.old) }
     {
         self.answers.push(answer)?;
@@ -67,8 +72,8 @@ impl Notes {
     /// Notes that the test of a commit ended so, and makes the reply.
     pub(crate) fn done(&mut self, place: u32, name: Oid, outcome: Outcome) -> TestReply
         ensures reply { (result ≡ TestReply.Done outcome) ⊎ (result ≡ TestReply.NoMemory) }
-        ensures read { (self.old.is_lenient ≡ true → lenient outcome ≡ outcome) → ReplyIsReadAs self.old.is_lenient result }
-        ensures noted { self.new ≡ record self.old { answers = answers_after result self.old.answers place name } }
+        ensures read { RepliesAsRead self.old.is_lenient outcome result }
+        ensures noted { self.new ≡ notes_after self.old result place name }
     {
         match self.note(Answer {
             place,
@@ -82,7 +87,7 @@ impl Notes {
 
     /// The notes of a tester that is split off.
     pub(crate) fn split(&self) -> Result<Notes, AllocError>
-        ensures { IfOk result (λ notes. notes ≡ record self.now { answers = []; is_split = true }) }
+        ensures { IfOk result (λ notes. notes ≡ split_notes self.now) }
     {
         Ok(Notes {
             alloc: self.alloc,
@@ -95,7 +100,7 @@ impl Notes {
 
     /// Adds the answers of other notes.
     pub(crate) fn absorb(&mut self, other: Notes) -> Result<(), Notes>
-        ensures ok { OnOk result (self.new ≡ record self.old { answers = self.old.answers ++ other.answers }) }
+        ensures ok { OnOk result (self.new ≡ with_more self.old other.answers) }
         ensures err { IfErr result (λ notes. (notes ≡ other) × (self.new ≡ self.old)) }
     {
         let mut other = other;

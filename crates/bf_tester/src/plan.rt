@@ -1,7 +1,7 @@
 //! A plan of outcomes by place.
-ghost use Rattle.std.specs.Prelude.{◌≡◌, true, IfOk, All, IsTrue};
-ghost use Rattle.bf_search.specs.Outcomes.{planned, lenient};
-ghost use Rattle.bf_tester.specs.Plans.{is_letter, plan_of, read_as, plan_read_as};
+ghost use Rattle.std.specs.Prelude.{◌≡◌, IfOk, All, IsTrue};
+ghost use Rattle.bf_search.specs.Outcomes.{planned};
+ghost use Rattle.bf_tester.specs.Plans.{is_letter, plan_of, read_as, plan_read_as, IsReadAs};
 
 use bf_search::Outcome;
 use bf_terms::{lenient, outcome_of_letter};
@@ -50,7 +50,7 @@ impl Plan {
     #[tactic(auto, using(crate::proofs::Reading::planned_read_as))]
     pub(crate) fn outcome(&self, place: u32, is_lenient: bool) -> Outcome
         ensures planned { result ≡ planned (plan_read_as is_lenient self.now) place }
-        ensures read { is_lenient ≡ true → lenient result ≡ result }
+        ensures read { IsReadAs is_lenient result }
     {
         read(is_lenient, self.planned(place))
     }
@@ -69,7 +69,7 @@ impl Plan {
 #[tactic(auto, using(crate::proofs::Reading::lenient_twice))]
 pub(crate) fn read(is_lenient: bool, outcome: Outcome) -> Outcome
     ensures outcome { result ≡ read_as is_lenient outcome }
-    ensures read { is_lenient ≡ true → lenient result ≡ result }
+    ensures read { IsReadAs is_lenient result }
 {
     if is_lenient {
         lenient(outcome)

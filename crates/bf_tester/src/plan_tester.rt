@@ -4,9 +4,9 @@ ghost use Rattle.bf_io.specs.Causes.{Rose};
 ghost use Rattle.bf_search.specs.declared.outcomes.Outcome.{Outcome};
 ghost use Rattle.bf_tester.specs.declared.answer.Answer.{Answer};
 ghost use Rattle.bf_tester.specs.Grounds.{Ground};
-ghost use Rattle.bf_tester.specs.Plans.{is_letter, plan_of, plan_read_as};
+ghost use Rattle.bf_tester.specs.Plans.{is_letter, IsPlan};
 ghost use Rattle.bf_tester.specs.Replies.{ReplyFollowsPlan, ReplyIsReadAs, DropsByOneLook, is_failed};
-ghost use Rattle.bf_tester.specs.Scripts.{planned_after};
+ghost use Rattle.bf_tester.specs.Scripts.{told_by, planned_after, split_planned};
 
 use crate::answer::{Answer, TestReply};
 use crate::host::Host;
@@ -39,7 +39,7 @@ impl PlanTester {
     /// A tester of the plan that these letters write, with no command and no answers. It tells the plan.
     pub fn new(alloc: Global, letters: &[u8]) -> Result<PlanTester, AllocError>
         requires { All (λ letter. IsTrue (is_letter letter)) letters.now }
-        ensures told { IfOk result (λ t. ⟦<PlanTester as Tester>⟧.told t ≡ Some (plan_of letters.now)) }
+        ensures told { IfOk result (λ t. IsPlan (⟦<PlanTester as Tester>⟧.told t) letters.now) }
         ensures answers { IfOk result (λ t. ⟦<PlanTester as Tester>⟧.answers t ≡ []) }
         ensures command { IfOk result (λ t. ⟦<PlanTester as Tester>⟧.command t ≡ []) }
         ensures is_split { IfOk result (λ t. ⟦<PlanTester as Tester>⟧.is_split t ≡ false) }
@@ -54,7 +54,7 @@ impl PlanTester {
 }
 
 impl Tester for PlanTester {
-    ghost told = { λ t. Some (plan_read_as t.notes.is_lenient t.plan) };
+    ghost told = { λ t. told_by t.notes t.plan };
 
     ghost command = { λ t. t.notes.command };
 
@@ -88,7 +88,7 @@ impl Tester for PlanTester {
     ) -> TestReply
         ensures looked { DropsByOneLook stop.old stop.new result }
         ensures never_fails { is_failed result ≡ false }
-        ensures planned { ReplyFollowsPlan (Some (plan_read_as self.old.notes.is_lenient self.old.plan)) place result }
+        ensures planned { ReplyFollowsPlan (told_by self.old.notes self.old.plan) place result }
         ensures read { ReplyIsReadAs self.old.notes.is_lenient result }
         ensures noted { self.new ≡ planned_after self.old result place name }
     {
@@ -101,7 +101,7 @@ impl Tester for PlanTester {
 
     /// A tester of the same plan and command, with no answers.
     fn split(&self) -> Result<PlanTester, AllocError>
-        ensures { IfOk result (λ t. t ≡ record self.now { notes = record self.now.notes { answers = []; is_split = true } }) }
+        ensures { IfOk result (λ t. t ≡ split_planned self.now) }
     {
         Ok(PlanTester {
             alloc: self.alloc,

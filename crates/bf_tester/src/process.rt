@@ -3,6 +3,7 @@ ghost use Rattle.std.specs.Prelude.{◌≡◌, ℕ, ◌≤◌, true, false, List
 ghost use Rattle.bf_search.specs.declared.outcomes.Outcome.{Outcome};
 ghost use Rattle.bf_tester.specs.declared.answer.Answer.{Answer};
 ghost use Rattle.bf_tester.specs.Grounds.{Ground};
+ghost use Rattle.bf_tester.specs.Shown.{ShowsSame};
 
 use crate::answer::{Answer, TestReply};
 use crate::host::Host;
@@ -64,12 +65,7 @@ impl ProcessTester {
     /// The same tester, which tells nothing from now on.
     pub fn silent(self) -> ProcessTester
         ensures told { ⟦<ProcessTester as Tester>⟧.told result ≡ None }
-        ensures answers { ⟦<ProcessTester as Tester>⟧.answers result ≡ ⟦<ProcessTester as Tester>⟧.answers self }
-        ensures command { ⟦<ProcessTester as Tester>⟧.command result ≡ ⟦<ProcessTester as Tester>⟧.command self }
-        ensures faults { ⟦<ProcessTester as Tester>⟧.faults result ≡ ⟦<ProcessTester as Tester>⟧.faults self }
-        ensures failed { ⟦<ProcessTester as Tester>⟧.failed result ≡ ⟦<ProcessTester as Tester>⟧.failed self }
-        ensures is_split { ⟦<ProcessTester as Tester>⟧.is_split result ≡ ⟦<ProcessTester as Tester>⟧.is_split self }
-        ensures is_lenient { ⟦<ProcessTester as Tester>⟧.is_lenient result ≡ ⟦<ProcessTester as Tester>⟧.is_lenient self }
+        ensures shown { ShowsSame ⟦<ProcessTester as Tester>⟧ self result }
     {
         ProcessTester {
             is_silent: true,

@@ -1,13 +1,13 @@
 //! A tester that follows a script: a plan, tests that fail, and a gate that shows that tests overlap.
 ghost use Rattle.std.specs.Prelude.{◌≡◌, ℕ, ◌≤◌, ◌↔◌, ◌⊎◌, true, false, List, [], Some, None, All, IfOk, IsTrue};
 ghost use Rattle.std.specs.Option.{is_some};
-ghost use Rattle.bf_io.specs.Causes.{raised};
 ghost use Rattle.bf_search.specs.declared.outcomes.Outcome.{Outcome};
 ghost use Rattle.bf_tester.specs.declared.answer.Answer.{Answer};
 ghost use Rattle.bf_tester.specs.Grounds.{Ground};
-ghost use Rattle.bf_tester.specs.Plans.{is_letter, plan_of, plan_read_as};
-ghost use Rattle.bf_tester.specs.Replies.{ReplyFollowsPlan, ReplyIsReadAs, DropsByOneLook, is_dropped, is_failed};
-ghost use Rattle.bf_tester.specs.Scripts.{is_on_side, is_to_fail, scripted_after};
+ghost use Rattle.bf_tester.specs.Plans.{is_letter, IsPlan};
+ghost use Rattle.bf_tester.specs.Replies.{ReplyFollowsPlan, ReplyIsReadAs, DropsByOneLook};
+ghost use Rattle.bf_tester.specs.Scripts.{IsRuleFor, is_to_fail, FailsByRule, PassesUngated};
+ghost use Rattle.bf_tester.specs.Scripts.{told_by, scripted_after, failed_at, split_scripted};
 
 use crate::answer::{Answer, TestReply};
 use crate::host::Host;
@@ -46,7 +46,7 @@ pub struct FailRule {
 
 impl FailRule {
     fn is_for(&self, is_split: bool, place: u32) -> bool
-        ensures { IsTrue result ↔ ((self.now.place ≡ place) × IsTrue (is_on_side self.now.side is_split)) }
+        ensures { IsTrue result ↔ IsRuleFor self.now is_split place }
     {
         self.place == place && (is_split || self.side == Side::All)
     }
@@ -103,7 +103,14 @@ impl Model for ScriptTester {
 
     ghost Value = { Scripted };
 
-    ghost view = { λ t. record { plan = t.plan; notes = t.notes; fails = t.fails.items; is_gated = is_some t.gate; faults = t.faults; failed = t.failed } };
+    ghost view = { λ t. record {
+      plan = t.plan;
+      notes = t.notes;
+      fails = t.fails.items;
+      is_gated = is_some t.gate;
+      faults = t.faults;
+      failed = t.failed;
+    } };
 }
 
 impl ScriptTester {
@@ -115,7 +122,7 @@ impl ScriptTester {
         gate: Option<Arc<Gate>>,
     ) -> Result<ScriptTester, AllocError>
         requires { All (λ letter. IsTrue (is_letter letter)) letters.now }
-        ensures told { IfOk result (λ t. ⟦<ScriptTester as Tester>⟧.told t ≡ Some (plan_of letters.now)) }
+        ensures told { IfOk result (λ t. IsPlan (⟦<ScriptTester as Tester>⟧.told t) letters.now) }
         ensures answers { IfOk result (λ t. ⟦<ScriptTester as Tester>⟧.answers t ≡ []) }
         ensures command { IfOk result (λ t. ⟦<ScriptTester as Tester>⟧.command t ≡ []) }
         ensures is_split { IfOk result (λ t. ⟦<ScriptTester as Tester>⟧.is_split t ≡ false) }
@@ -157,7 +164,7 @@ impl ScriptTester {
     fn fail(&mut self, place: u32) -> TestReply
         ensures reply { result ≡ TestReply.Failed }
         ensures later { self.old.faults ≤ self.new.faults }
-        ensures counted { self.new ≡ record self.old { faults = raised self.old.faults; failed = Some place } }
+        ensures counted { self.new ≡ failed_at self.old place }
     {
         self.faults = self.faults.saturating_add(1);
         self.failed = Some(place);
@@ -166,7 +173,7 @@ impl ScriptTester {
 }
 
 impl Tester for ScriptTester {
-    ghost told = { λ t. Some (plan_read_as t.notes.is_lenient t.plan) };
+    ghost told = { λ t. told_by t.notes t.plan };
 
     ghost command = { λ t. t.notes.command };
 
@@ -199,9 +206,9 @@ impl Tester for ScriptTester {
         stop: &mut StopView<'_>,
     ) -> TestReply
         ensures looked { DropsByOneLook stop.old stop.new result }
-        ensures fails { is_to_fail self.old place ≡ true → (is_dropped result ≡ true) ⊎ (is_failed result ≡ true) }
-        ensures passes { is_to_fail self.old place ≡ false → self.old.is_gated ≡ false → is_failed result ≡ false }
-        ensures planned { ReplyFollowsPlan (Some (plan_read_as self.old.notes.is_lenient self.old.plan)) place result }
+        ensures fails { FailsByRule self.old place result }
+        ensures passes { PassesUngated self.old place result }
+        ensures planned { ReplyFollowsPlan (told_by self.old.notes self.old.plan) place result }
         ensures read { ReplyIsReadAs self.old.notes.is_lenient result }
         ensures noted { self.new ≡ scripted_after self.old result place name }
         ensures later { self.old.faults ≤ self.new.faults }
@@ -219,7 +226,7 @@ impl Tester for ScriptTester {
 
     /// A tester of the same script and command behind the same gate, with no answers and no faults.
     fn split(&self) -> Result<ScriptTester, AllocError>
-        ensures { IfOk result (λ t. t ≡ record self.now { notes = record self.now.notes { answers = []; is_split = true }; faults = 0; failed = None }) }
+        ensures { IfOk result (λ t. t ≡ split_scripted self.now) }
     {
         Ok(ScriptTester {
             alloc: self.alloc,

@@ -1,10 +1,11 @@
 //! The trait of what tests commits.
-ghost use Rattle.std.specs.Prelude.{◌≡◌, ℕ, ◌≤◌, Bool, true, false, ◌||◌, List, [], ◌++◌, Option, None, IfOk, OnOk, OnErr, IfErr};
+ghost use Rattle.std.specs.Prelude.{◌≡◌, ℕ, ◌≤◌, Bool, true, ◌||◌, List, [], ◌++◌, Option, None, IfOk, OnOk, OnErr, IfErr};
 ghost use Rattle.std.specs.List.{slice_get};
 ghost use Rattle.bf_io.specs.Causes.{Rose};
 ghost use Rattle.bf_search.specs.declared.outcomes.Outcome.{Outcome};
 ghost use Rattle.bf_tester.specs.declared.answer.Answer.{Answer};
 ghost use Rattle.bf_tester.specs.Grounds.{Ground};
+ghost use Rattle.bf_tester.specs.Looks.{SawRaised};
 ghost use Rattle.bf_tester.specs.Plans.{PreparesTold};
 ghost use Rattle.bf_tester.specs.Replies.{answers_after, failed_after, ReplyFollowsPlan, ReplyIsReadAs};
 
@@ -68,7 +69,7 @@ pub trait Tester: Send + Drop + Sized {
         ensures answers { answers self.new ≡ answers_after result (answers self.old) place name }
         ensures planned { ReplyFollowsPlan (told self.old) place result }
         ensures read { ReplyIsReadAs (is_lenient self.old) result }
-        ensures dropped { result ≡ TestReply.Dropped → (stop.new.seen ≡ true) × (stop.new.bare ≡ false) }
+        ensures dropped { result ≡ TestReply.Dropped → SawRaised stop.new }
         ensures bare { stop.new.bare ≡ stop.old.bare }
         ensures faults { faults self.old ≤ faults self.new }
         ensures fault { result ≡ TestReply.Failed → Rose (faults self.old) (faults self.new) }

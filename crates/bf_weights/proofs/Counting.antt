@@ -69,7 +69,8 @@ count_below-none f (suc n) h = count_below-no f n (h n (omega arith)) ∙ count_
 pub count_below-same : (f g : ℕ → Bool) (n : ℕ) → ((q : ℕ) → q < n → f q ≡ g q) → count_below f n ≡ count_below g n
 unfolding count_below
 count_below-same f g zero h = refl
-count_below-same f g (suc n) h = ap (λ (x : ℕ). x + cond (f n) 1 0) (count_below-same f g n (λ q l. h q (omega arith))) ∙ ap (λ (b : Bool). count_below g n + cond b 1 0) (h n (omega arith))
+count_below-same f g (suc n) h = ap (λ (x : ℕ). x + cond (f n) 1 0) (count_below-same f g n (λ q l. h q (omega arith))) ∙ ap
+    (λ (b : Bool). count_below g n + cond b 1 0) (h n (omega arith))
 
 -- one number more than those that pass
 pub count_below-or_one : (f : ℕ → Bool) (i n : ℕ) → f i ≡ false → i < n → count_below (λ q. (i == q) || f q) n ≡ count_below f n + 1
@@ -109,22 +110,26 @@ count_by-range_with_len f a (suc k) =
     ⊎_elim
     (λ (t : f a ≡ true).
     let yes = count_below-yes f a t in
-    let here : count_by f (range_with_len a (suc k)) ≡ 1 + count_by f (range_with_len (a + 1) k) = sum_by-cons (λ x. cond (f x) 1 0) a (range_with_len (a + 1) k) ∙ ap (λ (b : Bool). cond b 1 0 + count_by f (range_with_len (a + 1) k)) t in
+    let here : count_by f (range_with_len a (suc k)) ≡ 1 + count_by f (range_with_len (a + 1) k) = sum_by-cons (λ x. cond (f x) 1 0) a
+    (range_with_len (a + 1) k) ∙ ap (λ (b : Bool). cond b 1 0 + count_by f (range_with_len (a + 1) k)) t in
     omega arith)
     (λ (t : f a ≡ false).
     let no = count_below-no f a t in
-    let here : count_by f (range_with_len a (suc k)) ≡ 0 + count_by f (range_with_len (a + 1) k) = sum_by-cons (λ x. cond (f x) 1 0) a (range_with_len (a + 1) k) ∙ ap (λ (b : Bool). cond b 1 0 + count_by f (range_with_len (a + 1) k)) t in
+    let here : count_by f (range_with_len a (suc k)) ≡ 0 + count_by f (range_with_len (a + 1) k) = sum_by-cons (λ x. cond (f x) 1 0) a
+    (range_with_len (a + 1) k) ∙ ap (λ (b : Bool). cond b 1 0 + count_by f (range_with_len (a + 1) k)) t in
     omega arith)
     (cases_Bool (f a))
 
 -- What is counted among the numbers that pass m is counted by their numbers among those.
-pub count_below-numbered : (m r s : ℕ → Bool) (n : ℕ) → ((q : ℕ) → q < n → m q ≡ true → s (count_below m q) ≡ r q) → count_below (λ q. m q && r q) n ≡ count_below s (count_below m n)
+pub count_below-numbered : (m r s : ℕ → Bool) (n : ℕ) → ((q : ℕ) → q < n → m q ≡ true → s (count_below m q) ≡ r q)
+    → count_below (λ q. m q && r q) n ≡ count_below s (count_below m n)
 count_below-numbered m r s zero h = count_below-zero (λ q. m q && r q) ∙ sym (count_below-zero s) ∙ ap (count_below s) (sym (count_below-zero m))
 count_below-numbered m r s (suc n) h =
     let rest : count_below (λ q. m q && r q) n ≡ count_below s (count_below m n) = count_below-numbered m r s n (λ q l. h q (omega arith)) in
     ⊎_elim
     (λ (t : m n ≡ true).
-    let next : count_below s (count_below m (suc n)) ≡ count_below s (suc (count_below m n)) = count_below-at s _ _ (let yes = count_below-yes m n t in omega arith) in
+    let next : count_below s (count_below m (suc n)) ≡ count_below s (suc (count_below m n)) = count_below-at s _ _
+    (let yes = count_below-yes m n t in omega arith) in
     let here : (m n && r n) ≡ r n = ap (λ (b : Bool). b && r n) t in
     let told : s (count_below m n) ≡ r n = h n (omega arith) t in
     ⊎_elim

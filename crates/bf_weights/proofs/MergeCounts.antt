@@ -22,38 +22,45 @@ CountsMerges-start graph n long = record {
 }
 
 -- where there is no merge there is nothing to count
-pub CountsMerges-none : (graph : List (List ℕ)) (end : ℕ) (sizes : List ℕ) → length sizes ≡ length graph → ((p : ℕ) → p < length graph → parentage_of (parents_of graph p) ≡ Merge → ⊥) → CountsMerges graph end sizes
+pub CountsMerges-none : (graph : List (List ℕ)) (end : ℕ) (sizes : List ℕ) → length sizes ≡ length graph
+    → ((p : ℕ) → p < length graph → parentage_of (parents_of graph p) ≡ Merge → ⊥) → CountsMerges graph end sizes
 CountsMerges-none graph end sizes long none = record { size = long; merges = λ p l m. absurd (none p l m) }
 
 -- past the last place there is nothing to count
-pub CountsMerges-end : (graph : List (List ℕ)) (end : ℕ) (sizes : List ℕ) → IsGraph graph → length graph ≤ end → CountsMerges graph end sizes → CountsMerges graph (length graph) sizes
+pub CountsMerges-end : (graph : List (List ℕ)) (end : ℕ) (sizes : List ℕ) → IsGraph graph → length graph ≤ end → CountsMerges graph end sizes
+    → CountsMerges graph (length graph) sizes
 CountsMerges-end graph end sizes g l counted = record {
   size = counted.size;
   merges = λ p within m.
       let gap : ℕ = end - length graph in
-      counted.merges p within m ∙ count_below-at (reaches graph p) end (length graph + gap) (omega arith) ∙ count_below-reaches_past graph p (length graph) gap g within;
+      counted.merges p within m ∙ count_below-at (reaches graph p) end (length graph + gap) (omega arith) ∙ count_below-reaches_past graph p (length graph) gap
+      g within;
 }
 
 pub CountsMerges-at : (graph : List (List ℕ)) (end other : ℕ) (sizes : List ℕ) → end ≡ other → CountsMerges graph end sizes → CountsMerges graph other sizes
 CountsMerges-at graph end other sizes e counted = subst (λ (x : ℕ). CountsMerges graph x sizes) e counted
 
 -- no merge before the block reaches it
-pub CountsBlock-start : (graph : List (List ℕ)) (start : ℕ) (sizes : List ℕ) → IsGraph graph → CountsMerges graph start sizes → CountsBlock graph start start sizes
+pub CountsBlock-start : (graph : List (List ℕ)) (start : ℕ) (sizes : List ℕ) → IsGraph graph → CountsMerges graph start sizes
+    → CountsBlock graph start start sizes
 CountsBlock-start graph start sizes g counted = record {
   size = counted.size;
   done = λ p below within m. counted.merges p within m ∙ sym (count_below-reaches_past graph p start 512 g below);
   left = λ p above within m. counted.merges p within m;
 }
 
-pub CountsBlock-end : (graph : List (List ℕ)) (start place : ℕ) (sizes : List ℕ) → length graph ≤ place → CountsBlock graph start place sizes → CountsMerges graph (start + 512) sizes
+pub CountsBlock-end : (graph : List (List ℕ)) (start place : ℕ) (sizes : List ℕ) → length graph ≤ place → CountsBlock graph start place sizes
+    → CountsMerges graph (start + 512) sizes
 CountsBlock-end graph start place sizes l counted = record {
   size = counted.size;
   merges = λ p within m. counted.done p (omega arith) within m;
 }
 
 -- a merge is counted
-pub CountsBlock-more : (graph : List (List ℕ)) (start place : ℕ) (sizes : List ℕ) (count : ℕ) → place < length graph → parentage_of (parents_of graph place) ≡ Merge
-    → count ≡ count_by (λ v. v) (block_row graph start place) → CountsBlock graph start place sizes → CountsBlock graph start (place + 1) (set sizes place (get_or sizes place 0 + count))
+pub CountsBlock-more : (graph : List (List ℕ)) (start place : ℕ) (sizes : List ℕ) (count : ℕ) → place < length graph
+    → parentage_of (parents_of graph place) ≡ Merge
+    → count ≡ count_by (λ v. v) (block_row graph start place) → CountsBlock graph start place sizes
+    → CountsBlock graph start (place + 1) (set sizes place (get_or sizes place 0 + count))
 CountsBlock-more graph start place sizes count within merge is counted = record {
   size = length-set sizes place _ ∙ counted.size;
   done = λ p below l m.
@@ -72,11 +79,13 @@ CountsBlock-more graph start place sizes count within merge is counted = record 
         ap (λ (n : ℕ). n + count) before ∙ ap (λ (n : ℕ). count_below (reaches graph place) start + n) is ∙ count_below-block graph start place
 
 -- what is counted is at most the number of places
-pub CountsBlock-fits : (graph : List (List ℕ)) (start place : ℕ) (sizes : List ℕ) (count : ℕ) → IsGraph graph → place < length graph → parentage_of (parents_of graph place) ≡ Merge
+pub CountsBlock-fits : (graph : List (List ℕ)) (start place : ℕ) (sizes : List ℕ) (count : ℕ) → IsGraph graph → place < length graph
+    → parentage_of (parents_of graph place) ≡ Merge
     → count ≡ count_by (λ v. v) (block_row graph start place) → CountsBlock graph start place sizes → get_or sizes place 0 + count ≤ length graph
 CountsBlock-fits graph start place sizes count g within merge is counted =
     let before : get_or sizes place 0 ≡ count_below (reaches graph place) start = counted.left place (omega arith) within merge in
-    let total : count_below (reaches graph place) start + count_by (λ v. v) (block_row graph start place) ≡ count_below (reaches graph place) (start + 512) = count_below-block graph start place in
+    let total : count_below (reaches graph place) start + count_by (λ v. v) (block_row graph start place) ≡ count_below (reaches graph place) (start + 512) =
+    count_below-block graph start place in
     ⊎_elim
     (λ (short : start + 512 < place + 1). omega (arith, count_below-le (reaches graph place) (start + 512)))
     (λ (long : place + 1 ≤ start + 512).

@@ -1,5 +1,6 @@
 -- Lemmas on the numbers of candidates, and on the graph of the candidates alone.
-use Rattle.std.proofs.Common.{◌≡◌, ℕ, zero, suc, ◌+◌, ◌<◌, ◌≤◌, Bool, true, false, cond, ◌&&◌, List, [], ◌∷◌, ◌++◌, length, get_or, take, map, refl, ap, sym, ◌∙◌, subst, ⊎_elim, arith}
+use Rattle.std.proofs.Common.{◌≡◌, ℕ, zero, suc, ◌+◌, ◌<◌, ◌≤◌, Bool, true, false, cond, ◌&&◌, List, [], ◌∷◌, ◌++◌, length, get_or, take, map, refl, ap, sym}
+use Rattle.std.proofs.Common.{◌∙◌, subst, ⊎_elim, arith}
 use Rattle.std.proofs.lemmas.Bool.{cases_Bool, cases_eq, both_ways}
 use Rattle.std.proofs.lemmas.Bool.Decides.{same_from_decides}
 use Rattle.std.proofs.lemmas.List.{length-append, get_or_append_left}
@@ -15,7 +16,8 @@ use Rattle.bf_search.proofs.Reaching.{Reaches-refl, Reaches-same, Reaches-front,
 use Rattle.bf_weights.specs.Counted.{count_below}
 use Rattle.bf_weights.specs.Numbering.{number_of, candidate_numbers, numbers_of, IsNumbered}
 use Rattle.bf_weights.specs.Sizes.{reach_size}
-use Rattle.bf_weights.proofs.Counting.{count_below-yes, count_below-no, count_below-zero, count_below-le, count_below-strict, count_below-injective, count_below-numbered, count_by-range_with_len}
+use Rattle.bf_weights.proofs.Counting.{count_below-yes, count_below-no, count_below-zero, count_below-le, count_below-strict, count_below-injective}
+use Rattle.bf_weights.proofs.Counting.{count_below-numbered, count_by-range_with_len}
 
 -- ---- numbers
 
@@ -51,13 +53,15 @@ pub length-candidate_numbers : (row : List Bool) → length (candidate_numbers r
 unfolding candidate_numbers
 length-candidate_numbers row = length-map-range_with_len (number_of row) 0 (length row)
 
-pub candidate_numbers-is : (row : List Bool) (place : ℕ) (numbers : List ℕ) → place ≡ length row → numbers ≡ map (number_of row) (range_with_len 0 place) → numbers ≡ candidate_numbers row
+pub candidate_numbers-is : (row : List Bool) (place : ℕ) (numbers : List ℕ) → place ≡ length row → numbers ≡ map (number_of row) (range_with_len 0 place)
+    → numbers ≡ candidate_numbers row
 unfolding candidate_numbers
 candidate_numbers-is row place numbers e is = is ∙ ap (λ (n : ℕ). map (number_of row) (range_with_len 0 n)) e
 
 -- ---- the numbers of some parents
 
-pub numbers_of-push_yes : (row : List Bool) (ps : List ℕ) (p : ℕ) → is_in row p ≡ true → numbers_of row (ps ++ p ∷ []) ≡ numbers_of row ps ++ number_of row p ∷ []
+pub numbers_of-push_yes : (row : List Bool) (ps : List ℕ) (p : ℕ) → is_in row p ≡ true
+    → numbers_of row (ps ++ p ∷ []) ≡ numbers_of row ps ++ number_of row p ∷ []
 numbers_of-push_yes row [] p h = ap (λ (b : Bool). map (number_of row) (cond b (p ∷ []) [])) h
 numbers_of-push_yes row (q ∷ qs) p h =
     ⊎_elim
@@ -125,7 +129,8 @@ pub record HasNumber (row : List Bool) (ps : List ℕ) (n : ℕ) : Type 0 where
 later : (row : List Bool) (q : ℕ) (qs : List ℕ) (n : ℕ) → HasNumber row qs n → HasNumber row (q ∷ qs) n
 later row q qs n h = record { place = h.place; among = (suc h.among.0, omega (arith, h.among.1), h.among.2); candidate = h.candidate; number = h.number }
 
-head_or_later : (row : List Bool) (q : ℕ) (qs : List ℕ) (n : ℕ) → is_in row q ≡ true → (Contains (numbers_of row qs) n → HasNumber row qs n) → Contains (number_of row q ∷ numbers_of row qs) n → HasNumber row (q ∷ qs) n
+head_or_later : (row : List Bool) (q : ℕ) (qs : List ℕ) (n : ℕ) → is_in row q ≡ true → (Contains (numbers_of row qs) n → HasNumber row qs n)
+    → Contains (number_of row q ∷ numbers_of row qs) n → HasNumber row (q ∷ qs) n
 head_or_later row q qs n t rest (zero, l, e) = record { place = q; among = (0, omega arith, refl); candidate = t; number = e }
 head_or_later row q qs n t rest (suc k, l, e) = later row q qs n (rest (k, omega arith, e))
 
@@ -137,7 +142,8 @@ numbers_of-tells row (q ∷ qs) n h =
     head_or_later row q qs n t (numbers_of-tells row qs n)
     (subst (λ (b : Bool). Contains (map (number_of row) (cond b (q ∷ filter (is_in row) qs) (filter (is_in row) qs))) n) t h))
     (λ (t : is_in row q ≡ false).
-    later row q qs n (numbers_of-tells row qs n (subst (λ (b : Bool). Contains (map (number_of row) (cond b (q ∷ filter (is_in row) qs) (filter (is_in row) qs))) n) t h)))
+    later row q qs n (numbers_of-tells row qs n (subst
+    (λ (b : Bool). Contains (map (number_of row) (cond b (q ∷ filter (is_in row) qs) (filter (is_in row) qs))) n) t h)))
     (cases_Bool (is_in row q))
 
 -- ---- the graph of the candidates
@@ -145,7 +151,8 @@ numbers_of-tells row (q ∷ qs) n h =
 pub IsNumbered-start : (graph : List (List ℕ)) (row : List Bool) → IsNumbered graph row 0 []
 IsNumbered-start graph row = record { size = sym (number_of-zero row); parents = λ p l h. absurd (omega arith) }
 
-pub IsNumbered-skip : (graph : List (List ℕ)) (row : List Bool) (place : ℕ) (small : List (List ℕ)) → is_in row place ≡ false → IsNumbered graph row place small → IsNumbered graph row (place + 1) small
+pub IsNumbered-skip : (graph : List (List ℕ)) (row : List Bool) (place : ℕ) (small : List (List ℕ)) → is_in row place ≡ false → IsNumbered graph row place small
+    → IsNumbered graph row (place + 1) small
 IsNumbered-skip graph row place small out numbered = record {
   size = numbered.size ∙ sym (number_of-no row place out);
   parents = λ p l h.
@@ -155,7 +162,8 @@ IsNumbered-skip graph row place small out numbered = record {
       (cases_eq p place);
 }
 
-pub IsNumbered-more : (graph : List (List ℕ)) (row : List Bool) (place : ℕ) (small : List (List ℕ)) (parents : List ℕ) → is_in row place ≡ true → parents ≡ numbers_of row (parents_of graph place)
+pub IsNumbered-more : (graph : List (List ℕ)) (row : List Bool) (place : ℕ) (small : List (List ℕ)) (parents : List ℕ) → is_in row place ≡ true
+    → parents ≡ numbers_of row (parents_of graph place)
     → IsNumbered graph row place small → IsNumbered graph row (place + 1) (small ++ parents ∷ [])
 IsNumbered-more graph row place small parents here are numbered = record {
   size = length-append small (parents ∷ []) ∙ ap (λ (n : ℕ). n + 1) numbered.size ∙ sym (number_of-yes row place here);
@@ -170,7 +178,8 @@ IsNumbered-more graph row place small parents here are numbered = record {
       (cases_eq p place);
 }
 
-pub parents_of-followed : (graph : List (List ℕ)) (first_parent : Bool) (p : ℕ) → cond first_parent (take 1 (parents_of graph p)) (parents_of graph p) ≡ parents_of (in_mode graph first_parent) p
+pub parents_of-followed : (graph : List (List ℕ)) (first_parent : Bool) (p : ℕ)
+    → cond first_parent (take 1 (parents_of graph p)) (parents_of graph p) ≡ parents_of (in_mode graph first_parent) p
 parents_of-followed graph true p = sym (parents_of-in_mode graph p)
 parents_of-followed graph false p = refl
 
@@ -182,11 +191,14 @@ pub record IsClosedBetween (graph : List (List ℕ)) (row : List Bool) : Type 0 
   pub between : (p r q : ℕ) → is_in row p ≡ true → is_in row q ≡ true → Reaches graph p r → Reaches graph r q → is_in row r ≡ true
 
 pub path_by_numbers : (graph : List (List ℕ)) (row : List Bool) (small : List (List ℕ)) → IsClosedBetween graph row → IsNumbered graph row (length graph) small
-    → (p : ℕ) (path : List ℕ) (q : ℕ) → is_in row p ≡ true → is_in row q ≡ true → IsPath graph p path q → IsPath small (number_of row p) (map (number_of row) path) (number_of row q)
+    → (p : ℕ) (path : List ℕ) (q : ℕ) → is_in row p ≡ true → is_in row q ≡ true → IsPath graph p path q
+    → IsPath small (number_of row p) (map (number_of row) path) (number_of row q)
 path_by_numbers graph row small closed numbered p [] q hp hq leads = ap (number_of row) leads
 path_by_numbers graph row small closed numbered p (next ∷ path) q hp hq leads =
-    let here : is_in row next ≡ true = closed.between p next q hp hq (record { path = next ∷ []; leads = (leads.0, refl) }) (record { path = path; leads = leads.1 }) in (
-      subst (λ (ps : List ℕ). Contains ps (number_of row next)) (sym (numbered.parents p (closed.places p hp) hp)) (numbers_of-has row (parents_of graph p) next leads.0 here),
+    let here : is_in row next ≡ true = closed.between p next q hp hq (record { path = next ∷ []; leads = (leads.0, refl) })
+    (record { path = path; leads = leads.1 }) in (
+      subst (λ (ps : List ℕ). Contains ps (number_of row next)) (sym (numbered.parents p (closed.places p hp) hp))
+          (numbers_of-has row (parents_of graph p) next leads.0 here),
       path_by_numbers graph row small closed numbered next path q here hq leads.1,
     )
 
@@ -201,19 +213,23 @@ path_from_numbers : (graph : List (List ℕ)) (row : List Bool) (small : List (L
     → (p m : ℕ) (path : List ℕ) (n : ℕ) → is_in row p ≡ true → number_of row p ≡ m → IsPath small m path n → ReachesNumber graph row p n
 path_from_numbers graph row small closed numbered p m [] n hp e leads = record { place = p; candidate = hp; number = e ∙ leads; leads = Reaches-refl graph p }
 path_from_numbers graph row small closed numbered p m (next ∷ path) n hp e leads =
-    let step : Contains (numbers_of row (parents_of graph p)) next = subst (λ (ps : List ℕ). Contains ps next) (ap (parents_of small) (sym e) ∙ numbered.parents p (closed.places p hp) hp) leads.0 in
+    let step : Contains (numbers_of row (parents_of graph p)) next = subst (λ (ps : List ℕ). Contains ps next)
+    (ap (parents_of small) (sym e) ∙ numbered.parents p (closed.places p hp) hp) leads.0 in
     let parent : HasNumber row (parents_of graph p) next = numbers_of-tells row (parents_of graph p) next step in
-    let rest : ReachesNumber graph row parent.place n = path_from_numbers graph row small closed numbered parent.place next path n parent.candidate parent.number leads.1 in
+    let rest : ReachesNumber graph row parent.place n = path_from_numbers graph row small closed numbered parent.place next path n parent.candidate
+    parent.number leads.1 in
     record { place = rest.place; candidate = rest.candidate; number = rest.number; leads = Reaches-front parent.among rest.leads }
 
 -- the small graph reaches what the whole graph reaches
-reaches_by_numbers : (graph : List (List ℕ)) (row : List Bool) (small : List (List ℕ)) → IsGraph graph → IsGraph small → IsClosedBetween graph row → IsNumbered graph row (length graph) small
+reaches_by_numbers : (graph : List (List ℕ)) (row : List Bool) (small : List (List ℕ)) → IsGraph graph → IsGraph small → IsClosedBetween graph row
+    → IsNumbered graph row (length graph) small
     → (p q : ℕ) → is_in row p ≡ true → is_in row q ≡ true → reaches small (number_of row p) (number_of row q) ≡ reaches graph p q
 reaches_by_numbers graph row small g s closed numbered p q hp hq =
     same_from_decides (reaches small (number_of row p) (number_of row q)) (reaches graph p q) (
       λ h.
           let path : Reaches small (number_of row p) (number_of row q) = Reaches-from_test small (number_of row p) (number_of row q) h in
-          let found : ReachesNumber graph row p (number_of row q) = path_from_numbers graph row small closed numbered p (number_of row p) path.path (number_of row q) hp refl path.leads in
+          let found : ReachesNumber graph row p (number_of row q) = path_from_numbers graph row small closed numbered p (number_of row p) path.path
+          (number_of row q) hp refl path.leads in
           Reaches-trans found.leads (Reaches-same graph found.place q (number_of-injective row found.place q found.candidate hq found.number)),
       λ (h : Reaches graph p q).
           reaches-true small (number_of row p) (number_of row q) s
@@ -222,13 +238,21 @@ reaches_by_numbers graph row small g s closed numbered p q hp hq =
     (reaches_decides graph p q g)
 
 -- so the weight of a candidate is how many places its number reaches
-pub weight-by_numbers : (graph : List (List ℕ)) (row : List Bool) (small : List (List ℕ)) → IsGraph graph → IsGraph small → IsClosedBetween graph row → IsNumbered graph row (length graph) small
+pub weight-by_numbers : (graph : List (List ℕ)) (row : List Bool) (small : List (List ℕ)) → IsGraph graph → IsGraph small → IsClosedBetween graph row
+    → IsNumbered graph row (length graph) small
     → (p : ℕ) → is_in row p ≡ true → weight graph row p ≡ reach_size small (number_of row p)
 unfolding weight reach_size number_of
 weight-by_numbers graph row small g s closed numbered p hp =
     let tests : ℕ → Bool = λ q. is_in row q && reaches graph p q in
     let counted : count_by tests (range_with_len 0 (length graph)) ≡ count_below tests (length graph) =
-    omega (arith, count_by-range_with_len tests 0 (length graph), count_below-zero tests, ap (count_below tests) (let e : 0 + length graph ≡ length graph = omega arith in e)) in
+    omega (
+      arith,
+      count_by-range_with_len tests 0 (length graph),
+      count_below-zero tests,
+      ap (count_below tests)
+          (let e : 0 + length graph ≡ length graph = omega arith in e),
+    ) in
     counted
-    ∙ count_below-numbered (is_in row) (reaches graph p) (reaches small (number_of row p)) (length graph) (λ q l hq. reaches_by_numbers graph row small g s closed numbered p q hp hq)
+    ∙ count_below-numbered (is_in row) (reaches graph p) (reaches small (number_of row p)) (length graph)
+    (λ q l hq. reaches_by_numbers graph row small g s closed numbered p q hp hq)
     ∙ ap (count_below (reaches small (number_of row p))) (sym numbered.size)

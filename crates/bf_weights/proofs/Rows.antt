@@ -1,5 +1,6 @@
 -- Lemmas on the rows of a block.
-use Rattle.std.proofs.Common.{◌≡◌, ℕ, zero, suc, ◌+◌, ◌<◌, ◌≤◌, Bool, true, false, cond, ◌||◌, ◌==◌, List, [], ◌∷◌, length, get_or, set, take, map, replicate, refl, ap, sym, ◌∙◌, subst, ⊎_elim, eq-eqb, arith}
+use Rattle.std.proofs.Common.{◌≡◌, ℕ, zero, suc, ◌+◌, ◌<◌, ◌≤◌, Bool, true, false, cond, ◌||◌, ◌==◌, List, [], ◌∷◌, length, get_or, set, take, map, replicate}
+use Rattle.std.proofs.Common.{refl, ap, sym, ◌∙◌, subst, ⊎_elim, eq-eqb, arith}
 use Rattle.std.proofs.Math.Bool.{or_assoc}
 use Rattle.std.proofs.lemmas.Bool.{cases_eq, ne_eqb}
 use Rattle.std.proofs.lemmas.List.{length-set, get_or-set_same, get_or-set_other, get_or-replicate, length-replicate, set-set}
@@ -67,25 +68,31 @@ block_row-before graph start p g l = empty_row-is ∙ none_from (reaches graph p
 
 -- ---- a row joined with the rows of its parents
 
-or_rows-maps : (qs : List ℕ) (blocks : List (List Bool)) (g : ℕ → ℕ → Bool) (f : ℕ → Bool) (row : List Bool) (ps : List ℕ) → row ≡ map f qs → All (λ p. row_at blocks p ≡ map (g p) qs) ps
+or_rows-maps : (qs : List ℕ) (blocks : List (List Bool)) (g : ℕ → ℕ → Bool) (f : ℕ → Bool) (row : List Bool) (ps : List ℕ) → row ≡ map f qs
+    → All (λ p. row_at blocks p ≡ map (g p) qs) ps
     → or_rows blocks row ps ≡ map (λ q. f q || list_any (λ p. g p q) ps) qs
 or_rows-maps qs blocks g f row [] e all = e ∙ map-same f (λ q. f q || false) (λ q. elim (f q) as (λ b. b ≡ (b || false)) [ true ↦ refl | false ↦ refl ]) qs
 or_rows-maps qs blocks g f row (p ∷ ps) e all =
     or_rows-maps qs blocks g (λ q. f q || g p q) (zip2 ◌||◌ row (row_at blocks p)) ps
     (zip2_of_maps ◌||◌ f (g p) qs e (All-head (λ r. row_at blocks r ≡ map (g r) qs) p ps all))
     (All-tail (λ r. row_at blocks r ≡ map (g r) qs) p ps all)
-    ∙ map-same (λ q. (f q || g p q) || list_any (λ r. g r q) ps) (λ q. f q || (g p q || list_any (λ r. g r q) ps)) (λ q. or_assoc (f q) (g p q) (list_any (λ r. g r q) ps)) qs
+    ∙ map-same (λ q. (f q || g p q) || list_any (λ r. g r q) ps) (λ q. f q || (g p q || list_any (λ r. g r q) ps))
+    (λ q. or_assoc (f q) (g p q) (list_any (λ r. g r q) ps)) qs
 
 -- the row of a place is its own with those of its parents
-pub block_row-from_parents : (graph : List (List ℕ)) (start p : ℕ) (blocks : List (List Bool)) → IsGraph graph → All (λ r. row_at blocks r ≡ block_row graph start r) (parents_of graph p)
+pub block_row-from_parents : (graph : List (List ℕ)) (start p : ℕ) (blocks : List (List Bool)) → IsGraph graph
+    → All (λ r. row_at blocks r ≡ block_row graph start r) (parents_of graph p)
     → or_rows blocks (own_row start p) (parents_of graph p) ≡ block_row graph start p
 unfolding block_row own_row
 block_row-from_parents graph start p blocks g all =
-    or_rows-maps (range_with_len start columns) blocks (reaches graph) (λ q. p == q) (map (λ q. p == q) (range_with_len start columns)) (parents_of graph p) refl all
-    ∙ map-same (λ q. (p == q) || list_any (λ r. reaches graph r q) (parents_of graph p)) (reaches graph p) (λ q. sym (reaches_step graph p q g)) (range_with_len start columns)
+    or_rows-maps (range_with_len start columns) blocks (reaches graph) (λ q. p == q) (map (λ q. p == q) (range_with_len start columns)) (parents_of graph p)
+    refl all
+    ∙ map-same (λ q. (p == q) || list_any (λ r. reaches graph r q) (parents_of graph p)) (reaches graph p) (λ q. sym (reaches_step graph p q g))
+    (range_with_len start columns)
 
 -- What filling one more row leaves: first the place is marked in it, then the rows of its parents are joined to it.
-pub HasBlockRows-more : (graph : List (List ℕ)) (start p : ℕ) (blocks own filled : List (List Bool)) → IsGraph graph → p < length graph → HasBlockRows graph start p blocks
+pub HasBlockRows-more : (graph : List (List ℕ)) (start p : ℕ) (blocks own filled : List (List Bool)) → IsGraph graph → p < length graph
+    → HasBlockRows graph start p blocks
     → own ≡ set blocks p (own_row start p) → filled ≡ set own p (or_rows own (row_at own p) (parents_of graph p)) → HasBlockRows graph start (p + 1) filled
 HasBlockRows-more graph start p blocks own filled g l has own-is filled-is = record {
   rows = ap (λ (b : List (List Bool)). length b) filled-is ∙ length-set own p _ ∙ own_long;
@@ -110,7 +117,8 @@ HasBlockRows-more graph start p blocks own filled g l has own-is filled-is = rec
     own_here = ap (λ (b : List (List Bool)). row_at b p) own-is ∙ get_or-set_same blocks p (own_row start p) [] (omega (arith, has.rows))
 
     parents_filled : All (λ r. row_at own r ≡ block_row graph start r) (parents_of graph p)
-    parents_filled = λ k d within. let below : get_or (parents_of graph p) k d < p = g.earlier p k d within in own_other _ (λ e. omega arith) ∙ has.filled _ below (omega arith)
+    parents_filled = λ k d within. let below : get_or (parents_of graph p) k d < p = g.earlier p k d within in own_other _ (λ e. omega arith) ∙ has.filled _
+        below (omega arith)
 
     here : row_at filled p ≡ block_row graph start p
     here =
@@ -121,13 +129,16 @@ HasBlockRows-more graph start p blocks own filled g l has own-is filled-is = rec
 pub count_by-map : (f : ℕ → Bool) (qs : List ℕ) → count_by (λ v. v) (map f qs) ≡ count_by f qs
 count_by-map f [] = refl
 count_by-map f (q ∷ qs) =
-    sum_by-cons (λ (v : Bool). cond v 1 0) (f q) (map f qs) ∙ ap (λ (n : ℕ). cond (f q) 1 0 + n) (count_by-map f qs) ∙ sym (sum_by-cons (λ x. cond (f x) 1 0) q qs)
+    sum_by-cons (λ (v : Bool). cond v 1 0) (f q) (map f qs) ∙ ap (λ (n : ℕ). cond (f q) 1 0 + n) (count_by-map f qs) ∙ sym
+    (sum_by-cons (λ x. cond (f x) 1 0) q qs)
 
 -- what a place reaches before a block and in it
-pub count_below-block : (graph : List (List ℕ)) (start p : ℕ) → count_below (reaches graph p) start + count_by (λ v. v) (block_row graph start p) ≡ count_below (reaches graph p) (start + 512)
+pub count_below-block : (graph : List (List ℕ)) (start p : ℕ)
+    → count_below (reaches graph p) start + count_by (λ v. v) (block_row graph start p) ≡ count_below (reaches graph p) (start + 512)
 unfolding block_row
 count_below-block graph start p =
-    ap (λ (n : ℕ). count_below (reaches graph p) start + n) (count_by-map (reaches graph p) (range_with_len start columns)) ∙ count_by-range_with_len (reaches graph p) start columns
+    ap (λ (n : ℕ). count_below (reaches graph p) start + n) (count_by-map (reaches graph p) (range_with_len start columns)) ∙ count_by-range_with_len
+    (reaches graph p) start columns
     ∙ ap (λ (n : ℕ). count_below (reaches graph p) (start + n)) columns-is
 
 -- before any row is filled

@@ -1,5 +1,6 @@
 -- Lemmas on what a place reaches through its parents.
-use Rattle.std.proofs.Common.{◌≡◌, ℕ, ◌+◌, ◌<◌, ◌≤◌, Bool, true, false, cond, ◌||◌, ◌==◌, List, [], ◌∷◌, length, refl, ap, sym, ◌∙◌, subst, ⊎_elim, eqb-true, eq-eqb, arith}
+use Rattle.std.proofs.Common.{◌≡◌, ℕ, ◌+◌, ◌<◌, ◌≤◌, Bool, true, false, cond, ◌||◌, ◌==◌, List, [], ◌∷◌, length, refl, ap, sym, ◌∙◌, subst, ⊎_elim, eqb-true}
+use Rattle.std.proofs.Common.{eq-eqb, arith}
 use Rattle.std.proofs.lemmas.Bool.{cases_Bool, or_cases, or_left, or_right, and_parts, false_from_ne_true}
 use Rattle.std.proofs.lemmas.Bool.Decides.{same_from_decides}
 use Rattle.std.proofs.lemmas.List.Elements.{All-head}
@@ -18,12 +19,14 @@ any_parent_tells graph p q h =
     ⊎_elim
     (λ e. Reaches-same graph p q (eqb-true p q e))
     (λ a.
-    let found : Any (λ parent. reaches graph parent q ≡ true) (parents_of graph p) = Any-from_list_any (λ parent. reaches graph parent q) (parents_of graph p) a in
+    let found : Any (λ parent. reaches graph parent q ≡ true) (parents_of graph p) = Any-from_list_any (λ parent. reaches graph parent q) (parents_of graph p)
+    a in
     let step : Contains (parents_of graph p) found.1 = (found.0, found.2, found.3) in
     Reaches-front step (Reaches-from_test graph found.1 q found.4))
     (or_cases (p == q) (list_any (λ parent. reaches graph parent q) (parents_of graph p)) h)
 
-any_parent-true : (graph : List (List ℕ)) (p q : ℕ) → IsGraph graph → Reaches graph p q → ((p == q) || list_any (λ parent. reaches graph parent q) (parents_of graph p)) ≡ true
+any_parent-true : (graph : List (List ℕ)) (p q : ℕ) → IsGraph graph → Reaches graph p q
+    → ((p == q) || list_any (λ parent. reaches graph parent q) (parents_of graph p)) ≡ true
 any_parent-true graph p q g h =
     ⊎_elim
     (λ e. or_left (p == q) _ (eq-eqb p q e))
@@ -34,20 +37,23 @@ any_parent-true graph p q g h =
     (first_step h)
 
 -- a place reaches itself and what its parents reach
-pub reaches_step : (graph : List (List ℕ)) (p q : ℕ) → IsGraph graph → reaches graph p q ≡ ((p == q) || list_any (λ parent. reaches graph parent q) (parents_of graph p))
+pub reaches_step : (graph : List (List ℕ)) (p q : ℕ) → IsGraph graph
+    → reaches graph p q ≡ ((p == q) || list_any (λ parent. reaches graph parent q) (parents_of graph p))
 reaches_step graph p q g =
     same_from_decides (reaches graph p q) ((p == q) || list_any (λ parent. reaches graph parent q) (parents_of graph p))
     (reaches_decides graph p q g) (any_parent_tells graph p q, any_parent-true graph p q g)
 
 -- no later place is reached
 pub reaches_later : (graph : List (List ℕ)) (p q : ℕ) → IsGraph graph → p < q → reaches graph p q ≡ false
-reaches_later graph p q g l = false_from_ne_true (reaches graph p q) (λ h. let up : q ≤ p = Reaches-le g (Reaches-from_test graph p q h) in absurd (omega arith))
+reaches_later graph p q g l = false_from_ne_true (reaches graph p q)
+    (λ h. let up : q ≤ p = Reaches-le g (Reaches-from_test graph p q h) in absurd (omega arith))
 
 -- ---- one parent
 
 any_of_root : (xs : List ℕ) → parentage_of xs ≡ Root → (f : ℕ → Bool) → list_any f xs ≡ false
 any_of_root [] h f = refl
-any_of_root (x ∷ xs) h f = elim (list_all (λ other. other == x) xs) as (λ b. cond b (Single x) Merge ≡ Root → list_any f (x ∷ xs) ≡ false) [ true ↦ λ k. cc | false ↦ λ k. cc ] h
+any_of_root (x ∷ xs) h f = elim (list_all (λ other. other == x) xs) as (λ b. cond b (Single x) Merge ≡ Root → list_any f (x ∷ xs) ≡ false)
+    [ true ↦ λ k. cc | false ↦ λ k. cc ] h
 
 any_of_same : (f : ℕ → Bool) (x : ℕ) (xs : List ℕ) → list_all (λ other. other == x) xs ≡ true → (f x || list_any f xs) ≡ f x
 any_of_same f x [] h = elim (f x) as (λ b. (b || false) ≡ b) [ true ↦ refl | false ↦ refl ]
@@ -88,7 +94,8 @@ reach_size-root graph p g l h =
     ∙ count_below-or_one (λ q. false) p (length graph) refl l
     ∙ ap (λ (n : ℕ). n + 1) (count_below-none (λ q. false) (length graph) (λ q m. refl))
 
-pub reach_size-single : (graph : List (List ℕ)) (p only : ℕ) → IsGraph graph → p < length graph → parentage_of (parents_of graph p) ≡ Single only → reach_size graph p ≡ reach_size graph only + 1
+pub reach_size-single : (graph : List (List ℕ)) (p only : ℕ) → IsGraph graph → p < length graph → parentage_of (parents_of graph p) ≡ Single only
+    → reach_size graph p ≡ reach_size graph only + 1
 unfolding reach_size
 reach_size-single graph p only g l h =
     count_below-same (reaches graph p) (λ q. (p == q) || reaches graph only q) (length graph)
@@ -104,5 +111,6 @@ unfolding reach_size
 reach_size-is graph p = refl
 
 -- what is counted before a place past the end is all that is reached
-pub count_below-reaches_past : (graph : List (List ℕ)) (p m k : ℕ) → IsGraph graph → p < m → count_below (reaches graph p) (m + k) ≡ count_below (reaches graph p) m
+pub count_below-reaches_past : (graph : List (List ℕ)) (p m k : ℕ) → IsGraph graph → p < m
+    → count_below (reaches graph p) (m + k) ≡ count_below (reaches graph p) m
 count_below-reaches_past graph p m k g l = count_below-past (reaches graph p) m k (λ q up. reaches_later graph p q g (omega arith))

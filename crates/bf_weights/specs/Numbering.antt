@@ -3,6 +3,7 @@ use Rattle.std.specs.Prelude.{◌≡◌, ℕ, ◌<◌, Bool, true, if◌then◌e
 use Rattle.std.specs.List.{range_with_len}
 use Rattle.bf_graph.specs.Graph.{parents_of}
 use Rattle.bf_search.specs.Candidates.{is_in}
+use Rattle.bf_search.specs.Reach.{in_mode}
 use Rattle.bf_weights.specs.Counted.{count_below}
 
 -- the number of a candidate: how many candidates stand before it
@@ -25,3 +26,11 @@ pub record IsNumbered (graph : List (List ℕ)) (row : List Bool) (end : ℕ) (s
 -- by place, the size of its number for a candidate, and 0 elsewhere
 abbrev pub size_of_number : List Bool → List ℕ → ℕ → ℕ
 size_of_number row sizes p = if is_in row p then slice_index sizes (number_of row p) else 0
+
+-- by place, the size of each candidate's number
+abbrev pub sizes_by_place : List Bool → List ℕ → List ℕ
+sizes_by_place row sizes = map (size_of_number row sizes) (range_with_len 0 (length row))
+
+-- the small graph has all candidates, each with its candidate parents in the mode
+abbrev pub IsCandidateGraph : List (List ℕ) → List Bool → Bool → List (List ℕ) → Type 0
+IsCandidateGraph graph row first_parent small = IsNumbered (in_mode graph first_parent) row (length graph) small

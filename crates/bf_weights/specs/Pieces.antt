@@ -1,8 +1,10 @@
 -- A graph in pieces: where all that is later reaches all that is earlier, the pieces can be counted alone.
-use Rattle.std.specs.Prelude.{◌≡◌, ℕ, ◌-◌, ◌<◌, ◌≤◌, Bool, true, nat_le, nat_lt, ◌&&◌, List, length, map, filter, slice_index_or, false, All}
+use Rattle.std.specs.Prelude.{◌≡◌, ℕ, ◌-◌, ◌<◌, ◌+◌, ◌≤◌, Bool, true, nat_le, nat_lt, ◌&&◌, List, length, map, filter, slice_index_or, false, All}
 use Rattle.std.specs.List.{range_with_len}
 use Rattle.bf_graph.specs.Graph.{parents_of}
+use Rattle.bf_search.specs.Candidates.{is_in}
 use Rattle.bf_search.specs.Reach.{Reaches, reaches}
+use Rattle.bf_weights.specs.Numbering.{IsNumbered}
 
 -- the last place reaches each place
 pub record HasTop (graph : List (List ℕ)) : Type 0 where
@@ -29,3 +31,11 @@ shifted base ps = map (λ p. p - base) (filter (λ p. nat_le base p) ps)
 pub record HasBases (graph : List (List ℕ)) (bases : List Bool) : Type 0 where
   pub size : length bases ≡ length graph
   pub told : (base : ℕ) → slice_index_or bases base false ≡ true → IsBase graph base
+
+-- the piece has the places from a base up to an end, numbered from 0
+abbrev pub IsPiece : List (List ℕ) → ℕ → ℕ → List (List ℕ) → Type 0
+IsPiece graph base end piece = IsNumbered graph (interval (length graph) base end) end piece
+
+-- a piece may end with this place: the next place, where there is one, is said to be a base
+abbrev pub MayEndWith : List Bool → ℕ → Type 0
+MayEndWith bases place = place + 1 < length bases → is_in bases (place + 1) ≡ true

@@ -1,5 +1,5 @@
 -- How many places each place of a graph reaches.
-use Rattle.std.specs.Prelude.{◌≡◌, ℕ, ◌+◌, ◌<◌, ◌≤◌, ◌==◌, if◌then◌else◌, List, [], ◌∷◌, length, map, slice_index}
+use Rattle.std.specs.Prelude.{◌≡◌, ◌≢◌, ℕ, ◌+◌, ◌<◌, ◌≤◌, ◌==◌, if◌then◌else◌, List, [], ◌∷◌, length, map, slice_index}
 use Rattle.std.specs.List.{list_all}
 use Rattle.bf_graph.specs.Graph.{parents_of}
 use Rattle.bf_search.specs.Reach.{places, reaches}
@@ -19,6 +19,10 @@ reach_sizes graph = map (reach_size graph) (places graph)
 abbrev pub parentage_of : List ℕ → Parentage
 parentage_of [] = Root
 parentage_of (parent ∷ parents) = if list_all (λ other. other == parent) parents then Single parent else Merge
+
+-- no place of the graph is a merge
+abbrev pub HasNoMerge : List (List ℕ) → Type 0
+HasNoMerge graph = (p : ℕ) → p < length graph → parentage_of (parents_of graph p) ≢ Merge
 
 -- for each merge it is counted how many places before this end it reaches
 pub record CountsMerges (graph : List (List ℕ)) (end : ℕ) (sizes : List ℕ) : Type 0 where

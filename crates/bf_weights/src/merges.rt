@@ -1,9 +1,9 @@
 //! How many places each merge of a graph reaches, counted in blocks of 512.
-ghost use Rattle.std.specs.Prelude.{◌≡◌, ◌≢◌, ◌↔◌, ℕ, ◌+◌, ◌<◌, ◌≤◌, ◌^◌, ◌||◌, true, false, length, slice_set, All, IfOk, OnOk};
-ghost use Rattle.bf_graph.specs.Graph.{parents_of, IsGraph};
+ghost use Rattle.std.specs.Prelude.{◌≡◌, ◌↔◌, ◌+◌, ◌<◌, ◌≤◌, ◌^◌, ◌||◌, true, false, length, slice_set, All, IfOk, OnOk};
+ghost use Rattle.bf_graph.specs.Graph.{IsGraph};
 ghost use Rattle.bf_rows.specs.Blocks.{row_at, empty_row};
-ghost use Rattle.bf_weights.specs.Sizes.{parentage_of, CountsMerges, CountsBlock};
-ghost use Rattle.bf_weights.specs.BlockRows.{own_row, or_rows, HasBlockRows};
+ghost use Rattle.bf_weights.specs.Sizes.{parentage_of, HasNoMerge, CountsMerges, CountsBlock};
+ghost use Rattle.bf_weights.specs.BlockRows.{own_row, with_parents, HasBlockRows};
 
 use crate::parents::{Parentage, parentage_of};
 use bf_graph::Graph;
@@ -24,7 +24,7 @@ pub(crate) fn merge_sizes(alloc: Global, graph: &Graph) -> Result<Vec<u32>, Allo
 }
 
 fn has_merge(graph: &Graph) -> bool
-    ensures { result ≡ false → (p : ℕ) → p < length graph.now → parentage_of (parents_of graph.now p) ≢ Parentage.Merge }
+    ensures { result ≡ false → HasNoMerge graph.now }
 {
     for place in 0..graph.len() {
         if is_merge(graph.parents(place)) {
@@ -95,7 +95,7 @@ fn mark_own(start: u32, place: u32, blocks: &mut Blocks)
 fn or_parents(place: u32, parents: &[u32], blocks: &mut Blocks)
     requires place { place < length blocks.old }
     requires parents { All (λ parent. parent < place) parents.now }
-    ensures { blocks.new ≡ slice_set blocks.old place (or_rows blocks.old (row_at blocks.old place) parents.now) }
+    ensures { blocks.new ≡ with_parents blocks.old place parents.now }
 {
     for parent in parents {
         blocks.or_row(place, *parent);

@@ -1,8 +1,7 @@
 //! The candidates by their numbers, and the graph of the candidates alone.
 ghost use Rattle.std.specs.Prelude.{◌≡◌, ◌<◌, ◌≤◌, length, take, All, IfOk, OnOk, if◌then◌else◌};
 ghost use Rattle.bf_graph.specs.Graph.{IsGraph};
-ghost use Rattle.bf_search.specs.Reach.{in_mode};
-ghost use Rattle.bf_weights.specs.Numbering.{candidate_numbers, numbers_of, IsNumbered};
+ghost use Rattle.bf_weights.specs.Numbering.{candidate_numbers, numbers_of, IsCandidateGraph};
 
 use bf_graph::Graph;
 use bf_rows::Row;
@@ -34,7 +33,7 @@ pub(crate) fn candidate_graph(
     requires mask { length mask.now ≡ length graph.now }
     requires numbers { numbers.now ≡ candidate_numbers mask.now }
     ensures graph { IsGraph graph.now }
-    ensures numbered { IfOk result (λ small. IsNumbered (in_mode graph.now first_parent) mask.now (length graph.now) small) }
+    ensures numbered { IfOk result (IsCandidateGraph graph.now mask.now first_parent) }
 {
     let mut small = Graph::new(alloc);
     let mut parents = Vec::new(alloc);

@@ -2,11 +2,10 @@
 //!
 //! Where each place from some base on has parents, and none of them lies before the place below the
 //! base, each of these places reaches that place, and so all before the base.
-ghost use Rattle.std.specs.Prelude.{◌≡◌, ◌+◌, ◌<◌, ◌≤◌, ◌^◌, true, false, length, map, slice_index_or, All, IfOk, OnOk};
+ghost use Rattle.std.specs.Prelude.{◌≡◌, ◌+◌, ◌<◌, ◌≤◌, ◌^◌, true, length, map, All, IfOk, OnOk};
 ghost use Rattle.std.specs.List.{range_with_len};
 ghost use Rattle.bf_graph.specs.Graph.{IsGraph};
-ghost use Rattle.bf_weights.specs.Numbering.{IsNumbered};
-ghost use Rattle.bf_weights.specs.Pieces.{HasTop, HasBases, IsBase, interval, shifted};
+ghost use Rattle.bf_weights.specs.Pieces.{HasTop, HasBases, IsBase, IsPiece, MayEndWith, shifted};
 ghost use Rattle.bf_weights.specs.Sizes.{reach_size, reach_sizes};
 
 use crate::sizes::reach_sizes;
@@ -39,7 +38,7 @@ fn ends_piece(bases: &[bool], base: u32, place: u32) -> bool
     requires base { base ≤ place }
     requires place { place < length bases.now }
     ensures last { place + 1 ≡ length bases.now → result ≡ true }
-    ensures next { result ≡ true → place + 1 < length bases.now → slice_index_or bases.now (place + 1) false ≡ true }
+    ensures next { result ≡ true → MayEndWith bases.now place }
 {
     match bases.get(place as usize + 1) {
         None => true,
@@ -75,7 +74,7 @@ fn push_piece(
 fn piece_of(alloc: Global, graph: &Graph, base: u32, end: u32) -> Result<Graph, AllocError>
     requires order { base ≤ end }
     requires end { end ≤ length graph.now }
-    ensures { IfOk result (λ piece. IsNumbered graph.now (interval (length graph.now) base end) end piece) }
+    ensures { IfOk result (IsPiece graph.now base end) }
 {
     let mut piece = Graph::new(alloc);
     let mut parents = Vec::new(alloc);

@@ -1,8 +1,7 @@
 //! The weights by way of the graph of the candidates alone.
-ghost use Rattle.std.specs.Prelude.{◌≡◌, ◌<◌, length, map, IfOk};
-ghost use Rattle.std.specs.List.{range_with_len};
+ghost use Rattle.std.specs.Prelude.{◌≡◌, ◌<◌, length, IfOk};
 ghost use Rattle.bf_search.specs.Candidates.{IsCandidateRow, weights};
-ghost use Rattle.bf_weights.specs.Numbering.{number_of, candidate_numbers, size_of_number};
+ghost use Rattle.bf_weights.specs.Numbering.{number_of, candidate_numbers, size_of_number, sizes_by_place};
 
 use crate::numbering::{candidate_graph, candidate_numbers};
 use crate::pieces::sizes_by_pieces;
@@ -39,7 +38,7 @@ fn by_place(
 ) -> Result<Vec<u32>, AllocError>
     requires numbers { numbers.now ≡ candidate_numbers mask.now }
     requires sizes { length sizes.now ≡ number_of mask.now (length mask.now) }
-    ensures { IfOk result (λ w. w.items ≡ map (size_of_number mask.now sizes.now) (range_with_len 0 (length mask.now))) }
+    ensures { IfOk result (λ w. w.items ≡ sizes_by_place mask.now sizes.now) }
 {
     let mut weights = Vec::with_capacity(alloc, numbers.len())?;
     for place in 0..mask.len() {

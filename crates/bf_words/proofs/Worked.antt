@@ -6,7 +6,8 @@ use Rattle.bf_words.specs.declared.verb.Verb.{Verb}
 use Rattle.bf_words.specs.declared.verb.Verb.TheVariants.{Simulate, Run, Next, Sample}
 use Rattle.bf_words.specs.Options.{option_of}
 use Rattle.bf_words.specs.Roles.{roles_after}
-use Rattle.bf_words.specs.Words.{plains_of, skips_of, is_wrong, is_wrong_at, wrong_term, forbidden, missing, further, wrong_plan, number_or, number_in, count_in, request_of, request}
+use Rattle.bf_words.specs.Words.{plains_of, skips_of, is_wrong, is_wrong_at, wrong_term, forbidden, missing, further, wrong_plan, number_or, number_in}
+use Rattle.bf_words.specs.Words.{count_in, request_of, request}
 
 -- the words of a text, behind the letters of one
 abbrev split : List ℕ → List ℕ → List (List ℕ)
@@ -37,26 +38,31 @@ plain verb = record {
 }
 
 simulate : read (codes "simulate main main~7 ggggbbbb") ≡ Ok (record (plain Simulate) { bad = Some 1; goods = 2 ∷ []; plan = Some 3 })
-unfolding decimal_value option_of roles_after plains_of skips_of is_wrong is_wrong_at wrong_term forbidden missing further wrong_plan number_or number_in count_in request_of request
+unfolding decimal_value option_of roles_after plains_of skips_of is_wrong is_wrong_at wrong_term forbidden missing further wrong_plan number_or number_in
+    count_in request_of request
 simulate = refl
 
 replayed : read (codes "simulate --replay part.log ggbb --leg 2 --trace") ≡ Ok
     (record (plain Simulate) { replay = Some 2; plan = Some 3; leg = 2; trace = true })
-unfolding decimal_value option_of roles_after plains_of skips_of is_wrong is_wrong_at wrong_term forbidden missing further wrong_plan number_or number_in count_in request_of request
+unfolding decimal_value option_of roles_after plains_of skips_of is_wrong is_wrong_at wrong_term forbidden missing further wrong_plan number_or number_in
+    count_in request_of request
 replayed = refl
 
 run : read (codes "run --workers 8 --skip a main b c --skip -- -- sh -c") ≡ Ok
     (record (plain Run) { bad = Some 5; goods = 6 ∷ 7 ∷ []; skips = 4 ∷ 9 ∷ []; tail = Some 11; workers = 8 })
-unfolding decimal_value option_of roles_after plains_of skips_of is_wrong is_wrong_at wrong_term forbidden missing further wrong_plan number_or number_in count_in request_of request
+unfolding decimal_value option_of roles_after plains_of skips_of is_wrong is_wrong_at wrong_term forbidden missing further wrong_plan number_or number_in
+    count_in request_of request
 run = refl
 
 next : read (codes "next main a --term-new fixed --first-parent")
     ≡ Ok (record (plain Next) { bad = Some 1; goods = 2 ∷ []; first_parent = true; terms = Some (record { new = codes "fixed"; old = codes "good" }) })
-unfolding decimal_value option_of roles_after plains_of skips_of is_wrong is_wrong_at wrong_term forbidden missing further wrong_plan number_or number_in count_in request_of request
+unfolding decimal_value option_of roles_after plains_of skips_of is_wrong is_wrong_at wrong_term forbidden missing further wrong_plan number_or number_in
+    count_in request_of request
 next = refl
 
 sample : read (codes "sample 7 --workers 64 100000") ≡ Ok (record (plain Sample) { workers = 64; number = 7; count = 100000 })
-unfolding decimal_value option_of roles_after plains_of skips_of is_wrong is_wrong_at wrong_term forbidden missing further wrong_plan number_or number_in count_in request_of request
+unfolding decimal_value option_of roles_after plains_of skips_of is_wrong is_wrong_at wrong_term forbidden missing further wrong_plan number_or number_in
+    count_in request_of request
 sample = refl
 
 -- The words at fault: of the reading a value out of its form, an option of another command, one given again, one with
@@ -75,5 +81,6 @@ faults : map read (
     ∷ codes "replay --replay f x"
     ∷ codes "simulate main a gx" ∷ [])
     ≡ Err 2 ∷ Err 1 ∷ Err 2 ∷ Err 1 ∷ Err 4 ∷ Err 4 ∷ Err 3 ∷ Err 4 ∷ Err 2 ∷ Err 3 ∷ Err 3 ∷ []
-unfolding decimal_value option_of roles_after plains_of skips_of is_wrong is_wrong_at wrong_term forbidden missing further wrong_plan number_or number_in count_in request_of request
+unfolding decimal_value option_of roles_after plains_of skips_of is_wrong is_wrong_at wrong_term forbidden missing further wrong_plan number_or number_in
+    count_in request_of request
 faults = refl

@@ -164,7 +164,7 @@ fn request_of(alloc: Global, read: Line<'_>, terms: Option<Terms>) -> Result<Req
     requires size { length read.roles.now ≤ 1000000 }
     requires plains { read.plains.now ≡ line.plains_of read.roles.now }
     requires terms { terms ≡ line.terms_of read.roles.now read.words.now }
-    ensures { IfOk result (λ made. made ≡ line.request_of read.entry.verb read.entry.roles.now read.entry.words.now) }
+    ensures { IfOk result (λ made. made ≡ steps.request_of_line read.entry) }
 {
     let Line {
         verb,

@@ -27,7 +27,7 @@ fn each_read_fails(rt: HostRuntime) -> Result<(), Fail> {
         let fails = [call].to_vec(alloc)?;
         let mut stream = MemSource::new(Bytes::from_slice(alloc, EIGHT)?, 16, fails);
         let mut out = PlainSink::new(alloc);
-        let status = run(&rt, alloc, &SEARCH, &mut stream, &mut out)?;
+        let status = run(&rt, &SEARCH, &mut stream, &mut out)?;
         assert_eq!(rt; status, Status::ReadFault, "read {call}");
         assert_eq!(rt; out.bytes(), b"read fault\n".as_slice(), "read {call}");
     }
@@ -41,7 +41,7 @@ fn each_write_fails(rt: HostRuntime) -> Result<(), Fail> {
     for call in 1..98 {
         let mut stream = MemSource::new(Bytes::from_slice(alloc, EIGHT)?, 65_536, Vec::new(alloc));
         let mut out = MemSink::new(alloc, 7, [call].to_vec(alloc)?);
-        let status = run(&rt, alloc, &SEARCH, &mut stream, &mut out)?;
+        let status = run(&rt, &SEARCH, &mut stream, &mut out)?;
         assert_eq!(rt; status, Status::WriteFault, "call {call}");
         assert!(rt; FOUND.starts_with(out.bytes()), "call {call}");
     }
@@ -49,25 +49,26 @@ fn each_write_fails(rt: HostRuntime) -> Result<(), Fail> {
 }
 
 /// The status and the text of a search over the export, in pieces of so many bytes, where it ends early.
-fn cut<R>(rt: &R, alloc: Global, len: usize, piece: usize) -> Result<(Status, Bytes), AllocError>
+fn cut<R>(rt: &R, len: usize, piece: usize) -> Result<(Status, Bytes), AllocError>
 where
-    R: Threads + Wait + Processes<Started = SystemProcess> + Eprint + Sync,
+    R: Threads + Wait + Processes<Started = SystemProcess> + Eprint + Sync + Alloc<A = Global>,
     requires { 0 < piece }
 {
+    let alloc = rt.alloc();
     let front = EXPORT.get(..len).unwrap_or_default();
     let mut stream = MemSource::new(Bytes::from_slice(alloc, front)?, piece, Vec::new(alloc));
     let mut out = PlainSink::new(alloc);
     let words: [&[u8]; 4] = [b"simulate", b"main", b"v1.0", b"gbgb"];
-    let status = run(rt, alloc, &words, &mut stream, &mut out)?;
+    let status = run(rt, &words, &mut stream, &mut out)?;
     Ok((status, out.into_bytes()))
 }
 
 #[test]
 fn streams_end_anywhere(rt: HostRuntime) -> Result<(), Fail> {
     for len in 0..EXPORT.len() + 1 {
-        let (status, text) = cut(&rt, rt.alloc(), len, 65_536)?;
+        let (status, text) = cut(&rt, len, 65_536)?;
         assert!(rt; [0, 7, 8].contains(&status.number()), "{len} bytes");
-        let (other, same) = cut(&rt, rt.alloc(), len, 1)?;
+        let (other, same) = cut(&rt, len, 1)?;
         assert_eq!(rt; status, other, "{len} bytes");
         assert_eq!(rt; text.as_slice(), same.as_slice(), "{len} bytes");
     }
@@ -80,7 +81,7 @@ fn answers_are_flushed(rt: HostRuntime) -> Result<(), Fail> {
     let alloc = rt.alloc();
     let mut stream = MemSource::new(Bytes::new(alloc), 16, Vec::new(alloc));
     let mut out = MemSink::new(alloc, 65_536, [2].to_vec(alloc)?);
-    let status = run(&rt, alloc, &[], &mut stream, &mut out)?;
+    let status = run(&rt, &[], &mut stream, &mut out)?;
     assert_eq!(rt; status, Status::WriteFault);
     assert_eq!(rt; out.bytes(), b"usage fault at word 0\n".as_slice());
     Ok(())

@@ -2,10 +2,9 @@
 ghost use Rattle.std.specs.Prelude.{◌<◌, length};
 ghost use Rattle.bf_grammar.specs.Limits.{IsWithin};
 
-use bf_grammar::Mode;
 use bf_import::{History, ImportFault, Limits, import};
 use bf_io::{Bytes, MemSource, put_decimal};
-use bf_oid::oid_hex;
+use bf_oid::{Mode, oid_hex};
 use std::alloc::{AllocError, Global};
 use std::test::Fail;
 

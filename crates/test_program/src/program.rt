@@ -19,30 +19,36 @@ pub(crate) fn words_of(alloc: Global, texts: &[&[u8]]) -> Result<Vec<Word>, Allo
     Ok(words)
 }
 
+/// The status of the program over no files.
+fn over_no_files<R, S: Source, T: Tester, K: Sink>(
+    rt: &R,
+    words: &[Word],
+    stream: &mut S,
+    tester: &mut T,
+    out: &mut K,
+) -> Status
+where
+    R: Threads + Wait + Processes<Started = SystemProcess> + Eprint + Sync + Alloc<A = Global>,
+    requires fresh { T.answers tester.old ≡ [] }
+    requires whole { T.is_split tester.old ≡ false }
+{
+    let mut shelf = PlainShelf::new(Vec::new(rt.alloc()));
+    bisect_main(rt, rt.alloc(), words, stream, &mut shelf, tester, out)
+}
+
 /// The status of the program, over no files and with a tester that is not to be asked.
 pub(crate) fn run<R, S: Source, K: Sink>(
     rt: &R,
-    alloc: Global,
     words: &[&[u8]],
     stream: &mut S,
     out: &mut K,
 ) -> Result<Status, AllocError>
 where
-    R: Threads + Wait + Processes<Started = SystemProcess> + Eprint + Sync,
+    R: Threads + Wait + Processes<Started = SystemProcess> + Eprint + Sync + Alloc<A = Global>,
 {
-    let words = words_of(alloc, words)?;
-    let mut shelf = PlainShelf::new(Vec::new(alloc));
-    let mut tester = PlanTester::new(alloc, b"")?;
-    let status = bisect_main(
-        rt,
-        alloc,
-        words.as_slice(),
-        stream,
-        &mut shelf,
-        &mut tester,
-        out,
-    );
-    Ok(status)
+    let words = words_of(rt.alloc(), words)?;
+    let mut tester = PlanTester::new(rt.alloc(), b"")?;
+    Ok(over_no_files(rt, words.as_slice(), stream, &mut tester, out))
 }
 
 /// The status of the program over a stream that comes whole, and no files, with a tester.
@@ -59,6 +65,5 @@ where
     requires whole { T.is_split tester.old ≡ false }
 {
     let mut stream = MemSource::new(stream, 65_536, Vec::new(rt.alloc()));
-    let mut shelf = PlainShelf::new(Vec::new(rt.alloc()));
-    bisect_main(rt, rt.alloc(), words, &mut stream, &mut shelf, tester, out)
+    over_no_files(rt, words, &mut stream, tester, out)
 }

@@ -474,22 +474,23 @@ f787b661a09be3b12ce49117534de60c034a8fc3 is the first bad commit
 ];
 
 /// Whether the row holds, with the stream in pieces of so many bytes.
-fn holds<R>(rt: &R, alloc: Global, row: &Row, piece: usize) -> Result<bool, AllocError>
+fn holds<R>(rt: &R, row: &Row, piece: usize) -> Result<bool, AllocError>
 where
-    R: Threads + Wait + Processes<Started = SystemProcess> + Eprint + Sync,
+    R: Threads + Wait + Processes<Started = SystemProcess> + Eprint + Sync + Alloc<A = Global>,
     requires { 0 < piece }
 {
+    let alloc = rt.alloc();
     let bytes = Bytes::from_slice(alloc, row.stream)?;
     let mut stream = MemSource::new(bytes, piece, Vec::new(alloc));
     let mut out = PlainSink::new(alloc);
-    let status = run(rt, alloc, row.words, &mut stream, &mut out)?;
+    let status = run(rt, row.words, &mut stream, &mut out)?;
     Ok(status.number() == row.status && out.bytes() == row.text)
 }
 
 #[test]
 fn searches_and_their_ends(rt: HostRuntime) -> Result<(), Fail> {
     for row in &SEARCHES {
-        assert!(rt; holds(&rt, rt.alloc(), row, 65_536)?, "{:?}", row.words);
+        assert!(rt; holds(&rt, row, 65_536)?, "{:?}", row.words);
     }
     Ok(())
 }
@@ -497,7 +498,7 @@ fn searches_and_their_ends(rt: HostRuntime) -> Result<(), Fail> {
 #[test]
 fn words_streams_and_names_that_are_refused(rt: HostRuntime) -> Result<(), Fail> {
     for row in &REFUSALS {
-        assert!(rt; holds(&rt, rt.alloc(), row, 7)?, "{:?}", row.words);
+        assert!(rt; holds(&rt, row, 7)?, "{:?}", row.words);
     }
     Ok(())
 }
@@ -505,10 +506,10 @@ fn words_streams_and_names_that_are_refused(rt: HostRuntime) -> Result<(), Fail>
 #[test]
 fn asks_and_made_streams(rt: HostRuntime) -> Result<(), Fail> {
     for row in &ASKS {
-        assert!(rt; holds(&rt, rt.alloc(), row, 65_536)?, "{:?}", row.words);
+        assert!(rt; holds(&rt, row, 65_536)?, "{:?}", row.words);
     }
     for row in &MADE {
-        assert!(rt; holds(&rt, rt.alloc(), row, 65_536)?, "{:?}", row.words);
+        assert!(rt; holds(&rt, row, 65_536)?, "{:?}", row.words);
     }
     Ok(())
 }

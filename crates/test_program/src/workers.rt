@@ -153,7 +153,7 @@ where
     let alloc = rt.alloc();
     let mut stream = MemSource::new(Bytes::new(alloc), 16, Vec::new(alloc));
     let mut out = PlainSink::new(alloc);
-    run(rt, alloc, words, &mut stream, &mut out)?;
+    run(rt, words, &mut stream, &mut out)?;
     Ok(out.into_bytes())
 }
 

@@ -1,5 +1,5 @@
 use Rattle.std.proofs.Common.{All, None, [], length}
-use Rattle.bf_log.specs.Labels.{IsEntryWithin}
+use Rattle.bf_search.specs.Within.{IsEntryWithin}
 use Rattle.bf_search.specs.Outcomes.{outcomes_of_plan}
 use Rattle.bf_search.specs.Run.{run}
 use Rattle.bf_alone.specs.Rest.{IsRest, IsSameSession}

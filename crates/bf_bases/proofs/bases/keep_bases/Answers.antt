@@ -10,7 +10,8 @@ common_long : (c : After-and_from) → length c.and_from.new.self ≡ length c.a
 common_long c = length-joined ◌&&◌ _ _ _ (c.requires.row ∙ sym (c.fill_from.ensures.len ∙ c.requires.scratch)) c.and_from.ensures
 
 pub fill_parents-requires-clause-row : goal.fill_parents-requires-clause-row
-fill_parents-requires-clause-row c = common_long ((goal.at.fill_parents-requires-clause-row c).After-and_from) ∙ c.requires.row ∙ ap length (sym c.graph.ensures)
+fill_parents-requires-clause-row c = common_long ((goal.at.fill_parents-requires-clause-row c).After-and_from) ∙ c.requires.row ∙ ap length
+    (sym c.graph.ensures)
 
 pub returns-clause-bases : goal.returns-clause-bases
 returns-clause-bases c =
@@ -18,9 +19,11 @@ returns-clause-bases c =
     let graph : List (List ℕ) = c.args.reach.now in
     let known : IsGraph graph = subst (λ (g : List (List ℕ)). IsGraph g) c.graph.ensures c.fill_parents.ensures.graph in
     let parents : IsParentsBelow graph c.and_from.new.self (length c.and_from.new.self) c.fill_parents.new.out =
-    subst (λ (g : List (List ℕ)). IsParentsBelow g c.and_from.new.self (length c.and_from.new.self) c.fill_parents.new.out) c.graph.ensures c.fill_parents.ensures.parents in
+    subst (λ (g : List (List ℕ)). IsParentsBelow g c.and_from.new.self (length c.and_from.new.self) c.fill_parents.new.out) c.graph.ensures
+    c.fill_parents.ensures.parents in
     rw c.and_not.ensures
-    (bases_of_sides graph bad c.args.goods.now c.and_from.new.self c.fill_parents.new.out known (rw (← is_row, ← c.fill_from.ensures.row) c.and_from.ensures) parents)
+    (bases_of_sides graph bad c.args.goods.now c.and_from.new.self c.fill_parents.new.out known (rw (← is_row, ← c.fill_from.ensures.row) c.and_from.ensures)
+    parents)
 
 pub returns-clause-len : goal.returns-clause-len
 returns-clause-len c =

@@ -20,7 +20,9 @@ returns c =
     let not_reached : reaches_all graph c.args.bad c.args.goods.now ≡ false =
     sym (reaches_all-by_row graph c.args.bad c.args.goods.now c.requires.goods)
     ∙ sym (c.has_all.ensures ∙ ap (λ (row : List Bool). list_all (λ good. is_in row good) c.args.goods.now) c.fill_row.ensures.row) ∙ c.if-has_all.false in
-    let by_bases : check graph c.args.bad c.args.goods.now c.args.skips.now ≡ check_bases (places_of c.keep_bases.new.row) c.args.bad c.args.goods.now c.args.skips.now =
+    let by_bases : check graph c.args.bad c.args.goods.now c.args.skips.now ≡ check_bases (places_of c.keep_bases.new.row) c.args.bad c.args.goods.now
+    c.args.skips.now =
     check-of_bases graph c.args.bad c.args.goods.now c.args.skips.now not_reached
-    ∙ ap (λ (bases : List ℕ). check_bases bases c.args.bad c.args.goods.now c.args.skips.now) (sym (c.keep_bases.ensures.bases c.args.bad c.fill_row.ensures.row)) in
+    ∙ ap (λ (bases : List ℕ). check_bases bases c.args.bad c.args.goods.now c.args.skips.now)
+    (sym (c.keep_bases.ensures.bases c.args.bad c.fill_row.ensures.row)) in
     rw by_bases c.check_bases.ensures

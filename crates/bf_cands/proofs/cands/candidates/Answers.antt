@@ -4,7 +4,8 @@ use Rattle.bf_cands.proofs.Sides.{row_of_sides}
 use Rattle.bf_cands.proofs.cands.candidates.Goals as goal
 
 is_row : (c : goal.After-drop-good-inside) → c.and_not.new.self ≡ candidate_row c.args.reach.now c.args.bad c.args.goods.now c.args.first_parent
-is_row c = rw (c.fill_in_mode.ensures.row, c.fill_from.ensures.row) at c.and_not.ensures ∙ row_of_sides c.args.reach.now c.args.bad c.args.goods.now c.args.first_parent
+is_row c = rw (c.fill_in_mode.ensures.row, c.fill_from.ensures.row) at c.and_not.ensures ∙ row_of_sides c.args.reach.now c.args.bad c.args.goods.now
+    c.args.first_parent
 
 pub returns-clause-row : goal.returns-clause-row
 returns-clause-row c = is_row c

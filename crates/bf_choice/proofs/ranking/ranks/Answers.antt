@@ -15,7 +15,8 @@ loop-place-preserved c =
     let next = c.in-Some.ensures.next in
     let ranks : List Rank = c.loop-place.ranks.items in
     let before : AreRanks mask weights c.args.bad place ranks =
-    ranks_stay mask weights c.args.bad c.loop-place.from place ranks c.loop-place.invariant.ranked (λ q low high other. never (next.false_before q low high) other.0) in
+    ranks_stay mask weights c.args.bad c.loop-place.from place ranks c.loop-place.invariant.ranked
+    (λ q low high other. never (next.false_before q low high) other.0) in
     record {
       within = omega (arith, inside mask place next.is_true);
       ranked = elim c.if-place-bad.branch [
@@ -30,11 +31,13 @@ loop-place-preserved c =
             (ranks_meet mask weights c.args.bad place ranks _ before refl is)
             )
         | else-place-bad w ↦ subst (λ v. AreRanks mask weights c.args.bad (place + 1) v.items) (sym w.ranks-is)
-            (ranks_stay mask weights c.args.bad place (place + 1) ranks before (λ q low high other. let same : q ≡ place = omega arith in other.1 (same ∙ w.if-place-bad.false)))
+            (ranks_stay mask weights c.args.bad place (place + 1) ranks before
+            (λ q low high other. let same : q ≡ place = omega arith in other.1 (same ∙ w.if-place-bad.false)))
       ];
     }
 
 pub returns : goal.returns
 returns c =
     let mask : List Bool = c.args.mask.now in
-    ranks_stay mask c.args.weights.now c.args.bad c.loop-place.from (length mask) c.loop-place.ranks.items c.loop-place.invariant.ranked (λ q low high other. never (c.in_default.ensures.next q low) other.0)
+    ranks_stay mask c.args.weights.now c.args.bad c.loop-place.from (length mask) c.loop-place.ranks.items c.loop-place.invariant.ranked
+    (λ q low high other. never (c.in_default.ensures.next q low) other.0)

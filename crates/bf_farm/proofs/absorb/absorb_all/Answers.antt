@@ -1,7 +1,8 @@
-use Rattle.std.proofs.Common.{◌≡◌, List, length, All, refl, sym, subst, ◌∙◌, arith}
+use Rattle.std.proofs.Common.{◌≡◌, List, length, refl, sym, subst, ◌∙◌, arith}
 use Rattle.std.proofs.lemmas.List.Elements.{All-push}
 use Rattle.bf_farm.specs.declared.worker.Worker.{Worker}
-use Rattle.bf_farm.specs.Reports.{manner_by, AreAmong}
+use Rattle.bf_farm.specs.Testers.{KeepsManner, HasAnswersOf}
+use Rattle.bf_farm.specs.Workers.{HasAllAnswersOf}
 use Rattle.bf_farm.proofs.Rests.{next_of_rest, one_taken, all_taken}
 use Rattle.bf_farm.proofs.Soundness.{among_itself, among_then}
 use Rattle.bf_farm.proofs.absorb.absorb_all.Goals as goal
@@ -18,7 +19,7 @@ loop-worker-init g c = record {
 
 pub absorb-requires-after_bounds : goal.absorb-requires-after_bounds
 absorb-requires-after_bounds g c = λ κs lives.
-    next_of_rest (λ (w : Worker g.row.T.Denot). manner_by g.T.Tester.told g.T.Tester.command g.T.Tester.is_lenient g.T.Tester.grounds g.T.Tester.recalled w.tester ≡ manner_by g.T.Tester.told g.T.Tester.command g.T.Tester.is_lenient g.T.Tester.grounds g.T.Tester.recalled c.args.tester.now)
+    next_of_rest (λ (w : Worker g.row.T.Denot). KeepsManner g.T.Tester c.args.tester.now w.tester)
     c.args.workers.items c.loop-worker.yielded c.loop-worker.worker-iterator.rest.items c.next.new.self.rest.items c.in-Some.worker
     c.loop-worker.invariant.rest c.in-Some.ensures.steps.0 c.requires
     ∙ sym c.loop-worker.invariant.manner
@@ -30,7 +31,7 @@ loop-worker-preserved g c = record {
   faults = c.absorb.ensures.faults ∙ c.loop-worker.invariant.faults;
   own = among_then (g.T.Tester.answers c.args.tester.now) (g.T.Tester.answers c.loop-worker.tester) (g.T.Tester.answers c.absorb.new.tester)
       c.absorb.ensures.own c.loop-worker.invariant.own;
-  absorbed = All-push (λ (w : Worker g.row.T.Denot). AreAmong (g.T.Tester.answers c.absorb.new.tester) (g.T.Tester.answers w.tester))
+  absorbed = All-push (λ (w : Worker g.row.T.Denot). HasAnswersOf g.T.Tester c.absorb.new.tester w.tester)
       c.loop-worker.yielded c.in-Some.worker
       (λ k d l. among_then _ (g.T.Tester.answers c.loop-worker.tester) (g.T.Tester.answers c.absorb.new.tester) c.absorb.ensures.own
       (c.loop-worker.invariant.absorbed k d l))
@@ -47,6 +48,6 @@ returns-in_err-absorb-clause-own g c =
 pub returns-clause-absorbed : goal.returns-clause-absorbed
 returns-clause-absorbed g c =
     let none : length c.loop-worker.worker-iterator.rest.items ≡ 0 = omega (arith, c.in-None.ensures.steps.0, c.loop-worker.worker-iterator.rest.ok.0) in
-    subst (λ (l : List (Worker g.row.T.Denot)). All (λ w. AreAmong (g.T.Tester.answers c.loop-worker.tester) (g.T.Tester.answers w.tester)) l)
+    subst (λ (l : List (Worker g.row.T.Denot)). HasAllAnswersOf g.T.Tester c.loop-worker.tester l)
     (all_taken c.args.workers.items c.loop-worker.yielded c.loop-worker.worker-iterator.rest.items c.loop-worker.invariant.rest none)
     c.loop-worker.invariant.absorbed

@@ -31,7 +31,8 @@ returns-clause-lacking g c =
     lacking_told c.args.names.now c.args.board.core.farm.table (g.T.Tester.answers c.args.tester.now) (g.T.Tester.answers c.go_on.new.tester)
     c.go_on.new.board.core c.go_on.new.board.core.first c.in_ok-report.report
     (c.in_ok-failed.ensures.gains
-    (over_before c.args.board.core c.go_on.new.board.core c.in_ok-failed.ensures.start c.in_ok-report.ensures.over) c.args.board.core.farm.table (g.T.Tester.answers c.args.tester.now)
+    (over_before c.args.board.core c.go_on.new.board.core c.in_ok-failed.ensures.start c.in_ok-report.ensures.over) c.args.board.core.farm.table
+    (g.T.Tester.answers c.args.tester.now)
     (gained_none c.args.names.now c.args.board.core (g.T.Tester.answers c.args.tester.now)))
     c.in_ok-report.ensures.report c.in_ok-report.ensures.table
 

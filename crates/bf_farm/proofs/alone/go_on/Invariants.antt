@@ -1,25 +1,21 @@
-use Rattle.std.proofs.Common.{◌≡◌, ◌≤◌, [], None, length}
-use Rattle.bf_farm.specs.Cores.{IsSameStart}
-use Rattle.bf_farm.specs.Ends.{TestsOn, missing}
-use Rattle.bf_farm.specs.Gains.{GainsMore}
-use Rattle.bf_farm.specs.Reports.{manner_by}
-use Rattle.bf_farm.specs.Sound.{IsSound}
+use Rattle.std.proofs.Common.{◌≡◌, ◌≤◌, [], None}
+use Rattle.bf_farm.specs.Cores.{IsSameStart, IsSameLength}
+use Rattle.bf_farm.specs.Ends.{missing}
+use Rattle.bf_farm.specs.Testers.{KeepsManner, StaysSound, GainsBy, TestsOnBy}
 use Rattle.bf_farm.proofs.alone.go_on.Given as goal
 
 abbrev pub invariant-loop-place : goal.invariant-loop-place
 invariant-loop-place g l = record {
-  sound : IsSound (g.T.Tester.told l.fn.tester) l.names (g.T.Tester.answers l.fn.tester) l.fn.board
-      → IsSound (g.T.Tester.told l.fn.tester) l.names (g.T.Tester.answers l.tester) l.board;
-  gains : GainsMore l.names l.fn.board.core (g.T.Tester.answers l.fn.tester) l.board.core (g.T.Tester.answers l.tester);
+  sound : StaysSound g.T.Tester l.fn.tester l.tester l.names l.fn.board l.board;
+  gains : GainsBy g.T.Tester l.fn.tester l.tester l.names l.fn.board l.board;
   start : IsSameStart l.fn.board.core l.board.core;
   first : l.board.first ≡ l.fn.board.first;
-  manner : manner_by g.T.Tester.told g.T.Tester.command g.T.Tester.is_lenient g.T.Tester.grounds g.T.Tester.recalled l.tester
-      ≡ manner_by g.T.Tester.told g.T.Tester.command g.T.Tester.is_lenient g.T.Tester.grounds g.T.Tester.recalled l.fn.tester;
+  manner : KeepsManner g.T.Tester l.fn.tester l.tester;
   is_split : g.T.Tester.is_split l.tester ≡ g.T.Tester.is_split l.fn.tester;
   faults : g.T.Tester.faults l.fn.tester ≤ g.T.Tester.faults l.tester;
   claims : l.board.core.farm.claims ≡ [];
-  len : length l.board.core.farm.table ≡ length l.fn.board.core.farm.table;
-  alone : TestsOn l.fn.board.events (g.T.Tester.answers l.fn.tester) l.board.events (g.T.Tester.answers l.tester) None;
+  len : IsSameLength l.fn.board.core l.board.core;
+  alone : TestsOnBy g.T.Tester l.fn.tester l.tester l.fn.board l.board None;
 }
 
 abbrev pub decreases-loop-place : goal.decreases-loop-place

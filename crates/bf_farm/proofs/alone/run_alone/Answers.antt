@@ -1,8 +1,9 @@
-use Rattle.std.proofs.Common.{◌≡◌, ◌++◌, List, Option, subst}
+use Rattle.std.proofs.Common.{List, Option, subst}
 use Rattle.bf_search.specs.declared.outcomes.Outcome.{Outcome}
 use Rattle.bf_search.specs.Farm.{Setting, Farm}
 use Rattle.bf_state.specs.Session.{Session}
-use Rattle.bf_farm.specs.Answering.{IsReport, HasHistory, Halves, lacking}
+use Rattle.bf_farm.specs.Answering.{IsReport, HasHistory, Halves}
+use Rattle.bf_farm.specs.Testers.{GainsLacking}
 use Rattle.bf_farm.proofs.Noted.{alone_told}
 use Rattle.bf_farm.proofs.Reporting.{sound_start}
 use Rattle.bf_farm.proofs.alone.run_alone.Goals as goal
@@ -26,7 +27,7 @@ returns-clause-history g c =
 
 pub returns-clause-lacking : goal.returns-clause-lacking
 returns-clause-lacking g c =
-    subst (λ (f : Farm). g.T.Tester.answers c.finish.new.tester ≡ g.T.Tester.answers c.args.tester.now ++ lacking f.table c.in_ok-report.report.used.items)
+    subst (λ (f : Farm). GainsLacking g.T.Tester c.args.tester.now c.finish.new.tester f.table c.in_ok-report.report)
     c.in_ok-board.ensures.farm c.in_ok-report.ensures.lacking
 
 pub returns-clause-alone : goal.returns-clause-alone

@@ -1,5 +1,6 @@
 use Rattle.bf_farm.proofs.Noted.{tests_stay}
-use Rattle.bf_farm.proofs.Asked.{if_ok, on_ok}
+use Rattle.bf_core.proofs.Joining.{if_ok_map}
+use Rattle.bf_farm.proofs.Asked.{on_ok}
 use Rattle.bf_farm.proofs.Gaining.{gains_kept, gains_then}
 use Rattle.bf_farm.proofs.alone.take_turn.Goals as goal
 
@@ -11,7 +12,7 @@ returns-in-Some-clause-sound g c =
 
 pub returns-in-Some-clause-alone : goal.returns-in-Some-clause-alone
 returns-in-Some-clause-alone g c =
-    if_ok c.test_claimed.result (λ turn tests before are. tests before c.args.board.now.events are (rw c.in-Some.is at c.in_ok-place.ensures.noted))
+    if_ok_map c.test_claimed.result (λ turn tests before are. tests before c.args.board.now.events are (rw c.in-Some.is at c.in_ok-place.ensures.noted))
     c.test_claimed.ensures.alone
 
 pub returns-in-None-clause-alone : goal.returns-in-None-clause-alone
@@ -24,7 +25,8 @@ returns-in-None-clause-sound g c = c.in_ok-place.ensures.sound (g.T.Tester.told 
 pub returns-in-Some-clause-gains : goal.returns-in-Some-clause-gains
 returns-in-Some-clause-gains g c =
     on_ok c.test_claimed.result
-    (λ gains. gains_then c.args.names.now (g.T.Tester.answers c.args.tester.now) (g.T.Tester.answers c.args.tester.now) (g.T.Tester.answers c.test_claimed.new.tester)
+    (λ gains. gains_then c.args.names.now (g.T.Tester.answers c.args.tester.now) (g.T.Tester.answers c.args.tester.now)
+    (g.T.Tester.answers c.test_claimed.new.tester)
     c.args.board.now.core c.next_place.new.board.core c.test_claimed.new.board.core c.in_ok-place.ensures.start
     (gains_kept c.args.names.now (g.T.Tester.answers c.args.tester.now) c.args.board.now.core c.next_place.new.board.core c.in_ok-place.ensures.start
     c.in_ok-place.ensures.table) gains)

@@ -1,6 +1,6 @@
-use Rattle.std.proofs.Common.{List, All, sym, subst}
+use Rattle.std.proofs.Common.{List, sym, subst}
 use Rattle.bf_farm.specs.declared.worker.Worker.{Worker}
-use Rattle.bf_farm.specs.Sound.{ArePartOf}
+use Rattle.bf_farm.specs.Workers.{AreWorkersOf}
 use Rattle.bf_farm.proofs.Reporting.{sound_start}
 use Rattle.bf_farm.proofs.Soundness.{sound_given}
 use Rattle.bf_farm.proofs.farm.board_again.Goals as goal
@@ -9,5 +9,5 @@ pub returns-clause-sound : goal.returns-clause-sound
 returns-clause-sound g c = λ told answers parts known plan.
     sound_given told c.args.case.names.now answers c.replay.new.board c.give_all.new.self c.give_all.ensures.given
     (c.in_ok-replay.ensures.sound told answers
-    (subst (λ (l : List (Worker g.row.T.Denot)). All (λ w. ArePartOf told answers (g.T.Tester.answers w.tester)) l) (sym c.as_slice-2.ensures.value) parts)
+    (subst (λ (l : List (Worker g.row.T.Denot)). AreWorkersOf g.T.Tester told answers l) (sym c.as_slice-2.ensures.value) parts)
     (sound_start told c.args.case.names.now answers c.in_ok-board.board c.args.case.table c.in_ok-board.ensures.farm c.in_ok-board.ensures.events known plan))

@@ -12,8 +12,8 @@ finish-requires-clause-sound g c = λ κs lives.
     subst (λ (t : Option (List Outcome)). IsSound t c.args.case.names.now (g.T.Tester.answers c.absorb_all.new.tester) c.in_ok-board.board)
     (sym (ap (λ (m : Manner). m.told) c.in_ok-absorb_all.ensures.manner))
     (c.in_ok-board.ensures.sound (g.T.Tester.told c.args.tester.now) (g.T.Tester.answers c.absorb_all.new.tester)
-    (parts_of_team g.T.Tester.told g.T.Tester.command g.T.Tester.is_lenient g.T.Tester.grounds g.T.Tester.recalled g.T.Tester.answers c.args.tester.now
-    (g.T.Tester.answers c.absorb_all.new.tester) c.in_ok-team.team.workers.items c.in_ok-team.ensures c.in_ok-absorb_all.ensures.absorbed)
+    (parts_of_team g.T.Tester c.args.tester.now c.absorb_all.new.tester c.in_ok-team.team.workers.items c.in_ok-team.ensures
+    c.in_ok-absorb_all.ensures.absorbed)
     (table_wider c.args.case.names.now (g.T.Tester.answers c.absorb_all.new.tester) (g.T.Tester.answers c.args.tester.now) c.args.case.table
     c.in_ok-absorb_all.ensures.own c.requires.known)
     c.requires.plan)

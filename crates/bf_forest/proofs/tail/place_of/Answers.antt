@@ -1,7 +1,8 @@
 use Rattle.std.proofs.Common.{◌≡◌, ◌+◌, ◌-◌, ◌/◌, ◌<◌, true, false, sym, ap, ◌∙◌, arith}
 use Rattle.std.specs.Ordering.{nat_cmp, is_lt}
 use Rattle.std.specs.Cmp.Lexicographic.{slice_cmp}
-use Rattle.bf_forest.proofs.Placed.{is_before_key, before_more, behind_more}
+use Rattle.bf_forest.specs.Rests.{is_before_key}
+use Rattle.bf_forest.proofs.Placed.{before_more, behind_more}
 use Rattle.bf_forest.proofs.tail.place_of.Goals as goal
 
 pub loop-low-preserved-then-is_below : goal.loop-low-preserved-then-is_below
@@ -10,7 +11,8 @@ loop-low-preserved-then-is_below c =
     let numbers = c.args.numbers.now in
     let key = c.args.key.now in
     let middle = c.loop-low.low + (c.loop-low.high - c.loop-low.low) / 2 in
-    let here : is_before_key table numbers key middle ≡ true = ap (λ v. is_lt (slice_cmp nat_cmp v key)) (sym c.key.ensures) ∙ sym c.is_below.ensures ∙ c.if-is_below.true in
+    let here : is_before_key table numbers key middle ≡ true = ap (λ v. is_lt (slice_cmp nat_cmp v key)) (sym c.key.ensures) ∙ sym c.is_below.ensures ∙
+    c.if-is_below.true in
     let less : middle < c.loop-low.high = omega (arith, c.loop-low-test.true) in
     record {
       order = omega (arith, less);
@@ -25,7 +27,8 @@ loop-low-preserved c =
     let numbers = c.args.numbers.now in
     let key = c.args.key.now in
     let middle = c.loop-low.low + (c.loop-low.high - c.loop-low.low) / 2 in
-    let here : is_before_key table numbers key middle ≡ false = ap (λ v. is_lt (slice_cmp nat_cmp v key)) (sym c.key.ensures) ∙ sym c.is_below.ensures ∙ c.if-is_below.false in
+    let here : is_before_key table numbers key middle ≡ false = ap (λ v. is_lt (slice_cmp nat_cmp v key)) (sym c.key.ensures) ∙ sym c.is_below.ensures ∙
+    c.if-is_below.false in
     let less : middle < c.loop-low.high = omega (arith, c.loop-low-test.true) in
     record {
       order = omega arith;

@@ -1,5 +1,5 @@
 use Rattle.std.proofs.Common.{◌≡◌, ℕ, ◌-◌, ◌<◌, ◌≤◌, true, false, length}
-use Rattle.bf_forest.proofs.Placed.{is_before_key}
+use Rattle.bf_forest.specs.Rests.{is_before_key}
 use Rattle.bf_forest.proofs.tail.place_of.Given as goal
 
 abbrev pub decreases-loop-low : goal.decreases-loop-low

@@ -12,4 +12,5 @@ returns c =
     subst Q c.as_slice-rest.ensures
     (passed table c.args.numbers.now c.append.new.self rest c.pass.new.self c.args.key.now c.place_of-place.result c.end_of-end.result
     (subst P (sym c.as_slice-rest.ensures) c.requires) c.place_of-place.ensures.within c.place_of-place.ensures.before c.place_of-place.ensures.behind
-    c.end_of-end.ensures.there c.end_of-end.ensures.missing c.in_ok-append.ensures (c.pass.ensures ∙ ap (drop c.end_of-end.result) (sym c.as_slice-rest.ensures)))
+    c.end_of-end.ensures.there c.end_of-end.ensures.missing c.in_ok-append.ensures
+    (c.pass.ensures ∙ ap (drop c.end_of-end.result) (sym c.as_slice-rest.ensures)))

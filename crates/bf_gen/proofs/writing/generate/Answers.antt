@@ -15,7 +15,8 @@ loop-done-init g c = record {
 pub returns-in_err-state-clause-front : goal.returns-in_err-state-clause-front
 returns-in_err-state-clause-front g c =
     at_error c.from_residual.result
-    (front_to (g.K.Sink.held c.args.sink.now) (g.K.Sink.held c.loop-done.sink) c.args.number c.loop-done.done c.args.commits c.loop-done.invariant.within c.loop-done.invariant.written)
+    (front_to (g.K.Sink.held c.args.sink.now) (g.K.Sink.held c.loop-done.sink) c.args.number c.loop-done.done c.args.commits c.loop-done.invariant.within
+    c.loop-done.invariant.written)
 
 pub returns-in_err-write_whole-clause-front : goal.returns-in_err-write_whole-clause-front
 returns-in_err-write_whole-clause-front g c =

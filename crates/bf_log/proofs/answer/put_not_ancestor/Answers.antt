@@ -8,6 +8,15 @@ use Rattle.bf_log.proofs.answer.put_not_ancestor.Goals as goal
 pub returns : goal.returns
 unfolding not_ancestor_line
 returns c =
-    last c.args.out.now ((((((codes "Some ") ++ (sides_of c.args.sides).old) ++ (codes " commits are not ancestors of the ")) ++ (sides_of c.args.sides).new) ++ (codes " commit ")) ++ (texts.hex_of (commits_of c.args.commits) c.args.place)) (codes ".\n") c.put_hex.new.out c.append-6.new.self c.append-6.result
-    (more c.args.out.now (((((codes "Some ") ++ (sides_of c.args.sides).old) ++ (codes " commits are not ancestors of the ")) ++ (sides_of c.args.sides).new) ++ (codes " commit ")) (texts.hex_of (commits_of c.args.commits) c.args.place) c.append-5.new.self c.put_hex.new.out (more c.args.out.now ((((codes "Some ") ++ (sides_of c.args.sides).old) ++ (codes " commits are not ancestors of the ")) ++ (sides_of c.args.sides).new) (codes " commit ") c.append-4.new.self c.append-5.new.self (more c.args.out.now (((codes "Some ") ++ (sides_of c.args.sides).old) ++ (codes " commits are not ancestors of the ")) (sides_of c.args.sides).new c.append-3.new.self c.append-4.new.self (more c.args.out.now ((codes "Some ") ++ (sides_of c.args.sides).old) (codes " commits are not ancestors of the ") c.append-2.new.self c.append-3.new.self (more c.args.out.now (codes "Some ") (sides_of c.args.sides).old c.append.new.self c.append-2.new.self c.in_ok-append.ensures.ok c.in_ok-append-2.ensures.ok) c.in_ok-append-3.ensures.ok) c.in_ok-append-4.ensures.ok) c.in_ok-append-5.ensures.ok) c.in_ok-put_hex.ensures)
+    last c.args.out.now ((((((codes "Some ") ++ (sides_of c.args.sides).old) ++ (codes " commits are not ancestors of the ")) ++ (sides_of c.args.sides).new)
+    ++ (codes " commit ")) ++ (texts.hex_of (commits_of c.args.commits) c.args.place)) (codes ".\n") c.put_hex.new.out c.append-6.new.self c.append-6.result
+    (more c.args.out.now (((((codes "Some ") ++ (sides_of c.args.sides).old) ++ (codes " commits are not ancestors of the ")) ++ (sides_of c.args.sides).new)
+    ++ (codes " commit ")) (texts.hex_of (commits_of c.args.commits) c.args.place) c.append-5.new.self c.put_hex.new.out
+    (more c.args.out.now ((((codes "Some ") ++ (sides_of c.args.sides).old) ++ (codes " commits are not ancestors of the ")) ++ (sides_of c.args.sides).new)
+    (codes " commit ") c.append-4.new.self c.append-5.new.self
+    (more c.args.out.now (((codes "Some ") ++ (sides_of c.args.sides).old) ++ (codes " commits are not ancestors of the ")) (sides_of c.args.sides).new
+    c.append-3.new.self c.append-4.new.self (more c.args.out.now ((codes "Some ") ++ (sides_of c.args.sides).old)
+    (codes " commits are not ancestors of the ") c.append-2.new.self c.append-3.new.self
+    (more c.args.out.now (codes "Some ") (sides_of c.args.sides).old c.append.new.self c.append-2.new.self c.in_ok-append.ensures.ok
+    c.in_ok-append-2.ensures.ok) c.in_ok-append-3.ensures.ok) c.in_ok-append-4.ensures.ok) c.in_ok-append-5.ensures.ok) c.in_ok-put_hex.ensures)
     c.append-6.ensures.ok

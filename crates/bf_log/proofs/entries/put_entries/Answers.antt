@@ -18,7 +18,8 @@ loop-entry-preserved c =
     drop-cons c.args.entries.now i c.entry-item.result c.loop-entry-test.true ∙ ap (λ (e : Entry). e ∷ drop (suc i) c.args.entries.now) (sym c.entry-item.is) in
     record {
       lines = ap (λ (j : ℕ). c.put_status.new.out ++ log_from commits sides c.learn.new.self (drop j c.args.entries.now)) (add-one i)
-          ∙ entry_more commits sides c.loop-entry.known c.learn.new.self c.entry-item.result (drop (suc i) c.args.entries.now) c.loop-entry.out c.put_entry.new.out c.put_status.new.out
+          ∙ entry_more commits sides c.loop-entry.known c.learn.new.self c.entry-item.result (drop (suc i) c.args.entries.now) c.loop-entry.out
+          c.put_entry.new.out c.put_status.new.out
           c.in_ok-put_entry.ensures c.in_ok-learn.ensures c.in_ok-put_status.ensures
           ∙ ap (λ (es : List Entry). c.loop-entry.out ++ log_from commits sides c.loop-entry.known es) (sym rest)
           ∙ c.loop-entry.invariant.lines;
@@ -34,5 +35,6 @@ returns-clause-lines c =
     let commits = commits_of c.args.commits in
     let sides = sides_of c.args.sides in
     sym (append-nil c.loop-entry.out)
-    ∙ ap (λ (es : List Entry). c.loop-entry.out ++ log_from commits sides c.loop-entry.known es) (sym (drop_all c.loop-entry.entry-index c.args.entries.now c.loop-entry-test.false))
+    ∙ ap (λ (es : List Entry). c.loop-entry.out ++ log_from commits sides c.loop-entry.known es)
+    (sym (drop_all c.loop-entry.entry-index c.args.entries.now c.loop-entry-test.false))
     ∙ c.loop-entry.invariant.lines

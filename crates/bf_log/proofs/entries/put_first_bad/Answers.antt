@@ -8,6 +8,9 @@ use Rattle.bf_log.proofs.entries.put_first_bad.Goals as goal
 pub returns : goal.returns
 unfolding possible_words first_words
 returns c =
-    last c.args.out.now (((codes "# " ++ texts.first_words (sides_of c.args.sides)) ++ (codes ": ")) ++ (texts.label_of (commits_of c.args.commits) c.args.place)) (codes "\n") c.put_label.new.out c.append-2.new.self c.append-2.result
-    (more c.args.out.now ((codes "# " ++ texts.first_words (sides_of c.args.sides)) ++ (codes ": ")) (texts.label_of (commits_of c.args.commits) c.args.place) c.append.new.self c.put_label.new.out (more c.args.out.now (codes "# " ++ texts.first_words (sides_of c.args.sides)) (codes ": ") c.put_between.new.out c.append.new.self c.in_ok-put_between.ensures c.in_ok-append.ensures.ok) c.in_ok-put_label.ensures)
+    last c.args.out.now (((codes "# " ++ texts.first_words (sides_of c.args.sides)) ++ (codes ": "))
+    ++ (texts.label_of (commits_of c.args.commits) c.args.place)) (codes "\n") c.put_label.new.out c.append-2.new.self c.append-2.result
+    (more c.args.out.now ((codes "# " ++ texts.first_words (sides_of c.args.sides)) ++ (codes ": ")) (texts.label_of (commits_of c.args.commits) c.args.place)
+    c.append.new.self c.put_label.new.out (more c.args.out.now (codes "# " ++ texts.first_words (sides_of c.args.sides)) (codes ": ") c.put_between.new.out
+    c.append.new.self c.in_ok-put_between.ensures c.in_ok-append.ensures.ok) c.in_ok-put_label.ensures)
     c.append-2.ensures.ok

@@ -5,4 +5,5 @@ use Rattle.bf_log.specs.Labels.{commits_of, sides_of}
 use Rattle.bf_log.proofs.entries.put_possibles.Given as goal
 
 abbrev pub invariant-loop-place : goal.invariant-loop-place
-invariant-loop-place l = l.out ≡ l.fn.out ++ flat_map (texts.comment_of (commits_of l.commits) (texts.possible_words (sides_of l.sides))) (take l.place-index l.places)
+invariant-loop-place l = l.out ≡ l.fn.out ++ flat_map (texts.comment_of (commits_of l.commits) (texts.possible_words (sides_of l.sides)))
+    (take l.place-index l.places)

@@ -15,5 +15,6 @@ loop-at-preserved c =
     record {
       within = omega (arith, c.in-Byte.ensures.within, ap length rest, length-drop at text);
       so_far = rw c.in_ok-push-in-Byte.ensures.ok
-          (unquoted_more text at c.in-Byte.value c.in-Byte.count c.loop-at.bytes _ c.loop-at-test.true c.in-Byte.ensures.within.0 piece c.loop-at.invariant.so_far);
+          (unquoted_more text at c.in-Byte.value c.in-Byte.count c.loop-at.bytes _ c.loop-at-test.true c.in-Byte.ensures.within.0 piece
+          c.loop-at.invariant.so_far);
     }

@@ -14,7 +14,8 @@ returns-clause-ends c =
 
 pub returns-in_err-places-clause-step : goal.returns-in_err-places-clause-step
 returns-in_err-places-clause-step c =
-    skips_refused (λ (ps : List ℕ). ps) c.args.line.request.now c.args.line.words.now _ c.args.history.now (begun_of c.in_ok-first.first) c.as_slice-skips.result.now
+    skips_refused (λ (ps : List ℕ). ps) c.args.line.request.now c.args.line.words.now _ c.args.history.now (begun_of c.in_ok-first.first)
+    c.as_slice-skips.result.now
     c.in_err-places.field-0.0 c.from_residual-in_err-places.result c.in_err-places.ensures.step c.as_slice-skips.ensures
     c.from_residual-in_err-places.ensures.0 c.from_residual-in_err-places.ensures.1 c.in_ok-first.ensures.step
 

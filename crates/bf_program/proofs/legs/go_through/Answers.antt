@@ -49,7 +49,8 @@ returns-in_err-write_and_flush-clause-cut g c = λ request first leg workers is.
     let come = c.loop.invariant.come request first leg workers is in
     let next = rw c.in-On.is at (c.in_ok-answer.ensures.goes request first come.written leg workers come.is) in
     if_err _ c.from_residual-in_err-write_and_flush.result
-    (subst (λ (told : Option (List Outcome)). IsCutIn told c.args.search.history.now first (g.K.Sink.held c.args.out.now) (g.K.Sink.held c.write_and_flush.new.out))
+    (subst (λ (told : Option (List Outcome)). IsCutIn told c.args.search.history.now first (g.K.Sink.held c.args.out.now)
+    (g.K.Sink.held c.write_and_flush.new.out))
     (ap (λ (m : Manner). m.told) (c.in_ok-answer.ensures.manner ∙ c.loop.invariant.manner))
     (running_cut request _ c.args.search.history.now first come.written c.in-On.next (g.K.Sink.held c.args.out.now) (g.K.Sink.held c.loop.out)
     (g.K.Sink.held c.write_and_flush.new.out) next come.gained (rw c.as_slice.ensures at c.in_err-write_and_flush.ensures.front)))
@@ -65,7 +66,8 @@ loop-preserved g c = record {
             c.in-On.next.telling.text come.gained (rw c.as_slice.ensures at c.in_ok-write_and_flush.ensures.whole);
         is = flushed request _ c.args.search.history.now first come.written c.in-On.next c.clear.new.self next c.clear.ensures;
       };
-  ready = subst (λ (told : Option (List Outcome)). IsReady c.args.search.history.now.parents c.args.search.history.now.names told (g.T.Tester.answers c.go_on.new.tester)
+  ready = subst (λ (told : Option (List Outcome)). IsReady c.args.search.history.now.parents c.args.search.history.now.names told
+      (g.T.Tester.answers c.go_on.new.tester)
       c.in-On.next.standing.state c.in-On.next.standing.table) (ap (λ (m : Manner). m.told) c.loop.invariant.manner)
       (rw c.in-On.is at c.in_ok-answer.ensures.next);
   later = (let before = c.loop.invariant.later in let now = c.in_ok-answer.ensures.later in omega arith);

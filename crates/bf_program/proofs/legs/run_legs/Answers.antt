@@ -10,15 +10,14 @@ returns-in_err-running-clause-cut g c =
 
 pub go_through-requires-clause-ready : goal.go_through-requires-clause-ready
 go_through-requires-clause-ready g c = λ κs within.
-    (c.in_ok-running.ensures (tested_by g.T.Tester.told g.T.Tester.command g.T.Tester.is_lenient g.T.Tester.answers g.T.Tester.faults g.T.Tester.failed g.T.Tester.is_split
-    c.args.tester.now) c.requires.fresh).ready
+    (c.in_ok-running.ensures (tested_by g.T.Tester c.args.tester.now) c.requires.fresh).ready
 
 pub returns-clause-told : goal.returns-clause-told
 returns-clause-told g c =
-    c.go_through.ensures.told c.args.line.request.now (begun_of c.args.started.first) refl refl (c.in_ok-running.ensures (tested_by g.T.Tester.told g.T.Tester.command g.T.Tester.is_lenient g.T.Tester.answers g.T.Tester.faults g.T.Tester.failed g.T.Tester.is_split
-    c.args.tester.now) c.requires.fresh)
+    c.go_through.ensures.told c.args.line.request.now (begun_of c.args.started.first) refl refl
+    (c.in_ok-running.ensures (tested_by g.T.Tester c.args.tester.now) c.requires.fresh)
 
 pub returns-clause-cut : goal.returns-clause-cut
 returns-clause-cut g c =
-    c.go_through.ensures.cut c.args.line.request.now (begun_of c.args.started.first) refl refl (c.in_ok-running.ensures (tested_by g.T.Tester.told g.T.Tester.command g.T.Tester.is_lenient g.T.Tester.answers g.T.Tester.faults g.T.Tester.failed g.T.Tester.is_split
-    c.args.tester.now) c.requires.fresh)
+    c.go_through.ensures.cut c.args.line.request.now (begun_of c.args.started.first) refl refl
+    (c.in_ok-running.ensures (tested_by g.T.Tester c.args.tester.now) c.requires.fresh)

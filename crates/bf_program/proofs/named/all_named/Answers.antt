@@ -16,7 +16,8 @@ pub returns-in_err-named-clause-step : goal.returns-in_err-named-clause-step
 returns-in_err-named-clause-step c =
     let p = err_from_is_err_and c.from_residual.result c.from_residual.ensures.1 in
     rw (p.1, p.2, c.loop-index.invariant.goes_on)
-    (stopped (λ (q : ℕ). q) (λ (qs : List ℕ). qs) (λ (q : ℕ). Ok (q ∷ [])) (named c.args.history.now c.args.words.now (get_or c.args.indexes.now c.loop-index.index-index 0))
+    (stopped (λ (q : ℕ). q) (λ (qs : List ℕ). qs) (λ (q : ℕ). Ok (q ∷ []))
+    (named c.args.history.now c.args.words.now (get_or c.args.indexes.now c.loop-index.index-index 0))
     (behind c.loop-index.places (gathered (one_named c.args.history.now c.args.words.now) (drop c.loop-index.index-index c.args.indexes.now)))
     c.in_err-named.field-0.0
     (λ told e. word_refused (one_named c.args.history.now c.args.words.now) c.args.indexes.now c.loop-index.index-index

@@ -12,16 +12,15 @@ use Rattle.bf_program.proofs.search.search_by.Goals as goal
 pub returns-in-Plan-clause-told : goal.returns-in-Plan-clause-told
 returns-in-Plan-clause-told g c =
     let verb : Simulate ≡ c.args.line.request.now.verb = rw c.in-Plan.is at c.requires.asked in
-    let tested = (tested_by g.T.Tester.told g.T.Tester.command g.T.Tester.is_lenient g.T.Tester.answers g.T.Tester.faults g.T.Tester.failed g.T.Tester.is_split
-    c.args.tester.now) in
-    subst (λ (v : Verb). IfOk c.search_by_plan.result (IsSearchSoFar v c.args.started c.args.line.request.now c.args.line.words.now tested (g.K.Sink.held c.args.out.now)
+    let tested = tested_by g.T.Tester c.args.tester.now in
+    subst (λ (v : Verb). IfOk c.search_by_plan.result
+    (IsSearchSoFar v c.args.started c.args.line.request.now c.args.line.words.now tested (g.K.Sink.held c.args.out.now)
     (g.K.Sink.held c.search_by_plan.new.out))) verb (c.search_by_plan.ensures.told tested)
 
 pub returns-in-Plan-clause-cut : goal.returns-in-Plan-clause-cut
 returns-in-Plan-clause-cut g c =
     let verb : Simulate ≡ c.args.line.request.now.verb = rw c.in-Plan.is at c.requires.asked in
-    let tested = (tested_by g.T.Tester.told g.T.Tester.command g.T.Tester.is_lenient g.T.Tester.answers g.T.Tester.faults g.T.Tester.failed g.T.Tester.is_split
-    c.args.tester.now) in
+    let tested = tested_by g.T.Tester c.args.tester.now in
     subst (λ (v : Verb). IfErr c.search_by_plan.result (λ fault. IsSearchCut v c.args.started c.args.line.request.now c.args.line.words.now tested
     (g.K.Sink.held c.args.out.now) (g.K.Sink.held c.search_by_plan.new.out))) verb (c.search_by_plan.ensures.cut tested)
 
@@ -34,31 +33,28 @@ returns-in-Plan-clause-used g c = unused _ _ _ _
 pub returns-in-Command-clause-told : goal.returns-in-Command-clause-told
 returns-in-Command-clause-told g c =
     let verb : Run ≡ c.args.line.request.now.verb = rw c.in-Command.is at c.requires.asked in
-    let tested = (tested_by g.T.Tester.told g.T.Tester.command g.T.Tester.is_lenient g.T.Tester.answers g.T.Tester.faults g.T.Tester.failed g.T.Tester.is_split
-    c.search_by_command.new.tester) in
-    subst (λ (v : Verb). IfOk c.search_by_command.result (IsSearchSoFar v c.args.started c.args.line.request.now c.args.line.words.now tested (g.K.Sink.held c.args.out.now)
+    let tested = tested_by g.T.Tester c.search_by_command.new.tester in
+    subst (λ (v : Verb). IfOk c.search_by_command.result
+    (IsSearchSoFar v c.args.started c.args.line.request.now c.args.line.words.now tested (g.K.Sink.held c.args.out.now)
     (g.K.Sink.held c.search_by_command.new.out))) verb c.search_by_command.ensures.told
 
 pub returns-in-Command-clause-cut : goal.returns-in-Command-clause-cut
 returns-in-Command-clause-cut g c =
     let verb : Run ≡ c.args.line.request.now.verb = rw c.in-Command.is at c.requires.asked in
-    let tested = (tested_by g.T.Tester.told g.T.Tester.command g.T.Tester.is_lenient g.T.Tester.answers g.T.Tester.faults g.T.Tester.failed g.T.Tester.is_split
-    c.search_by_command.new.tester) in
+    let tested = tested_by g.T.Tester c.search_by_command.new.tester in
     subst (λ (v : Verb). IfErr c.search_by_command.result (λ fault. IsSearchCut v c.args.started c.args.line.request.now c.args.line.words.now tested
     (g.K.Sink.held c.args.out.now) (g.K.Sink.held c.search_by_command.new.out))) verb c.search_by_command.ensures.cut
 
 pub returns-in-Command-clause-cause : goal.returns-in-Command-clause-cause
 returns-in-Command-clause-cause g c =
     let verb : Run ≡ c.args.line.request.now.verb = rw c.in-Command.is at c.requires.asked in
-    let tested = (tested_by g.T.Tester.told g.T.Tester.command g.T.Tester.is_lenient g.T.Tester.answers g.T.Tester.faults g.T.Tester.failed g.T.Tester.is_split
-    c.search_by_command.new.tester) in
+    let tested = tested_by g.T.Tester c.search_by_command.new.tester in
     subst (λ (v : Verb). IfOk c.search_by_command.result (λ answer. HasCause (is_run v) (g.T.Tester.faults c.args.tester.now) tested answer.status)) verb
     c.search_by_command.ensures.cause
 
 pub returns-in-Command-clause-used : goal.returns-in-Command-clause-used
 returns-in-Command-clause-used g c =
     let verb : Run ≡ c.args.line.request.now.verb = rw c.in-Command.is at c.requires.asked in
-    let tested = (tested_by g.T.Tester.told g.T.Tester.command g.T.Tester.is_lenient g.T.Tester.answers g.T.Tester.faults g.T.Tester.failed g.T.Tester.is_split
-    c.search_by_command.new.tester) in
-    subst (λ (v : Verb). IsUsedIf (is_run v) c.args.line.request.now c.args.line.words.now (tested_by g.T.Tester.told g.T.Tester.command g.T.Tester.is_lenient g.T.Tester.answers g.T.Tester.faults g.T.Tester.failed g.T.Tester.is_split
-    c.args.tester.now) tested) verb c.search_by_command.ensures.used
+    let tested = tested_by g.T.Tester c.search_by_command.new.tester in
+    subst (λ (v : Verb). IsUsedIf (is_run v) c.args.line.request.now c.args.line.words.now (tested_by g.T.Tester c.args.tester.now) tested) verb
+    c.search_by_command.ensures.used

@@ -8,7 +8,8 @@ use Rattle.bf_program.proofs.search.search_by_command.Goals as goal
 pub returns-in_err-prepare-clause-cut : goal.returns-in_err-prepare-clause-cut
 returns-in_err-prepare-clause-cut g c =
     if_err _ c.from_residual.result
-    (tested_cut c.args.started c.args.line.request.now c.args.line.words.now _ _ _ _ (nothing_cut (g.T.Tester.told c.args.tester.now) c.args.started.history (begun_of c.args.started.first) _)
+    (tested_cut c.args.started c.args.line.request.now c.args.line.words.now _ _ _ _
+    (nothing_cut (g.T.Tester.told c.args.tester.now) c.args.started.history (begun_of c.args.started.first) _)
     c.in_err-prepare.ensures.err_told)
 
 pub returns-clause-told : goal.returns-clause-told

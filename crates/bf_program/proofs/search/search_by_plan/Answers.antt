@@ -10,7 +10,8 @@ pub returns-in_err-tester-clause-cut : goal.returns-in_err-tester-clause-cut
 returns-in_err-tester-clause-cut g c = λ tested.
     let plan = Some (plan_of c.args.line.request.now c.args.line.words.now) in
     if_err _ c.from_residual.result
-    (planned_cut c.args.started c.args.line.request.now c.args.line.words.now plan tested _ _ (nothing_cut plan c.args.started.history (begun_of c.args.started.first) _) refl)
+    (planned_cut c.args.started c.args.line.request.now c.args.line.words.now plan tested _ _
+    (nothing_cut plan c.args.started.history (begun_of c.args.started.first) _) refl)
 
 pub returns-clause-told : goal.returns-clause-told
 returns-clause-told g c = λ tested.

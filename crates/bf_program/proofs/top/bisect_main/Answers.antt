@@ -2,80 +2,83 @@ use Rattle.std.proofs.Common.{ℕ, Result, sym, subst}
 use Rattle.bf_output.specs.Output.{IsUsedFor, tests}
 use Rattle.bf_output.specs.Tested.{tested_by}
 use Rattle.bf_words.specs.declared.request.Request.{Request}
-use Rattle.bf_program.specs.Answers.{Met, IsFailedTest}
+use Rattle.bf_program.specs.Answers.{IsFailedTest}
+use Rattle.bf_program.specs.Devices.{Met, met, met_shelf, met_sink, met_source, met_tester}
 use Rattle.bf_program.proofs.Answering.{answered, read_cause, refused_any, shelf_cause, unloaded, unread}
 use Rattle.bf_program.proofs.Complete.{complete}
 use Rattle.bf_program.proofs.Planning.{plan_read}
 use Rattle.bf_program.proofs.Printing.{prints_log}
 use Rattle.bf_program.proofs.Using.{unused_for}
+use Rattle.bf_program.proofs.top.bisect_main.Given.{Over}
 use Rattle.bf_program.proofs.top.bisect_main.Goals as goal
+
+-- what the call met, where the words ask for something
+abbrev met_in : (g : Over) → goal.Joined-request g → Met
+met_in g c =
+    met c.args.words.now (met_source g.S.Source c.args.stream.now c.prepare-ready.new.stream)
+    (met_shelf g.F.Shelf c.args.shelf.now c.prepare-ready.new.shelf) (met_tester g.T.Tester c.args.tester.now c.conclude.new.tester)
+    (met_sink g.K.Sink c.args.out.now c.conclude.new.out)
+
+-- and where they are refused
+abbrev met_refused : (g : Over) → goal.After-refuse_words g → Met
+met_refused g c =
+    met c.args.words.now (met_source g.S.Source c.args.stream.now c.args.stream.now)
+    (met_shelf g.F.Shelf c.args.shelf.now c.args.shelf.now) (met_tester g.T.Tester c.args.tester.now c.args.tester.now)
+    (met_sink g.K.Sink c.args.out.now c.refuse_words.new.out)
 
 pub conclude-requires-clause-plan : goal.conclude-requires-clause-plan
 conclude-requires-clause-plan g c = λ κs within. plan_read c.args.words.now c.in-Ok.request c.in-Ok.ensures
 
 pub returns-in-Ok-clause-answers : goal.returns-in-Ok-clause-answers
 returns-in-Ok-clause-answers g c =
-    let met : Met = record {
-      given = record {
-        words = c.args.words.now;
-        files = g.F.Shelf.files c.args.shelf.now;
-        tested = tested_by g.T.Tester.told g.T.Tester.command g.T.Tester.is_lenient
-            g.T.Tester.answers g.T.Tester.faults g.T.Tester.failed g.T.Tester.is_split c.conclude.new.tester;
-      };
-      left = g.S.Source.left c.args.stream.now;
-      stream = record { before = g.S.Source.faults c.args.stream.now; now = g.S.Source.faults c.prepare-ready.new.stream };
-      shelf = record { before = g.F.Shelf.faults c.args.shelf.now; now = g.F.Shelf.faults c.prepare-ready.new.shelf };
-      before = g.K.Sink.held c.args.out.now;
-      after = g.K.Sink.held c.conclude.new.out;
-    } in
-    answered met c.in-Ok.request c.conclude.result c.in-Ok.ensures c.prepare-ready.result c.prepare-ready.ensures.output
-    (λ e. unread met c.in-Ok.request c.conclude.result c.in-Ok.ensures (c.prepare-ready.ensures.reads e) (c.prepare-ready.ensures.cause.failed e))
-    (λ e. unloaded met c.in-Ok.request c.conclude.result c.in-Ok.ensures (c.prepare-ready.ensures.asks e) (c.prepare-ready.ensures.file.failed e))
+    let all : Met = met_in g c in
+    answered all c.in-Ok.request c.conclude.result c.in-Ok.ensures c.prepare-ready.result c.prepare-ready.ensures.output
+    (λ e. unread all c.in-Ok.request c.conclude.result c.in-Ok.ensures (c.prepare-ready.ensures.reads e) (c.prepare-ready.ensures.cause.failed e))
+    (λ e. unloaded all c.in-Ok.request c.conclude.result c.in-Ok.ensures (c.prepare-ready.ensures.asks e) (c.prepare-ready.ensures.file.failed e))
     c.conclude.ensures.own c.conclude.ensures.told
 
 pub returns-in-Ok-clause-complete : goal.returns-in-Ok-clause-complete
 returns-in-Ok-clause-complete g c =
-    complete _ _ _ c.conclude.result (returns-in-Ok-clause-answers g c) c.conclude.ensures.write (λ place e. (c.conclude.ensures.test place e).rose)
+    complete (met_in g c) c.conclude.result (returns-in-Ok-clause-answers g c) c.conclude.ensures.write (λ place e. (c.conclude.ensures.test place e).rose)
 
 pub returns-in-Ok-clause-log : goal.returns-in-Ok-clause-log
-returns-in-Ok-clause-log g c = prints_log _ c.conclude.result (returns-in-Ok-clause-answers g c)
+returns-in-Ok-clause-log g c = prints_log (met_in g c) c.conclude.result (returns-in-Ok-clause-answers g c)
 
 pub returns-in-Ok-clause-read : goal.returns-in-Ok-clause-read
-returns-in-Ok-clause-read g c = read_cause _ c.conclude.result (returns-in-Ok-clause-answers g c)
+returns-in-Ok-clause-read g c = read_cause (met_in g c) c.conclude.result (returns-in-Ok-clause-answers g c)
 
 pub returns-in-Ok-clause-file : goal.returns-in-Ok-clause-file
-returns-in-Ok-clause-file g c = shelf_cause _ c.conclude.result (returns-in-Ok-clause-answers g c)
+returns-in-Ok-clause-file g c = shelf_cause (met_in g c) c.conclude.result (returns-in-Ok-clause-answers g c)
 
 pub returns-in-Ok-clause-test : goal.returns-in-Ok-clause-test
 returns-in-Ok-clause-test g c = λ place e.
-    let tested = (tested_by g.T.Tester.told g.T.Tester.command g.T.Tester.is_lenient g.T.Tester.answers g.T.Tester.faults g.T.Tester.failed g.T.Tester.is_split
-    c.conclude.new.tester) in
-    subst (λ (r : Result Request ℕ). IsFailedTest (tests r) (g.T.Tester.faults c.args.tester.now) tested place) (sym c.in-Ok.ensures) (c.conclude.ensures.test place e)
+    let tested = tested_by g.T.Tester c.conclude.new.tester in
+    subst (λ (r : Result Request ℕ). IsFailedTest (tests r) (g.T.Tester.faults c.args.tester.now) tested place) (sym c.in-Ok.ensures)
+    (c.conclude.ensures.test place e)
 
 pub returns-in-Ok-clause-used : goal.returns-in-Ok-clause-used
 returns-in-Ok-clause-used g c =
-    let before = (tested_by g.T.Tester.told g.T.Tester.command g.T.Tester.is_lenient g.T.Tester.answers g.T.Tester.faults g.T.Tester.failed g.T.Tester.is_split
-    c.args.tester.now) in
-    let after = (tested_by g.T.Tester.told g.T.Tester.command g.T.Tester.is_lenient g.T.Tester.answers g.T.Tester.faults g.T.Tester.failed g.T.Tester.is_split
-    c.conclude.new.tester) in
+    let before = tested_by g.T.Tester c.args.tester.now in
+    let after = tested_by g.T.Tester c.conclude.new.tester in
     subst (λ (r : Result Request ℕ). IsUsedFor r c.args.words.now before after) (sym c.in-Ok.ensures) c.conclude.ensures.used
 
 pub returns-in-Err-clause-answers : goal.returns-in-Err-clause-answers
 returns-in-Err-clause-answers g c =
-    refused_any _ c.in-Err.fault c.refuse_words.result c.in-Err.ensures c.refuse_words.ensures.own c.refuse_words.ensures.told
+    refused_any (met_refused g c) c.in-Err.fault c.refuse_words.result c.in-Err.ensures c.refuse_words.ensures.own c.refuse_words.ensures.told
 
 pub returns-in-Err-clause-complete : goal.returns-in-Err-clause-complete
 returns-in-Err-clause-complete g c =
-    complete _ _ _ c.refuse_words.result (returns-in-Err-clause-answers g c) c.refuse_words.ensures.write (λ place e. absurd (c.refuse_words.ensures.no_test place e))
+    complete (met_refused g c) c.refuse_words.result (returns-in-Err-clause-answers g c) c.refuse_words.ensures.write
+    (λ place e. absurd (c.refuse_words.ensures.no_test place e))
 
 pub returns-in-Err-clause-log : goal.returns-in-Err-clause-log
-returns-in-Err-clause-log g c = prints_log _ c.refuse_words.result (returns-in-Err-clause-answers g c)
+returns-in-Err-clause-log g c = prints_log (met_refused g c) c.refuse_words.result (returns-in-Err-clause-answers g c)
 
 pub returns-in-Err-clause-read : goal.returns-in-Err-clause-read
-returns-in-Err-clause-read g c = read_cause _ c.refuse_words.result (returns-in-Err-clause-answers g c)
+returns-in-Err-clause-read g c = read_cause (met_refused g c) c.refuse_words.result (returns-in-Err-clause-answers g c)
 
 pub returns-in-Err-clause-file : goal.returns-in-Err-clause-file
-returns-in-Err-clause-file g c = shelf_cause _ c.refuse_words.result (returns-in-Err-clause-answers g c)
+returns-in-Err-clause-file g c = shelf_cause (met_refused g c) c.refuse_words.result (returns-in-Err-clause-answers g c)
 
 pub returns-in-Err-clause-test : goal.returns-in-Err-clause-test
 returns-in-Err-clause-test g c = λ place e. absurd (c.refuse_words.ensures.no_test place e)

@@ -12,23 +12,27 @@ returns-in_default-clause-refused c =
 pub returns-then-is_word-clause-word : goal.returns-then-is_word-clause-word
 returns-then-is_word-clause-word c =
     let words : words_of c.args.text.now ≡ with_word c.in-Some.word (words_of c.in-Some.rest.now) = rw c.in-Some.is at c.in_ok-word.ensures.words in
-    let start : is_word (codes "start") c.in-Some.word ≡ true = ap (is_word (codes "start")) (sym c.as_slice.ensures) ∙ sym c.is_word.ensures ∙ c.if-is_word.true in
+    let start : is_word (codes "start") c.in-Some.word ≡ true = ap (is_word (codes "start")) (sym c.as_slice.ensures) ∙ sym c.is_word.ensures ∙
+    c.if-is_word.true in
     rw (words, starts c.in-Some.word (words_of c.in-Some.rest.now) start) c.read_start.ensures.word
 
 pub returns-then-is_word-clause-refused : goal.returns-then-is_word-clause-refused
 returns-then-is_word-clause-refused c =
     let words : words_of c.args.text.now ≡ with_word c.in-Some.word (words_of c.in-Some.rest.now) = rw c.in-Some.is at c.in_ok-word.ensures.words in
-    let start : is_word (codes "start") c.in-Some.word ≡ true = ap (is_word (codes "start")) (sym c.as_slice.ensures) ∙ sym c.is_word.ensures ∙ c.if-is_word.true in
+    let start : is_word (codes "start") c.in-Some.word ≡ true = ap (is_word (codes "start")) (sym c.as_slice.ensures) ∙ sym c.is_word.ensures ∙
+    c.if-is_word.true in
     rw (words, starts c.in-Some.word (words_of c.in-Some.rest.now) start) c.read_start.ensures.refused
 
 pub returns-else-is_word-clause-word : goal.returns-else-is_word-clause-word
 returns-else-is_word-clause-word c =
     let words : words_of c.args.text.now ≡ with_word c.in-Some.word (words_of c.in-Some.rest.now) = rw c.in-Some.is at c.in_ok-word.ensures.words in
-    let other : is_word (codes "start") c.in-Some.word ≡ false = ap (is_word (codes "start")) (sym c.as_slice.ensures) ∙ sym c.is_word.ensures ∙ c.if-is_word.false in
+    let other : is_word (codes "start") c.in-Some.word ≡ false = ap (is_word (codes "start")) (sym c.as_slice.ensures) ∙ sym c.is_word.ensures ∙
+    c.if-is_word.false in
     rw (words, marks c.in-Some.word (words_of c.in-Some.rest.now) other) c.read_mark.ensures.word
 
 pub returns-else-is_word-clause-refused : goal.returns-else-is_word-clause-refused
 returns-else-is_word-clause-refused c =
     let words : words_of c.args.text.now ≡ with_word c.in-Some.word (words_of c.in-Some.rest.now) = rw c.in-Some.is at c.in_ok-word.ensures.words in
-    let other : is_word (codes "start") c.in-Some.word ≡ false = ap (is_word (codes "start")) (sym c.as_slice.ensures) ∙ sym c.is_word.ensures ∙ c.if-is_word.false in
+    let other : is_word (codes "start") c.in-Some.word ≡ false = ap (is_word (codes "start")) (sym c.as_slice.ensures) ∙ sym c.is_word.ensures ∙
+    c.if-is_word.false in
     rw (words, marks c.in-Some.word (words_of c.in-Some.rest.now) other) c.read_mark.ensures.refused

@@ -11,4 +11,5 @@ returns-in-Some-clause-line c =
     (none_before (λ b. b == 10) c.args.text.now c.in-Some.end c.in-Some.ensures)
 
 pub returns-in-None-clause-line : goal.returns-in-None-clause-line
-returns-in-None-clause-line c = only_line c.args.text.now (sym c.is_empty.ensures ∙ c.if-is_empty.false) (none_at_all (λ b. b == 10) c.args.text.now c.in-None.ensures)
+returns-in-None-clause-line c = only_line c.args.text.now (sym c.is_empty.ensures ∙ c.if-is_empty.false)
+    (none_at_all (λ b. b == 10) c.args.text.now c.in-None.ensures)

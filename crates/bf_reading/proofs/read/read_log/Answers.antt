@@ -8,7 +8,8 @@ pub returns-in_err-command-clause-refused : goal.returns-in_err-command-clause-r
 returns-in_err-command-clause-refused c =
     let p = err_from_is_err_and c.from_residual.result c.from_residual.ensures.1 in
     rw (p.1, p.2, c.loop-text.invariant.read, c.in-Some.ensures.line)
-    (line_refused c.in_err-command.field-0.0 c.loop-text.lines (c.loop-text.line + 1) c.in-Some.text.now (lines_of c.in-Some.after.now) c.in_err-command.ensures.refused)
+    (line_refused c.in_err-command.field-0.0 c.loop-text.lines (c.loop-text.line + 1) c.in-Some.text.now (lines_of c.in-Some.after.now)
+    c.in_err-command.ensures.refused)
 
 pub loop-text-preserved-in_ok-push : goal.loop-text-preserved-in_ok-push
 loop-text-preserved-in_ok-push c =
@@ -17,7 +18,8 @@ loop-text-preserved-in_ok-push c =
     record {
       read = c.loop-text.invariant.read
           ∙ ap (λ (ls : List (List ℕ)). behind_lines c.loop-text.lines (read_lines (c.loop-text.line + 1) ls)) c.in-Some.ensures.line
-          ∙ line_read c.loop-text.lines c.push.new.self (c.loop-text.line + 1) c.in-Some.text.now (lines_of c.in-Some.after.now) c.in-Some-2.command line number c.in_ok-push.ensures.ok;
+          ∙ line_read c.loop-text.lines c.push.new.self (c.loop-text.line + 1) c.in-Some.text.now (lines_of c.in-Some.after.now) c.in-Some-2.command line number
+          c.in_ok-push.ensures.ok;
       number = omega (arith, c.loop-text.invariant.number, c.in-Some.ensures.shorter);
     }
 

@@ -9,7 +9,8 @@ pub returns-in_err-take_word-clause-refused : goal.returns-in_err-take_word-clau
 returns-in_err-take_word-clause-refused c =
     let p = err_from_is_err_and c.from_residual-in_err-take_word.result c.from_residual-in_err-take_word.ensures.1 in
     let words : words_of c.loop-start.rest.now ≡ with_word c.in-Some.word (words_of c.in-Some.after.now) = rw c.in-Some.is at c.in_ok-word.ensures.words in
-    rw (p.1, p.2, c.loop-start.invariant, words) (word_refused c.in_err-take_word.field-0.0 (words_of c.in-Some.after.now) c.loop-start.start c.in-Some.word c.in_err-take_word.ensures.refused)
+    rw (p.1, p.2, c.loop-start.invariant, words) (word_refused c.in_err-take_word.field-0.0 (words_of c.in-Some.after.now) c.loop-start.start c.in-Some.word
+    c.in_err-take_word.ensures.refused)
 
 pub loop-start-preserved : goal.loop-start-preserved
 loop-start-preserved c =

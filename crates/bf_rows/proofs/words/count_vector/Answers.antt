@@ -8,7 +8,13 @@ use Rattle.bf_rows.proofs.words.count_vector.Goals as goal
 pub overflow_add-result : goal.overflow_add-result
 overflow_add-result c =
     let fits : (k : ℕ) → get_or c.args.words.now k 0 < 2 ^ 64 = λ k. omega (arith, c.type_inv.words k) in
-    sum_fits w64 0 c.count_lanes.result (omega (arith, lane_sum c.args.words.now c.count_lanes.result c.args.at c.count_lanes.ensures, ones_of_vector c.args.words.now c.args.at c.requires fits))
+    sum_fits w64 0 c.count_lanes.result (omega (
+      arith,
+      lane_sum c.args.words.now c.count_lanes.result c.args.at c.count_lanes.ensures,
+      ones_of_vector
+          c.args.words.now c.args.at c.requires fits,
+    ))
 
 pub returns-clause-ones : goal.returns-clause-ones
-returns-clause-ones c = fold-sum 0 c.count_lanes.result ∙ zero-add (sum_l c.count_lanes.result) ∙ lane_sum c.args.words.now c.count_lanes.result c.args.at c.count_lanes.ensures
+returns-clause-ones c = fold-sum 0 c.count_lanes.result ∙ zero-add (sum_l c.count_lanes.result) ∙ lane_sum c.args.words.now c.count_lanes.result c.args.at
+    c.count_lanes.ensures

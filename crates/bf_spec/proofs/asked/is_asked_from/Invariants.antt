@@ -13,8 +13,10 @@ invariant-loop-scratch l = record {
   nodes : AreNodes l.reach l.nodes.items;
   extends : Extends l.reach l.fn.nodes.items l.nodes.items;
   scratch : length l.scratch ≡ length l.reach;
-  to : (d : Node) → IsAsked l.reach (outcomes_of_table l.table) (slice_index_or l.fn.nodes.items l.start d).state.search l.place → IsAsked l.reach (outcomes_of_table l.table) (slice_index_or l.nodes.items l.index d).state.search l.place;
-  from : (d : Node) → IsAsked l.reach (outcomes_of_table l.table) (slice_index_or l.nodes.items l.index d).state.search l.place → IsAsked l.reach (outcomes_of_table l.table) (slice_index_or l.fn.nodes.items l.start d).state.search l.place;
+  to : (d : Node) → IsAsked l.reach (outcomes_of_table l.table) (slice_index_or l.fn.nodes.items l.start d).state.search l.place
+      → IsAsked l.reach (outcomes_of_table l.table) (slice_index_or l.nodes.items l.index d).state.search l.place;
+  from : (d : Node) → IsAsked l.reach (outcomes_of_table l.table) (slice_index_or l.nodes.items l.index d).state.search l.place
+      → IsAsked l.reach (outcomes_of_table l.table) (slice_index_or l.fn.nodes.items l.start d).state.search l.place;
 }
 
 abbrev pub decreases-loop-scratch : goal.decreases-loop-scratch

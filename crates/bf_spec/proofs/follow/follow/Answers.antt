@@ -10,7 +10,8 @@ use Rattle.bf_spec.specs.declared.node.Node.{Node}
 use Rattle.bf_guesses.specs.Ends.{marks_of}
 use Rattle.bf_spec.specs.Walks.{is_over, run_below, behind}
 use Rattle.bf_spec.proofs.Growing.{extends_trans, extends_nodes, extends_length, extends_at, extends_same}
-use Rattle.bf_spec.proofs.Following.{behind_same, behind_used, marks_marked, marks_after, same_at, halt_answered, halt_waits, halt_aborted, marked_asks, step_less, step_over, step_on}
+use Rattle.bf_spec.proofs.Following.{behind_same, behind_used, marks_marked, marks_after, same_at, halt_answered, halt_waits, halt_aborted, marked_asks}
+use Rattle.bf_spec.proofs.Following.{step_less, step_over, step_on}
 use Rattle.bf_spec.proofs.follow.follow.Goals as goal
 
 pub loop-place-init : goal.loop-place-init
@@ -29,11 +30,14 @@ pub returns-in-Answered-clause-halts : goal.returns-in-Answered-clause-halts
 returns-in-Answered-clause-halts c = λ d. (
   c.loop-place.invariant.within,
   λ b.
-      let halt = halt_answered c.args.reach.now (outcomes_of_table c.args.table.now) c.loop-place.left c.loop-place.nodes.items c.loop-place.index c.index.result.now c.loop-place.invariant.nodes c.loop-place.invariant.within c.index.ensures b c.in-Answered.ensures in (
+      let halt = halt_answered c.args.reach.now (outcomes_of_table c.args.table.now) c.loop-place.left c.loop-place.nodes.items c.loop-place.index
+      c.index.result.now c.loop-place.invariant.nodes c.loop-place.invariant.within c.index.ensures b c.in-Answered.ensures in (
         halt.0,
         c.loop-place.invariant.same d
-            ∙ ap (λ (n : Node). behind c.loop-place.trail.entries.items c.loop-place.trail.used.items (run_below c.args.reach.now (outcomes_of_table c.args.table.now) c.loop-place.left n))
-            (same_at c.args.reach.now (outcomes_of_table c.args.table.now) c.loop-place.left c.loop-place.nodes.items c.loop-place.index c.index.result.now c.loop-place.invariant.nodes c.loop-place.invariant.within c.index.ensures d b)
+            ∙ ap (λ (n : Node). behind c.loop-place.trail.entries.items c.loop-place.trail.used.items
+            (run_below c.args.reach.now (outcomes_of_table c.args.table.now) c.loop-place.left n))
+            (same_at c.args.reach.now (outcomes_of_table c.args.table.now) c.loop-place.left c.loop-place.nodes.items c.loop-place.index c.index.result.now
+            c.loop-place.invariant.nodes c.loop-place.invariant.within c.index.ensures d b)
             ∙ ap (λ (r : Run). behind c.loop-place.trail.entries.items c.loop-place.trail.used.items r) halt.1,
         c.loop-place.invariant.path b,
       ),
@@ -43,12 +47,15 @@ pub returns-in-Waits-clause-halts : goal.returns-in-Waits-clause-halts
 returns-in-Waits-clause-halts c = λ d. (
   c.loop-place.invariant.within,
   λ b.
-      let halt = halt_waits c.args.reach.now (outcomes_of_table c.args.table.now) c.loop-place.left c.loop-place.nodes.items c.loop-place.index c.index.result.now c.loop-place.invariant.nodes c.loop-place.invariant.within c.index.ensures b c.in-Waits.ensures in (
+      let halt = halt_waits c.args.reach.now (outcomes_of_table c.args.table.now) c.loop-place.left c.loop-place.nodes.items c.loop-place.index
+      c.index.result.now c.loop-place.invariant.nodes c.loop-place.invariant.within c.index.ensures b c.in-Waits.ensures in (
         halt.0,
         halt.1,
         c.loop-place.invariant.same d
-            ∙ ap (λ (n : Node). behind c.loop-place.trail.entries.items c.loop-place.trail.used.items (run_below c.args.reach.now (outcomes_of_table c.args.table.now) c.loop-place.left n))
-            (same_at c.args.reach.now (outcomes_of_table c.args.table.now) c.loop-place.left c.loop-place.nodes.items c.loop-place.index c.index.result.now c.loop-place.invariant.nodes c.loop-place.invariant.within c.index.ensures d b)
+            ∙ ap (λ (n : Node). behind c.loop-place.trail.entries.items c.loop-place.trail.used.items
+            (run_below c.args.reach.now (outcomes_of_table c.args.table.now) c.loop-place.left n))
+            (same_at c.args.reach.now (outcomes_of_table c.args.table.now) c.loop-place.left c.loop-place.nodes.items c.loop-place.index c.index.result.now
+            c.loop-place.invariant.nodes c.loop-place.invariant.within c.index.ensures d b)
             ∙ ap (λ (r : Run). behind c.loop-place.trail.entries.items c.loop-place.trail.used.items r) halt.2,
         c.loop-place.invariant.path b,
       ),
@@ -59,39 +66,52 @@ returns-in-Aborted-clause-halts c = λ d. (
   c.loop-place.invariant.within,
   λ b. (
     c.loop-place.invariant.same d
-        ∙ ap (λ (n : Node). behind c.loop-place.trail.entries.items c.loop-place.trail.used.items (run_below c.args.reach.now (outcomes_of_table c.args.table.now) c.loop-place.left n))
-        (same_at c.args.reach.now (outcomes_of_table c.args.table.now) c.loop-place.left c.loop-place.nodes.items c.loop-place.index c.index.result.now c.loop-place.invariant.nodes c.loop-place.invariant.within c.index.ensures d b)
+        ∙ ap (λ (n : Node). behind c.loop-place.trail.entries.items c.loop-place.trail.used.items
+        (run_below c.args.reach.now (outcomes_of_table c.args.table.now) c.loop-place.left n))
+        (same_at c.args.reach.now (outcomes_of_table c.args.table.now) c.loop-place.left c.loop-place.nodes.items c.loop-place.index c.index.result.now
+        c.loop-place.invariant.nodes c.loop-place.invariant.within c.index.ensures d b)
         ∙ ap (λ (r : Run). behind c.loop-place.trail.entries.items c.loop-place.trail.used.items r)
-        (halt_aborted c.args.reach.now (outcomes_of_table c.args.table.now) c.loop-place.left c.loop-place.nodes.items c.loop-place.index c.index.result.now c.loop-place.invariant.nodes c.loop-place.invariant.within c.index.ensures b c.in-Aborted.place c.in-Aborted.outcome c.in-Aborted.ensures)
-        ∙ behind_used c.loop-place.trail.entries.items c.loop-place.trail.used.items c.in-Aborted.place c.in-Aborted.outcome (ended [] (slice_index_or c.loop-place.nodes.items c.loop-place.index b).state.search (Aborted c.in-Aborted.place c.in-Aborted.outcome))
-        ∙ sym (behind_same c.take.new.self.entries.items c.loop-place.trail.entries.items c.take.new.self.used.items (c.loop-place.trail.used.items ++ (c.in-Aborted.place, c.in-Aborted.outcome) ∷ [])
-        (ended [] (slice_index_or c.loop-place.nodes.items c.loop-place.index b).state.search (Aborted c.in-Aborted.place c.in-Aborted.outcome)) (ap (λ v. v.items) c.in_ok-take-in-Aborted.ensures.entries) c.in_ok-take-in-Aborted.ensures.used),
+        (halt_aborted c.args.reach.now (outcomes_of_table c.args.table.now) c.loop-place.left c.loop-place.nodes.items c.loop-place.index c.index.result.now
+        c.loop-place.invariant.nodes c.loop-place.invariant.within c.index.ensures b c.in-Aborted.place c.in-Aborted.outcome c.in-Aborted.ensures)
+        ∙ behind_used c.loop-place.trail.entries.items c.loop-place.trail.used.items c.in-Aborted.place c.in-Aborted.outcome
+        (ended [] (slice_index_or c.loop-place.nodes.items c.loop-place.index b).state.search (Aborted c.in-Aborted.place c.in-Aborted.outcome))
+        ∙ sym (behind_same c.take.new.self.entries.items c.loop-place.trail.entries.items c.take.new.self.used.items
+        (c.loop-place.trail.used.items ++ (c.in-Aborted.place, c.in-Aborted.outcome) ∷ [])
+        (ended [] (slice_index_or c.loop-place.nodes.items c.loop-place.index b).state.search (Aborted c.in-Aborted.place c.in-Aborted.outcome))
+        (ap (λ v. v.items) c.in_ok-take-in-Aborted.ensures.entries) c.in_ok-take-in-Aborted.ensures.used),
     c.loop-place.invariant.path b ∙ sym (ap (λ v. marks_of v.items) c.in_ok-take-in-Aborted.ensures.entries),
   ),
 )
 
 pub child-requires-clause-asks : goal.child-requires-clause-asks
 child-requires-clause-asks c = λ d.
-    marked_asks c.args.reach.now (outcomes_of_table c.args.table.now) c.loop-place.left c.loop-place.nodes.items c.loop-place.index c.index.result.now c.loop-place.invariant.nodes c.loop-place.invariant.within c.index.ensures c.in-Marked.place c.in-Marked.outcome c.in-Marked.mark c.in-Marked.ensures d
+    marked_asks c.args.reach.now (outcomes_of_table c.args.table.now) c.loop-place.left c.loop-place.nodes.items c.loop-place.index c.index.result.now
+    c.loop-place.invariant.nodes c.loop-place.invariant.within c.index.ensures c.in-Marked.place c.in-Marked.outcome c.in-Marked.mark c.in-Marked.ensures d
 
 pub returns-in_err-next-in-Marked-clause-extends : goal.returns-in_err-next-in-Marked-clause-extends
-returns-in_err-next-in-Marked-clause-extends c = extends_trans c.args.reach.now c.args.nodes.now.items c.loop-place.nodes.items c.child.new.nodes.items c.loop-place.invariant.extends c.in_err-next-in-Marked.ensures.extends
+returns-in_err-next-in-Marked-clause-extends c = extends_trans c.args.reach.now c.args.nodes.now.items c.loop-place.nodes.items c.child.new.nodes.items
+    c.loop-place.invariant.extends c.in_err-next-in-Marked.ensures.extends
 
 pub returns-in_err-take-in-Marked-clause-extends : goal.returns-in_err-take-in-Marked-clause-extends
-returns-in_err-take-in-Marked-clause-extends c = extends_trans c.args.reach.now c.args.nodes.now.items c.loop-place.nodes.items c.child.new.nodes.items c.loop-place.invariant.extends c.in_ok-next-in-Marked.ensures.extends
+returns-in_err-take-in-Marked-clause-extends c = extends_trans c.args.reach.now c.args.nodes.now.items c.loop-place.nodes.items c.child.new.nodes.items
+    c.loop-place.invariant.extends c.in_ok-next-in-Marked.ensures.extends
 
 pub returns-in_err-mark-in-Marked-clause-extends : goal.returns-in_err-mark-in-Marked-clause-extends
-returns-in_err-mark-in-Marked-clause-extends c = extends_trans c.args.reach.now c.args.nodes.now.items c.loop-place.nodes.items c.child.new.nodes.items c.loop-place.invariant.extends c.in_ok-next-in-Marked.ensures.extends
+returns-in_err-mark-in-Marked-clause-extends c = extends_trans c.args.reach.now c.args.nodes.now.items c.loop-place.nodes.items c.child.new.nodes.items
+    c.loop-place.invariant.extends c.in_ok-next-in-Marked.ensures.extends
 
 pub returns-in_err-warn-in-Marked-clause-extends : goal.returns-in_err-warn-in-Marked-clause-extends
-returns-in_err-warn-in-Marked-clause-extends c = extends_trans c.args.reach.now c.args.nodes.now.items c.loop-place.nodes.items c.child.new.nodes.items c.loop-place.invariant.extends c.in_ok-next-in-Marked.ensures.extends
+returns-in_err-warn-in-Marked-clause-extends c = extends_trans c.args.reach.now c.args.nodes.now.items c.loop-place.nodes.items c.child.new.nodes.items
+    c.loop-place.invariant.extends c.in_ok-next-in-Marked.ensures.extends
 
 pub returns-then-is_over-clause-extends : goal.returns-then-is_over-clause-extends
-returns-then-is_over-clause-extends c = extends_trans c.args.reach.now c.args.nodes.now.items c.loop-place.nodes.items c.child.new.nodes.items c.loop-place.invariant.extends c.in_ok-next-in-Marked.ensures.extends
+returns-then-is_over-clause-extends c = extends_trans c.args.reach.now c.args.nodes.now.items c.loop-place.nodes.items c.child.new.nodes.items
+    c.loop-place.invariant.extends c.in_ok-next-in-Marked.ensures.extends
 
 pub returns-then-is_over-clause-halts : goal.returns-then-is_over-clause-halts
 returns-then-is_over-clause-halts c = λ d. (
-  extends_length c.args.reach.now c.loop-place.nodes.items c.child.new.nodes.items c.loop-place.index c.in_ok-next-in-Marked.ensures.extends c.loop-place.invariant.within,
+  extends_length c.args.reach.now c.loop-place.nodes.items c.child.new.nodes.items c.loop-place.index c.in_ok-next-in-Marked.ensures.extends
+      c.loop-place.invariant.within,
   c.in_ok-next-in-Marked.ensures.child.0,
   λ b.
       let entries_are : c.mark.new.self.entries.items ≡ c.loop-place.trail.entries.items ++ Marked c.in-Marked.mark c.in-Marked.place ∷ []
@@ -100,23 +120,32 @@ returns-then-is_over-clause-halts c = λ d. (
       = ap (λ v. v.items) c.in_ok-mark-in-Marked.ensures.used ∙ c.in_ok-take-in-Marked.ensures.used in
       let over : is_over (marked_one c.loop-place.left) ≡ true = ap is_over (sym c.one_less-left.ensures) ∙ sym c.is_over.ensures ∙ c.if-is_over.true in (
         c.loop-place.invariant.same d
-            ∙ step_over c.args.reach.now (outcomes_of_table c.args.table.now) c.loop-place.left c.loop-place.nodes.items c.loop-place.index c.index.result.now c.loop-place.invariant.nodes c.loop-place.invariant.within c.index.ensures
-            c.in-Marked.place c.in-Marked.outcome c.in-Marked.mark c.in-Marked.ensures c.child.new.nodes.items c.in_ok-next-in-Marked.next c.in_ok-next-in-Marked.ensures.extends c.in_ok-next-in-Marked.ensures.child
+            ∙ step_over c.args.reach.now (outcomes_of_table c.args.table.now) c.loop-place.left c.loop-place.nodes.items c.loop-place.index c.index.result.now
+            c.loop-place.invariant.nodes c.loop-place.invariant.within c.index.ensures
+            c.in-Marked.place c.in-Marked.outcome c.in-Marked.mark c.in-Marked.ensures c.child.new.nodes.items c.in_ok-next-in-Marked.next
+            c.in_ok-next-in-Marked.ensures.extends c.in_ok-next-in-Marked.ensures.child
             d b c.loop-place.trail.entries.items c.loop-place.trail.used.items over
-            ∙ sym (behind_same c.mark.new.self.entries.items (c.loop-place.trail.entries.items ++ Marked c.in-Marked.mark c.in-Marked.place ∷ []) c.mark.new.self.used.items (c.loop-place.trail.used.items ++ (c.in-Marked.place, c.in-Marked.outcome) ∷ [])
-            (ended [] (mark (slice_index_or c.child.new.nodes.items c.loop-place.index b).state.search c.in-Marked.mark c.in-Marked.place) Leg) entries_are used_are),
+            ∙ sym (behind_same c.mark.new.self.entries.items (c.loop-place.trail.entries.items ++ Marked c.in-Marked.mark c.in-Marked.place ∷ [])
+            c.mark.new.self.used.items (c.loop-place.trail.used.items ++ (c.in-Marked.place, c.in-Marked.outcome) ∷ [])
+            (ended [] (mark (slice_index_or c.child.new.nodes.items c.loop-place.index b).state.search c.in-Marked.mark c.in-Marked.place) Leg) entries_are
+            used_are),
         c.in_ok-next-in-Marked.ensures.child.1 b
             ∙ ap (λ (ms : List Mark). ms ++ c.in-Marked.mark ∷ []) (c.loop-place.invariant.path b)
             ∙ sym (ap marks_of entries_are ∙ marks_marked c.loop-place.trail.entries.items c.in-Marked.mark c.in-Marked.place),
-        ap (λ (n : Node). n.step.ask) (extends_at c.args.reach.now c.loop-place.nodes.items c.child.new.nodes.items c.loop-place.index b c.in_ok-next-in-Marked.ensures.extends c.loop-place.invariant.within)
-            ∙ marked_asks c.args.reach.now (outcomes_of_table c.args.table.now) c.loop-place.left c.loop-place.nodes.items c.loop-place.index c.index.result.now c.loop-place.invariant.nodes c.loop-place.invariant.within c.index.ensures c.in-Marked.place c.in-Marked.outcome c.in-Marked.mark c.in-Marked.ensures b,
+        ap (λ (n : Node). n.step.ask) (extends_at c.args.reach.now c.loop-place.nodes.items c.child.new.nodes.items c.loop-place.index b
+            c.in_ok-next-in-Marked.ensures.extends c.loop-place.invariant.within)
+            ∙ marked_asks c.args.reach.now (outcomes_of_table c.args.table.now) c.loop-place.left c.loop-place.nodes.items c.loop-place.index c.index.result.now
+            c.loop-place.invariant.nodes c.loop-place.invariant.within c.index.ensures c.in-Marked.place c.in-Marked.outcome c.in-Marked.mark
+            c.in-Marked.ensures b,
       ),
 )
 
 pub loop-place-smaller : goal.loop-place-smaller
 loop-place-smaller c =
-    step_less c.args.reach.now (outcomes_of_table c.args.table.now) c.loop-place.left c.loop-place.nodes.items c.loop-place.index c.index.result.now c.loop-place.invariant.nodes c.loop-place.invariant.within c.index.ensures
-    c.in-Marked.place c.in-Marked.outcome c.in-Marked.mark c.in-Marked.ensures c.child.new.nodes.items c.in_ok-next-in-Marked.next c.in_ok-next-in-Marked.ensures.extends c.in_ok-next-in-Marked.ensures.child
+    step_less c.args.reach.now (outcomes_of_table c.args.table.now) c.loop-place.left c.loop-place.nodes.items c.loop-place.index c.index.result.now
+    c.loop-place.invariant.nodes c.loop-place.invariant.within c.index.ensures
+    c.in-Marked.place c.in-Marked.outcome c.in-Marked.mark c.in-Marked.ensures c.child.new.nodes.items c.in_ok-next-in-Marked.next
+    c.in_ok-next-in-Marked.ensures.extends c.in_ok-next-in-Marked.ensures.child
 
 pub loop-place-preserved : goal.loop-place-preserved
 loop-place-preserved c =
@@ -125,14 +154,17 @@ loop-place-preserved c =
     let marked : c.mark.new.self.entries.items ≡ before
     = c.in_ok-mark-in-Marked.ensures.entries ∙ ap (λ v. v.items ++ Marked c.in-Marked.mark c.in-Marked.place ∷ []) c.in_ok-take-in-Marked.ensures.entries in
     let entries_are : c.warn.new.self.entries.items ≡ before ++ map (λ q. SkippedBase q) warned
-    = c.in_ok-warn-in-Marked.ensures.entries ∙ ap (λ (xs : List Entry). xs ++ map (λ q. SkippedBase q) c.as_slice.result.now) marked ∙ ap (λ (ps : List ℕ). before ++ map (λ q. SkippedBase q) ps) c.as_slice.ensures in
+    = c.in_ok-warn-in-Marked.ensures.entries ∙ ap (λ (xs : List Entry). xs ++ map (λ q. SkippedBase q) c.as_slice.result.now) marked ∙ ap
+    (λ (ps : List ℕ). before ++ map (λ q. SkippedBase q) ps) c.as_slice.ensures in
     let used_are : c.warn.new.self.used.items ≡ c.loop-place.trail.used.items ++ (c.in-Marked.place, c.in-Marked.outcome) ∷ []
     = ap (λ v. v.items) (c.in_ok-warn-in-Marked.ensures.used ∙ c.in_ok-mark-in-Marked.ensures.used) ∙ c.in_ok-take-in-Marked.ensures.used in
     let on : is_over c.one_less-left.result ≡ false = sym c.is_over.ensures ∙ c.if-is_over.false in
     record {
       within = c.in_ok-next-in-Marked.ensures.child.0;
-      nodes = extends_nodes c.args.reach.now c.loop-place.nodes.items c.child.new.nodes.items c.in_ok-next-in-Marked.ensures.extends c.loop-place.invariant.nodes;
-      extends = extends_trans c.args.reach.now c.args.nodes.now.items c.loop-place.nodes.items c.child.new.nodes.items c.loop-place.invariant.extends c.in_ok-next-in-Marked.ensures.extends;
+      nodes = extends_nodes c.args.reach.now c.loop-place.nodes.items c.child.new.nodes.items c.in_ok-next-in-Marked.ensures.extends
+          c.loop-place.invariant.nodes;
+      extends = extends_trans c.args.reach.now c.args.nodes.now.items c.loop-place.nodes.items c.child.new.nodes.items c.loop-place.invariant.extends
+          c.in_ok-next-in-Marked.ensures.extends;
       on = on;
       path = λ d.
           c.in_ok-next-in-Marked.ensures.child.1 d
@@ -140,10 +172,17 @@ loop-place-preserved c =
           ∙ sym (ap marks_of entries_are ∙ marks_after before warned ∙ marks_marked c.loop-place.trail.entries.items c.in-Marked.mark c.in-Marked.place);
       same = λ d.
           c.loop-place.invariant.same d
-          ∙ step_on c.args.reach.now (outcomes_of_table c.args.table.now) c.loop-place.left c.loop-place.nodes.items c.loop-place.index c.index.result.now c.loop-place.invariant.nodes c.loop-place.invariant.within c.index.ensures
-          c.in-Marked.place c.in-Marked.outcome c.in-Marked.mark c.in-Marked.ensures c.child.new.nodes.items c.in_ok-next-in-Marked.next c.in_ok-next-in-Marked.ensures.extends c.in_ok-next-in-Marked.ensures.child
-          d c.index-in-Marked.result.now c.loop-place.trail.entries.items c.loop-place.trail.used.items (ap is_over (sym c.one_less-left.ensures) ∙ on) c.index-in-Marked.ensures
-          ∙ sym (behind_same c.warn.new.self.entries.items (before ++ map (λ q. SkippedBase q) warned) c.warn.new.self.used.items (c.loop-place.trail.used.items ++ (c.in-Marked.place, c.in-Marked.outcome) ∷ [])
-          (run_below c.args.reach.now (outcomes_of_table c.args.table.now) (marked_one c.loop-place.left) (slice_index_or c.child.new.nodes.items c.in_ok-next-in-Marked.next d)) entries_are used_are)
-          ∙ ap (λ x. behind c.warn.new.self.entries.items c.warn.new.self.used.items (run_below c.args.reach.now (outcomes_of_table c.args.table.now) x (slice_index_or c.child.new.nodes.items c.in_ok-next-in-Marked.next d))) (sym c.one_less-left.ensures);
+          ∙ step_on c.args.reach.now (outcomes_of_table c.args.table.now) c.loop-place.left c.loop-place.nodes.items c.loop-place.index c.index.result.now
+          c.loop-place.invariant.nodes c.loop-place.invariant.within c.index.ensures
+          c.in-Marked.place c.in-Marked.outcome c.in-Marked.mark c.in-Marked.ensures c.child.new.nodes.items c.in_ok-next-in-Marked.next
+          c.in_ok-next-in-Marked.ensures.extends c.in_ok-next-in-Marked.ensures.child
+          d c.index-in-Marked.result.now c.loop-place.trail.entries.items c.loop-place.trail.used.items (ap is_over (sym c.one_less-left.ensures) ∙ on)
+          c.index-in-Marked.ensures
+          ∙ sym (behind_same c.warn.new.self.entries.items (before ++ map (λ q. SkippedBase q) warned) c.warn.new.self.used.items
+          (c.loop-place.trail.used.items ++ (c.in-Marked.place, c.in-Marked.outcome) ∷ [])
+          (run_below c.args.reach.now (outcomes_of_table c.args.table.now) (marked_one c.loop-place.left)
+          (slice_index_or c.child.new.nodes.items c.in_ok-next-in-Marked.next d)) entries_are used_are)
+          ∙ ap (λ x. behind c.warn.new.self.entries.items c.warn.new.self.used.items
+          (run_below c.args.reach.now (outcomes_of_table c.args.table.now) x (slice_index_or c.child.new.nodes.items c.in_ok-next-in-Marked.next d)))
+          (sym c.one_less-left.ensures);
     }

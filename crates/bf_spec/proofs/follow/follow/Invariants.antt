@@ -15,7 +15,8 @@ invariant-loop-place l = record {
   extends : Extends l.reach l.fn.nodes.items l.nodes.items;
   on : is_over l.left ≡ false;
   path : (d : Node) → path_of (slice_index_or l.nodes.items l.index d) ≡ marks_of l.trail.entries.items;
-  same : (d : Node) → run_below l.reach (outcomes_of_table l.table) l.fn.left (slice_index_or l.fn.nodes.items l.start d) ≡ behind l.trail.entries.items l.trail.used.items (run_below l.reach (outcomes_of_table l.table) l.left (slice_index_or l.nodes.items l.index d));
+  same : (d : Node) → run_below l.reach (outcomes_of_table l.table) l.fn.left (slice_index_or l.fn.nodes.items l.start d) ≡ behind l.trail.entries.items
+      l.trail.used.items (run_below l.reach (outcomes_of_table l.table) l.left (slice_index_or l.nodes.items l.index d));
 }
 
 abbrev pub decreases-loop-place : goal.decreases-loop-place

@@ -11,20 +11,25 @@ use Rattle.bf_spec.proofs.follow.run_from.Goals as goal
 
 pub returns-then-is_over-clause-walked : goal.returns-then-is_over-clause-walked
 returns-then-is_over-clause-walked c = if_ok c.ended_at.result c.ended_at.ensures (λ walked is session root t.
-    spent_walked c.args.reach.now (outcomes_of_table c.args.table.now) c.args.left session root c.args.nodes.now.items c.args.start c.index.result.now (record { entries = c.new.result; used = c.new-2.result }) walked t c.requires.start c.requires.root c.index.ensures
+    spent_walked c.args.reach.now (outcomes_of_table c.args.table.now) c.args.left session root c.args.nodes.now.items c.args.start c.index.result.now
+    (record { entries = c.new.result; used = c.new-2.result }) walked t c.requires.start c.requires.root c.index.ensures
     (sym c.is_over.ensures ∙ c.if-is_over.true) c.new.ensures.items c.new-2.ensures.items is)
 
 pub halted-requires-clause-halts : goal.halted-requires-clause-halts
 halted-requires-clause-halts c = (
-  run_below c.args.reach.now (outcomes_of_table c.args.table.now) c.args.left (slice_index_or c.args.nodes.now.items c.args.start c.requires.nodes.tree.rooted.node),
-  subst (λ (xs : List Node). HaltsAt xs c.follow.new.trail.entries.items c.follow.new.trail.used.items c.in_ok-halt.halt (run_below c.args.reach.now (outcomes_of_table c.args.table.now) c.args.left (slice_index_or c.args.nodes.now.items c.args.start c.requires.nodes.tree.rooted.node)))
+  run_below c.args.reach.now (outcomes_of_table c.args.table.now) c.args.left
+      (slice_index_or c.args.nodes.now.items c.args.start c.requires.nodes.tree.rooted.node),
+  subst (λ (xs : List Node). HaltsAt xs c.follow.new.trail.entries.items c.follow.new.trail.used.items c.in_ok-halt.halt
+      (run_below c.args.reach.now (outcomes_of_table c.args.table.now) c.args.left
+      (slice_index_or c.args.nodes.now.items c.args.start c.requires.nodes.tree.rooted.node)))
       (sym c.as_slice.ensures.value) (c.in_ok-halt.ensures.halts c.requires.nodes.tree.rooted.node),
 )
 
 pub halted-requires-clause-places : goal.halted-requires-clause-places
 halted-requires-clause-places c = (
   c.args.reach.now,
-  subst (λ (xs : List Node). AreNodes c.args.reach.now xs) (sym c.as_slice.ensures.value) (extends_nodes c.args.reach.now c.args.nodes.now.items c.follow.new.nodes.items c.in_ok-halt.ensures.extends c.requires.nodes),
+  subst (λ (xs : List Node). AreNodes c.args.reach.now xs) (sym c.as_slice.ensures.value)
+      (extends_nodes c.args.reach.now c.args.nodes.now.items c.follow.new.nodes.items c.in_ok-halt.ensures.extends c.requires.nodes),
 )
 
 pub returns-clause-walked : goal.returns-clause-walked
@@ -33,9 +38,12 @@ returns-clause-walked c = if_ok c.halted.result c.halted.ensures (λ walked h se
     let below : Run = run_below c.args.reach.now (outcomes_of_table c.args.table.now) c.args.left (slice_index_or c.args.nodes.now.items c.args.start d) in
     let on : is_over c.args.left ≡ false = sym c.is_over.ensures ∙ c.if-is_over.false in
     let halts : HaltsAt c.as_slice.result.now c.follow.new.trail.entries.items c.follow.new.trail.used.items c.in_ok-halt.halt below
-    = subst (λ (xs : List Node). HaltsAt xs c.follow.new.trail.entries.items c.follow.new.trail.used.items c.in_ok-halt.halt below) (sym c.as_slice.ensures.value) (c.in_ok-halt.ensures.halts d) in
+    = subst (λ (xs : List Node). HaltsAt xs c.follow.new.trail.entries.items c.follow.new.trail.used.items c.in_ok-halt.halt below)
+    (sym c.as_slice.ensures.value) (c.in_ok-halt.ensures.halts d) in
     let tree : IsTree c.args.reach.now session root c.as_slice.result.now
     = subst (λ (xs : List Node). IsTree c.args.reach.now session root xs) (sym c.as_slice.ensures.value) (c.in_ok-halt.ensures.extends.stays session root t) in
     subst (λ (r : Run). IsWalked c.args.reach.now session root c.follow.new.nodes.items r walked)
-    (sym (run_root c.args.reach.now (outcomes_of_table c.args.table.now) c.args.left session root c.args.nodes.now.items c.args.start d t c.requires.start c.requires.root on))
-    (subst (λ (xs : List Node). IsWalked c.args.reach.now session root xs below walked) c.as_slice.ensures.value (h c.args.reach.now session root below tree halts)))
+    (sym (run_root c.args.reach.now (outcomes_of_table c.args.table.now) c.args.left session root c.args.nodes.now.items c.args.start d t c.requires.start
+    c.requires.root on))
+    (subst (λ (xs : List Node). IsWalked c.args.reach.now session root xs below walked) c.as_slice.ensures.value
+    (h c.args.reach.now session root below tree halts)))

@@ -13,8 +13,10 @@ returns c =
     let graph = c.args.reach.now in
     let base = c.args.parent.now.state in
     let marked = marked_as base c.in_ok-state.state c.mark.new.self c.args.mark c.args.place c.in_ok-state.ensures c.in_ok-mark.ensures.ok in
-    let asked = asked_as graph base c.in_ok-state.state c.mark.new.self c.weigh.new.self c.args.mark c.args.place c.in_ok-state.ensures c.in_ok-mark.ensures.ok c.in_ok-weighed.ensures.state in
-    IfOk-weaker c.fresh.result (IsFresh c.in_ok-path.path.items c.weigh.new.self c.in_ok-weighed.weighed.step c.in_ok-weighed.weighed.mask) (λ child. IsChild graph c.args.parent.now c.args.mark child)
+    let asked = asked_as graph base c.in_ok-state.state c.mark.new.self c.weigh.new.self c.args.mark c.args.place c.in_ok-state.ensures c.in_ok-mark.ensures.ok
+    c.in_ok-weighed.ensures.state in
+    IfOk-weaker c.fresh.result (IsFresh c.in_ok-path.path.items c.weigh.new.self c.in_ok-weighed.weighed.step c.in_ok-weighed.weighed.mask)
+    (λ child. IsChild graph c.args.parent.now c.args.mark child)
     (λ child is. fresh_child graph c.args.parent.now child c.args.mark c.args.place _ _ _ _ is c.in_ok-path.ensures c.requires.asks asked
     (c.in_ok-weighed.ensures.step ∙ ap (λ (v : Session). (ask graph v.search).step) marked)
     (c.in_ok-weighed.ensures.mask ∙ ap (λ (v : Session). mask_of graph v.search) marked)

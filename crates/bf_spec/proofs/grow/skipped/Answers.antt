@@ -17,7 +17,8 @@ advance_ranked-requires-clause-mask c =
     let graph = c.args.reach.now in
     let base = c.args.parent.now.state in
     let marked = marked_as base c.in_ok-state.state c.mark.new.self Skip c.args.place c.in_ok-state.ensures c.in_ok-mark.ensures.ok in
-    c.deref.ensures ∙ c.in_ok-mask.ensures ∙ c.requires.sight.mask ∙ sym (mask_skipped graph base.search c.args.place) ∙ ap (λ (v : Session). mask_of graph v.search) (sym marked)
+    c.deref.ensures ∙ c.in_ok-mask.ensures ∙ c.requires.sight.mask ∙ sym (mask_skipped graph base.search c.args.place) ∙ ap
+    (λ (v : Session). mask_of graph v.search) (sym marked)
 
 pub advance_ranked-requires-clause-ranking : goal.advance_ranked-requires-clause-ranking
 advance_ranked-requires-clause-ranking c =
@@ -46,8 +47,10 @@ returns c =
     let passed : ℕ = c.in_ok-ranked.ranked.passed in
     let after : Search = mark base.search Skip place in
     let marked = marked_as base c.in_ok-state.state c.mark.new.self Skip place c.in_ok-state.ensures c.in_ok-mark.ensures.ok in
-    let asked = asked_as graph base c.in_ok-state.state c.mark.new.self c.advance_ranked.new.self Skip place c.in_ok-state.ensures c.in_ok-mark.ensures.ok c.in_ok-ranked.ensures.state in
-    let here : IsPassed c.mark.new.self.search.skips ps passed = subst (λ (qs : List ℕ). IsPassed c.mark.new.self.search.skips qs passed) c.deref-2.ensures c.in_ok-ranked.ensures.passed in
+    let asked = asked_as graph base c.in_ok-state.state c.mark.new.self c.advance_ranked.new.self Skip place c.in_ok-state.ensures c.in_ok-mark.ensures.ok
+    c.in_ok-ranked.ensures.state in
+    let here : IsPassed c.mark.new.self.search.skips ps passed = subst (λ (qs : List ℕ). IsPassed c.mark.new.self.search.skips qs passed) c.deref-2.ensures
+    c.in_ok-ranked.ensures.passed in
     let order : Order = record { ranking = c.in_ok-before.before.ranking; passed = passed } in
     let sight : Sight = record { mask = c.in_ok-mask.mask; order = Some order } in
     let seen : IsSight graph (ask graph after).search sight = record {
@@ -57,6 +60,7 @@ returns c =
         passed = passed_asked graph after ps passed (subst (λ (v : Session). IsPassed v.search.skips ps passed) marked here);
       };
     } in
-    child_is graph c.args.parent.now _ Skip place c.in_ok-path.ensures c.requires.asks asked (c.in_ok-ranked.ensures.step ∙ ap (λ (v : Session). (ask graph v.search).step) marked)
+    child_is graph c.args.parent.now _ Skip place c.in_ok-path.ensures c.requires.asks asked
+    (c.in_ok-ranked.ensures.step ∙ ap (λ (v : Session). (ask graph v.search).step) marked)
     (subst (λ (v : Session). IsSight graph v.search sight) (sym asked) seen)
     (subst (λ (n : ℕ). IsSearchBelow n c.advance_ranked.new.self.search) (ap (λ (v : Session). v.len) asked ∙ sym c.requires.len) c.len.ensures.below)

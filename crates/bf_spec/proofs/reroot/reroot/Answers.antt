@@ -15,9 +15,14 @@ cut_all-requires c = λ k d l.
 pub returns-clause-tree : goal.returns-clause-tree
 returns-clause-tree c = λ graph session root t.
     kept_tree graph session root c.args.prefix.now c.args.nodes.now.items c.cut_all.new.nodes.items
-    (kept_by c.args.prefix.now c.args.nodes.now.items c.keep.new.nodes.items c.cut_all.new.nodes.items c.keep.ensures c.cut_all.ensures.len c.cut_all.ensures.cut) c.requires t
+    (kept_by c.args.prefix.now c.args.nodes.now.items c.keep.new.nodes.items c.cut_all.new.nodes.items c.keep.ensures c.cut_all.ensures.len
+    c.cut_all.ensures.cut) c.requires t
 
 pub returns-clause-paths : goal.returns-clause-paths
 returns-clause-paths c = λ path.
-    let k : IsKept c.args.prefix.now c.args.nodes.now.items c.cut_all.new.nodes.items = kept_by c.args.prefix.now c.args.nodes.now.items c.keep.new.nodes.items c.cut_all.new.nodes.items c.keep.ensures c.cut_all.ensures.len c.cut_all.ensures.cut in
-    (λ h. let from = k.each h.node h.among in record { node = from.0; among = from.1; has = from.2 ∙ ap (λ p. c.args.prefix.now ++ p) h.has }, λ h. k.all path h)
+    let k : IsKept c.args.prefix.now c.args.nodes.now.items c.cut_all.new.nodes.items = kept_by c.args.prefix.now c.args.nodes.now.items c.keep.new.nodes.items
+    c.cut_all.new.nodes.items c.keep.ensures c.cut_all.ensures.len c.cut_all.ensures.cut in (
+      λ h. let from = k.each h.node h.among in record { node = from.0; among = from.1; has = from.2 ∙ ap (λ p. c.args.prefix.now ++ p) h.has },
+      λ h. k.all path
+          h,
+    )

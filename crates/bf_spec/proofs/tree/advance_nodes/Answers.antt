@@ -10,7 +10,11 @@ pub returns-then-has_path-clause-tree : goal.returns-then-has_path-clause-tree
 returns-then-has_path-clause-tree c = λ session root t. c.reroot.ensures.tree c.args.reach.now session root t
 
 pub moved-requires-clause-asks : goal.moved-requires-clause-asks
-moved-requires-clause-asks c = (c.requires.asks.0, λ session root t. c.requires.asks.1 session root (subst (λ (xs : List Node). IsTree c.args.reach.now session root xs) c.as_slice-2.ensures.value t))
+moved-requires-clause-asks c = (
+  c.requires.asks.0,
+  λ session root t. c.requires.asks.1 session root
+      (subst (λ (xs : List Node). IsTree c.args.reach.now session root xs) c.as_slice-2.ensures.value t),
+)
 
 pub returns-clause-tree : goal.returns-clause-tree
 returns-clause-tree c = λ session root t.

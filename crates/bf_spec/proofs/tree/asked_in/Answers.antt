@@ -10,6 +10,7 @@ use Rattle.bf_spec.proofs.tree.asked_in.Goals as goal
 
 pub returns-clause-asked : goal.returns-clause-asked
 returns-clause-asked c = if_ok c.is_asked_from.result c.is_asked_from.ensures.asked (λ asked h session root t.
-    let found = subst (λ (xs : List Node). (c.in-Some.start < length xs) × ((e : Node) → path_of (slice_index_or xs c.in-Some.start e) ≡ [])) c.as_slice.ensures.value c.in-Some.ensures.found in
+    let found = subst (λ (xs : List Node). (c.in-Some.start < length xs) × ((e : Node) → path_of (slice_index_or xs c.in-Some.start e) ≡ []))
+    c.as_slice.ensures.value c.in-Some.ensures.found in
     subst (λ (a : Asked). IsTrue asked ↔ IsAsked c.args.reach.now (outcomes_of_table c.args.table.now) a.search c.args.place)
     (root_search c.args.reach.now session root c.args.nodes.now.items c.in-Some.start t.rooted.node t found.0 found.1) (h t.rooted.node))

@@ -10,12 +10,15 @@ grown-requires-clause-below c =
     (c.args.index, c.requires.index, sym c.index-2.ensures) (ap (λ (n : Node). n.step.ask) c.index-2.ensures ∙ c.requires.asks c.index-2.result.now)
 
 pub grown-requires-clause-sight : goal.grown-requires-clause-sight
-grown-requires-clause-sight c = sight_of c.args.reach.now c.args.nodes.now.items c.index-2.result.now c.requires.nodes (c.args.index, c.requires.index, sym c.index-2.ensures)
+grown-requires-clause-sight c = sight_of c.args.reach.now c.args.nodes.now.items c.index-2.result.now c.requires.nodes
+    (c.args.index, c.requires.index, sym c.index-2.ensures)
 
 pub returns-in_err-push-2-clause-extends : goal.returns-in_err-push-2-clause-extends
-returns-in_err-push-2-clause-extends c = subst (λ (xs : List Node). Extends c.args.reach.now c.args.nodes.now.items xs) (sym c.in_err-push-2.ensures.items) (extends_same c.args.reach.now c.args.nodes.now.items)
+returns-in_err-push-2-clause-extends c = subst (λ (xs : List Node). Extends c.args.reach.now c.args.nodes.now.items xs) (sym c.in_err-push-2.ensures.items)
+    (extends_same c.args.reach.now c.args.nodes.now.items)
 
 pub returns-clause-extends : goal.returns-clause-extends
 returns-clause-extends c =
     subst (λ (xs : List Node). Extends c.args.reach.now c.args.nodes.now.items xs) (sym c.in_ok-push-2.ensures.items)
-    (extends_push c.args.reach.now c.args.nodes.now.items c.index-2.result.now c.in_ok-child.child c.args.mark (c.args.index, c.requires.index, sym c.index-2.ensures) c.in_ok-child.ensures)
+    (extends_push c.args.reach.now c.args.nodes.now.items c.index-2.result.now c.in_ok-child.child c.args.mark
+    (c.args.index, c.requires.index, sym c.index-2.ensures) c.in_ok-child.ensures)

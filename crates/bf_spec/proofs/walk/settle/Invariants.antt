@@ -12,7 +12,8 @@ invariant-loop-place l = record {
   nodes : AreNodes l.reach l.nodes.items;
   extends : Extends l.reach l.fn.nodes.items l.nodes.items;
   fewer : left_at l.reach l.nodes.items l.index ≤ left_at l.reach l.fn.nodes.items l.start;
-  same : (d : Node) → best_at l.reach (outcomes_of_table l.table) l.claims (slice_index_or l.fn.nodes.items l.start d) ≡ best_at l.reach (outcomes_of_table l.table) l.claims (slice_index_or l.nodes.items l.index d);
+  same : (d : Node) → best_at l.reach (outcomes_of_table l.table) l.claims (slice_index_or l.fn.nodes.items l.start d) ≡ best_at l.reach
+      (outcomes_of_table l.table) l.claims (slice_index_or l.nodes.items l.index d);
 }
 
 abbrev pub decreases-loop-place : goal.decreases-loop-place

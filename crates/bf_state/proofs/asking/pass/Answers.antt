@@ -15,7 +15,8 @@ returns-in_default-clause-passes c =
     let same = ap (λ (x : Session). x.search.checked) (λ i. c.args.state.now) in
     stopped_without_bad _ _ _ bad
     (elim c.if-is_empty.branch [
-      | then-is_empty w ↦ decision_same same (c.step_of.ensures ∙ ap (λ (a : Ask). record { warned = []; ask = a }) w.ask-is) (decide_wait_both _ _ bad (sym goods ∙ c.is_empty.ensures.0 w.if-is_empty.true))
+      | then-is_empty w ↦ decision_same same (c.step_of.ensures ∙ ap (λ (a : Ask). record { warned = []; ask = a }) w.ask-is)
+          (decide_wait_both _ _ bad (sym goods ∙ c.is_empty.ensures.0 w.if-is_empty.true))
       | else-is_empty w ↦ decision_same same (c.step_of.ensures ∙ ap (λ (a : Ask). record { warned = []; ask = a }) w.ask-is)
           (decide_wait_bad _ _ bad (λ e. both_ways _ w.if-is_empty.false (c.is_empty.ensures.1 (goods ∙ e))))
     ])
@@ -35,7 +36,8 @@ pub returns-then-state-clause-passes : goal.returns-then-state-clause-passes
 returns-then-state-clause-passes c =
     let bad = sym (ap (λ (x : Session). x.search.bad) c.state.view_is) ∙ c.in-Some.is in
     let goods = ap (λ (x : Session). x.search.goods) c.state.view_is in
-    passes_checked _ _ _ _ bad (λ e. both_ways _ c.if-is_empty-2.false (c.is_empty-2.ensures.1 (goods ∙ e))) (sym (ap (λ (x : Session). x.search.checked) c.state.view_is) ∙ c.if-state.true) c.new.ensures
+    passes_checked _ _ _ _ bad (λ e. both_ways _ c.if-is_empty-2.false (c.is_empty-2.ensures.1 (goods ∙ e)))
+    (sym (ap (λ (x : Session). x.search.checked) c.state.view_is) ∙ c.if-state.true) c.new.ensures
 
 pub returns-clause-passes : goal.returns-clause-passes
 returns-clause-passes c =
@@ -43,5 +45,6 @@ returns-clause-passes c =
     let goods = ap (λ (x : Session). x.search.goods) c.state.view_is in
     let answer = c.in_ok-answer.ensures ∙ ap (λ (gs : List ℕ). check c.args.reach.now c.in-Some.bad gs c.state.inside.skips) c.as_slice.ensures
     ∙ ap (λ (x : Session). check c.args.reach.now c.in-Some.bad x.search.goods x.search.skips) c.state.view_is in
-    passes_by_check c.args.reach.now c.args.state.now.search c.in-Some.bad c.in_ok-answer.answer c.passage_of.result bad (λ e. both_ways _ c.if-is_empty-2.false (c.is_empty-2.ensures.1 (goods ∙ e)))
+    passes_by_check c.args.reach.now c.args.state.now.search c.in-Some.bad c.in_ok-answer.answer c.passage_of.result bad
+    (λ e. both_ways _ c.if-is_empty-2.false (c.is_empty-2.ensures.1 (goods ∙ e)))
     (sym (ap (λ (x : Session). x.search.checked) c.state.view_is) ∙ c.if-state.false) answer (c.passage_of.ensures c.args.reach.now)

@@ -13,7 +13,8 @@ ask_ranked-requires-clause-within c =
     let graph = c.args.reach.now in
     let s = c.args.state.now.search in
     let passes = subst (λ (p : Passage). IsPassage graph (ask graph s) s p) c.in-Passed.is c.in_ok-step.ensures.passes in
-    ranked_within (mask_of graph s) (weights_of graph s) c.args.ranking.now c.in-Passed.bad _ (length-mask graph s (mask_of graph s) refl ∙ c.requires.len ∙ sym c.in_ok-step.ensures.below.skips)
+    ranked_within (mask_of graph s) (weights_of graph s) c.args.ranking.now c.in-Passed.bad _
+    (length-mask graph s (mask_of graph s) refl ∙ c.requires.len ∙ sym c.in_ok-step.ensures.below.skips)
     (c.requires.ranking c.in-Passed.bad passes.bad_is)
 
 pub returns-in_ok-ask-in-Passed-clause-decides : goal.returns-in_ok-ask-in-Passed-clause-decides
@@ -23,4 +24,5 @@ returns-in_ok-ask-in-Passed-clause-decides c =
     let passes = subst (λ (p : Passage). IsPassage graph (ask graph s) s p) c.in-Passed.is c.in_ok-step.ensures.passes in
     decide_over graph s c.in-Passed.bad _ c.args.mask.now (weights_of graph s) _ passes c.requires.mask refl
     (c.in_ok-ask-in-Passed.ensures.answer (weights_of graph s)
-    (subst (λ (m : List Bool). IsRanking m (weights_of graph s) c.in-Passed.bad c.args.ranking.now) (sym c.requires.mask) (c.requires.ranking c.in-Passed.bad passes.bad_is)))
+    (subst (λ (m : List Bool). IsRanking m (weights_of graph s) c.in-Passed.bad c.args.ranking.now) (sym c.requires.mask)
+    (c.requires.ranking c.in-Passed.bad passes.bad_is)))

@@ -17,4 +17,5 @@ returns c =
     let graph = c.args.reach.now in
     let s = c.args.state.now.search in
     IfOk-weaker c.new.result (IsRanking c.args.mask.now c.as_slice.result.now c.args.bad) (IsRankingOf graph s)
-    (λ ps. ranking_of graph s c.args.mask.now c.as_slice.result.now c.args.bad ps c.requires.bad c.requires.mask (c.as_slice.ensures.value ∙ c.in_ok-weights.ensures)) c.new.ensures
+    (λ ps. ranking_of graph s c.args.mask.now c.as_slice.result.now c.args.bad ps c.requires.bad c.requires.mask
+    (c.as_slice.ensures.value ∙ c.in_ok-weights.ensures)) c.new.ensures

@@ -16,5 +16,6 @@ ask_over-requires-clause-within c = all_within _ _ _ _ c.requires.mask c.require
 
 pub returns-in_ok-ask-in-Passed-clause-decides : goal.returns-in_ok-ask-in-Passed-clause-decides
 returns-in_ok-ask-in-Passed-clause-decides c =
-    decide_over _ _ _ _ _ _ _ (subst (λ (p : Passage). IsPassage c.args.reach.now (ask c.args.reach.now c.args.state.now.search) c.args.state.now.search p) c.in-Passed.is c.in_ok-step.ensures.passes)
+    decide_over _ _ _ _ _ _ _ (subst (λ (p : Passage). IsPassage c.args.reach.now (ask c.args.reach.now c.args.state.now.search) c.args.state.now.search p)
+    c.in-Passed.is c.in_ok-step.ensures.passes)
     c.requires.mask c.requires.weights c.in_ok-ask-in-Passed.ensures

@@ -21,11 +21,14 @@ ask_over-requires-clause-within c =
 pub returns-in-Asks-clause-weights : goal.returns-in-Asks-clause-weights
 returns-in-Asks-clause-weights c =
     sym (needs_none c.args.reach.now c.args.state.now.search c.in-Asks.step
-    (subst (λ (p : Passage). IsPassage c.args.reach.now (ask c.args.reach.now c.args.state.now.search) c.args.state.now.search p) c.in-Asks.is c.in_ok-step.ensures.passes))
+    (subst (λ (p : Passage). IsPassage c.args.reach.now (ask c.args.reach.now c.args.state.now.search) c.args.state.now.search p) c.in-Asks.is
+    c.in_ok-step.ensures.passes))
 
 pub returns-in_ok-ask-in-Passed-clause-decides : goal.returns-in_ok-ask-in-Passed-clause-decides
 returns-in_ok-ask-in-Passed-clause-decides c =
-    decide_over c.args.reach.now c.args.state.now.search _ _ _ _ _ (subst (λ (p : Passage). IsPassage c.args.reach.now (ask c.args.reach.now c.args.state.now.search) c.args.state.now.search p) c.in-Passed.is c.in_ok-step.ensures.passes)
+    decide_over c.args.reach.now c.args.state.now.search _ _ _ _ _
+    (subst (λ (p : Passage). IsPassage c.args.reach.now (ask c.args.reach.now c.args.state.now.search) c.args.state.now.search p) c.in-Passed.is
+    c.in_ok-step.ensures.passes)
     c.requires.mask
     (c.as_slice.ensures.value ∙ c.in_ok-weights-in-Passed.ensures)
     c.in_ok-ask-in-Passed.ensures
@@ -34,4 +37,5 @@ pub returns-in_ok-ask-in-Passed-clause-weights : goal.returns-in_ok-ask-in-Passe
 returns-in_ok-ask-in-Passed-clause-weights c =
     ap (λ (ws : List ℕ). Some ws) c.in_ok-weights-in-Passed.ensures
     ∙ sym (needs_all c.args.reach.now c.args.state.now.search _ _
-    (subst (λ (p : Passage). IsPassage c.args.reach.now (ask c.args.reach.now c.args.state.now.search) c.args.state.now.search p) c.in-Passed.is c.in_ok-step.ensures.passes))
+    (subst (λ (p : Passage). IsPassage c.args.reach.now (ask c.args.reach.now c.args.state.now.search) c.args.state.now.search p) c.in-Passed.is
+    c.in_ok-step.ensures.passes))

@@ -6,7 +6,8 @@ use Rattle.bf_weights.proofs.merges.count_block.Goals as goal
 
 pub loop-place-init : goal.loop-place-init
 loop-place-init c = (
-  subst (λ (b : List (List Bool)). HasBlockRows c.args.graph.now c.args.start c.args.start b) (sym c.clear.ensures) (HasBlockRows-start _ c.args.start _ c.len-place-end.ensures.graph c.requires.rows),
+  subst (λ (b : List (List Bool)). HasBlockRows c.args.graph.now c.args.start c.args.start b) (sym c.clear.ensures)
+      (HasBlockRows-start _ c.args.start _ c.len-place-end.ensures.graph c.requires.rows),
   CountsBlock-start _ c.args.start _ c.len-place-end.ensures.graph c.requires.counted,
 )
 

@@ -7,7 +7,8 @@ pub returns-then-column-lt-COLUMNS : goal.returns-then-column-lt-COLUMNS
 returns-then-column-lt-COLUMNS c =
     c.set.ensures
     ∙ ap (λ (row : List Bool). set c.args.blocks.now c.args.place row)
-    (ap (λ (row : List Bool). set row (c.args.place - c.args.start) true) c.requires.empty ∙ own_row-within c.args.start c.args.place (c.args.place - c.args.start) (omega arith) (omega arith))
+    (ap (λ (row : List Bool). set row (c.args.place - c.args.start) true) c.requires.empty ∙ own_row-within c.args.start c.args.place
+    (c.args.place - c.args.start) (omega arith) (omega arith))
 
 pub returns-else-column-lt-COLUMNS : goal.returns-else-column-lt-COLUMNS
 returns-else-column-lt-COLUMNS c =

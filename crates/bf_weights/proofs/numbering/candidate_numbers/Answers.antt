@@ -15,7 +15,8 @@ overflow_add-next c = omega (arith, number_of-le c.args.mask.now c.loop-place.pl
 pub loop-place-preserved : goal.loop-place-preserved
 loop-place-preserved c = (
   elim c.if-get.branch [
-    | then-get w ↦ w.next-is ∙ ap (λ (n : ℕ). n + 1) c.loop-place.invariant.0 ∙ sym (number_of-yes c.args.mask.now c.loop-place.place (sym c.get.ensures ∙ w.if-get.true))
+    | then-get w ↦ w.next-is ∙ ap (λ (n : ℕ). n + 1) c.loop-place.invariant.0 ∙ sym
+        (number_of-yes c.args.mask.now c.loop-place.place (sym c.get.ensures ∙ w.if-get.true))
     | else-get w ↦ w.next-is ∙ c.loop-place.invariant.0 ∙ sym (number_of-no c.args.mask.now c.loop-place.place (sym c.get.ensures ∙ w.if-get.false))
   ],
   c.in_ok-push.ensures.items ∙ ap (λ (ns : List ℕ). ns ++ c.loop-place.next ∷ []) c.loop-place.invariant.1

@@ -7,8 +7,10 @@ use Rattle.bf_weights.proofs.numbering.number_parents.Goals.{then-get+in_ok-push
 
 pub bounds-numbers-parent : goal.bounds-numbers-parent
 bounds-numbers-parent c =
-    let within : get_or c.args.parents.now c.loop-parent.parent-index 0 < length c.args.mask.now = c.requires.parents c.loop-parent.parent-index 0 c.loop-parent-test.true in
-    let long : length c.args.numbers.now ≡ length c.args.mask.now = ap (λ (ns : List ℕ). length ns) c.requires.numbers ∙ length-candidate_numbers c.args.mask.now in
+    let within : get_or c.args.parents.now c.loop-parent.parent-index 0 < length c.args.mask.now = c.requires.parents c.loop-parent.parent-index 0
+    c.loop-parent-test.true in
+    let long : length c.args.numbers.now ≡ length c.args.mask.now = ap (λ (ns : List ℕ). length ns) c.requires.numbers ∙ length-candidate_numbers
+    c.args.mask.now in
     omega arith
 
 pub loop-parent-preserved : goal.loop-parent-preserved
@@ -16,8 +18,10 @@ loop-parent-preserved c =
     let done : List ℕ = take c.loop-parent.parent-index c.args.parents.now in
     let parent : ℕ = get_or c.args.parents.now c.loop-parent.parent-index 0 in
     let within : parent < length c.args.mask.now = c.requires.parents c.loop-parent.parent-index 0 c.loop-parent-test.true in
-    let number : get_or c.args.numbers.now parent 0 ≡ number_of c.args.mask.now parent = ap (λ (ns : List ℕ). get_or ns parent 0) c.requires.numbers ∙ candidate_numbers-at c.args.mask.now parent within in
-    let more : take (c.loop-parent.parent-index + 1) c.args.parents.now ≡ done ++ parent ∷ [] = take_more c.args.parents.now c.loop-parent.parent-index 0 c.loop-parent-test.true in
+    let number : get_or c.args.numbers.now parent 0 ≡ number_of c.args.mask.now parent = ap (λ (ns : List ℕ). get_or ns parent 0) c.requires.numbers ∙
+    candidate_numbers-at c.args.mask.now parent within in
+    let more : take (c.loop-parent.parent-index + 1) c.args.parents.now ≡ done ++ parent ∷ [] = take_more c.args.parents.now c.loop-parent.parent-index 0
+    c.loop-parent-test.true in
     elim c.if-get.branch [
       | then-get+in_ok-push w ↦
           rw w.into-is

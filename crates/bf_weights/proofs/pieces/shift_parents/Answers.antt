@@ -9,7 +9,8 @@ pub loop-parent-preserved : goal.loop-parent-preserved
 loop-parent-preserved c =
     let done : List ℕ = take c.loop-parent.parent-index c.args.parents.now in
     let parent : ℕ = get_or c.args.parents.now c.loop-parent.parent-index 0 in
-    let more : take (c.loop-parent.parent-index + 1) c.args.parents.now ≡ done ++ parent ∷ [] = take_more c.args.parents.now c.loop-parent.parent-index 0 c.loop-parent-test.true in
+    let more : take (c.loop-parent.parent-index + 1) c.args.parents.now ≡ done ++ parent ∷ [] = take_more c.args.parents.now c.loop-parent.parent-index 0
+    c.loop-parent-test.true in
     elim c.if-base-parent.branch [
       | then-base-parent+in_ok-push w ↦
           rw w.into-is

@@ -6,4 +6,5 @@ use Rattle.bf_weights.proofs.pieces.sizes_by_pieces.Given as goal
 
 abbrev pub invariant-loop-place : goal.invariant-loop-place
 invariant-loop-place l =
-    (l.sizes.items ≡ map (reach_size l.graph) (range_with_len 0 l.base)) × (l.base ≤ l.place) × IsBase l.graph l.base × (l.place ≡ length l.graph → l.base ≡ l.place)
+    (l.sizes.items ≡ map (reach_size l.graph) (range_with_len 0 l.base)) × (l.base ≤ l.place) × IsBase l.graph l.base
+    × (l.place ≡ length l.graph → l.base ≡ l.place)

@@ -6,7 +6,8 @@ use Rattle.bf_weights.proofs.plain.weight_of.Goals as goal
 pub returns-clause-weight : goal.returns-clause-weight
 returns-clause-weight c =
     c.count.ensures
-    ∙ weight_in-counted c.args.reach.now c.args.mask.now c.args.first_parent c.args.place c.fill_in_mode.new.out c.and_from.new.self c.requires.mask (sym c.get.ensures ∙ c.if-not-get.false)
+    ∙ weight_in-counted c.args.reach.now c.args.mask.now c.args.first_parent c.args.place c.fill_in_mode.new.out c.and_from.new.self c.requires.mask
+    (sym c.get.ensures ∙ c.if-not-get.false)
     c.fill_in_mode.ensures.row c.and_from.ensures
 
 pub returns-clause-reached : goal.returns-clause-reached

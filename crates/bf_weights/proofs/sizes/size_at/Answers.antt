@@ -7,9 +7,12 @@ use Rattle.bf_weights.proofs.sizes.size_at.Goals as goal
 
 pub overflow_add-result : goal.overflow_add-result
 overflow_add-result c =
-    let single : parentage_of (parents_of c.args.graph.now c.args.place) ≡ Single c.in-Single.parent = ap parentage_of (sym c.parents.ensures.parents) ∙ sym c.in-Single.ensures in
-    let parent : get_or c.args.sizes.now c.in-Single.parent 0 ≡ reach_size c.args.graph.now c.in-Single.parent = c.requires.known.before _ (single-earlier _ _ _ c.requires.graph single) in
-    let more : reach_size c.args.graph.now c.args.place ≡ reach_size c.args.graph.now c.in-Single.parent + 1 = reach_size-single _ _ _ c.requires.graph c.requires.place single in
+    let single : parentage_of (parents_of c.args.graph.now c.args.place) ≡ Single c.in-Single.parent = ap parentage_of (sym c.parents.ensures.parents) ∙ sym
+    c.in-Single.ensures in
+    let parent : get_or c.args.sizes.now c.in-Single.parent 0 ≡ reach_size c.args.graph.now c.in-Single.parent = c.requires.known.before _
+    (single-earlier _ _ _ c.requires.graph single) in
+    let more : reach_size c.args.graph.now c.args.place ≡ reach_size c.args.graph.now c.in-Single.parent + 1 = reach_size-single _ _ _ c.requires.graph
+    c.requires.place single in
     let most : reach_size c.args.graph.now c.args.place ≤ length c.args.graph.now = reach_size-le c.args.graph.now c.args.place in
     omega arith
 
@@ -18,5 +21,7 @@ returns-in-Root c = sym (reach_size-root _ _ c.requires.graph c.requires.place (
 
 pub returns-in-Single : goal.returns-in-Single
 returns-in-Single c =
-    let single : parentage_of (parents_of c.args.graph.now c.args.place) ≡ Single c.in-Single.parent = ap parentage_of (sym c.parents.ensures.parents) ∙ sym c.in-Single.ensures in
-    ap (λ (n : ℕ). n + 1) (c.requires.known.before _ (single-earlier _ _ _ c.requires.graph single)) ∙ sym (reach_size-single _ _ _ c.requires.graph c.requires.place single)
+    let single : parentage_of (parents_of c.args.graph.now c.args.place) ≡ Single c.in-Single.parent = ap parentage_of (sym c.parents.ensures.parents) ∙ sym
+    c.in-Single.ensures in
+    ap (λ (n : ℕ). n + 1) (c.requires.known.before _ (single-earlier _ _ _ c.requires.graph single)) ∙ sym
+    (reach_size-single _ _ _ c.requires.graph c.requires.place single)

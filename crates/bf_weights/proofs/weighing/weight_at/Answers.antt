@@ -9,11 +9,14 @@ bounds-numbers-place c = omega (arith, ap (λ (ns : List ℕ). length ns) c.requ
 
 pub bounds-sizes-numbers : goal.bounds-sizes-numbers
 bounds-sizes-numbers c =
-    let number : get_or c.args.numbers.now c.args.place 0 ≡ number_of c.args.mask.now c.args.place = ap (λ (ns : List ℕ). get_or ns c.args.place 0) c.requires.numbers ∙ candidate_numbers-at c.args.mask.now c.args.place c.requires.place in
-    let below : number_of c.args.mask.now c.args.place < number_of c.args.mask.now (length c.args.mask.now) = number_of-strict c.args.mask.now c.args.place (length c.args.mask.now) c.requires.place (sym c.get.ensures ∙ c.if-get.true) in
+    let number : get_or c.args.numbers.now c.args.place 0 ≡ number_of c.args.mask.now c.args.place = ap (λ (ns : List ℕ). get_or ns c.args.place 0)
+    c.requires.numbers ∙ candidate_numbers-at c.args.mask.now c.args.place c.requires.place in
+    let below : number_of c.args.mask.now c.args.place < number_of c.args.mask.now (length c.args.mask.now) = number_of-strict c.args.mask.now c.args.place
+    (length c.args.mask.now) c.requires.place (sym c.get.ensures ∙ c.if-get.true) in
     omega arith
 
 pub returns-then-get : goal.returns-then-get
 returns-then-get c =
-    ap (λ (n : ℕ). get_or c.args.sizes.now n 0) (ap (λ (ns : List ℕ). get_or ns c.args.place 0) c.requires.numbers ∙ candidate_numbers-at c.args.mask.now c.args.place c.requires.place)
+    ap (λ (n : ℕ). get_or c.args.sizes.now n 0) (ap (λ (ns : List ℕ). get_or ns c.args.place 0) c.requires.numbers ∙ candidate_numbers-at c.args.mask.now
+    c.args.place c.requires.place)
     ∙ sym (size_of_number-yes c.args.mask.now c.args.sizes.now c.args.place (sym c.get.ensures ∙ c.if-get.true))

@@ -8,7 +8,8 @@ returns-clause-ok c = record {
   graph = search rules;
   session = search rules;
   root = search rules;
-  nodes = λ path h. (c.jump.ensures.paths path).1 (subst (λ (ms : List Mark). Contains c.args.self.now.tree.paths (ms ++ path)) (sym c.as_slice.ensures.value) h);
+  nodes = λ path h. (c.jump.ensures.paths path).1
+      (subst (λ (ms : List Mark). Contains c.args.self.now.tree.paths (ms ++ path)) (sym c.as_slice.ensures.value) h);
   entries = search rules;
   state = search rules;
   ending = search rules;

@@ -11,7 +11,8 @@ decreases-loop-entry l = lengths_of l.self.trees (levels_of l.self.table l.below
 
 abbrev pub invariant-loop-entry : goal.invariant-loop-entry
 invariant-loop-entry l = record {
-  walked : l.files.items ++ lefts l.self.trees (levels_of l.self.table l.below.items) l.names.items (stood l.self.table l.rest) ≡ files_in l.self.trees (stood l.self.table l.fn.numbers);
+  walked : l.files.items ++ lefts l.self.trees (levels_of l.self.table l.below.items) l.names.items (stood l.self.table l.rest) ≡ files_in l.self.trees
+      (stood l.self.table l.fn.numbers);
   level : IsLevel l.self.trees (stood l.self.table l.rest);
   levels : AreLevels l.self.trees (levels_of l.self.table l.below.items);
   names : list_all is_component l.names.items ≡ true;

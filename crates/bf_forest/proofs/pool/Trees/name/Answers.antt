@@ -20,4 +20,5 @@ returns c =
     let nodes = nodes_of table kept in
     let trees = c.args.self.now.trees in
     let view : trees_from [] nodes ≡ trees = ap (λ (w : World). w.trees) c.self.view_is in
-    (numbered_in nodes trees c.args.number (node_of table c.index.result.now) c.self.invariant.2 view c.requires (node-at table kept c.args.number c.index.result.now c.index.ensures)).3
+    (numbered_in nodes trees c.args.number (node_of table c.index.result.now) c.self.invariant.2 view c.requires
+    (node-at table kept c.args.number c.index.result.now c.index.ensures)).3

@@ -1,8 +1,8 @@
 use Rattle.std.proofs.Common.{◌≡◌, [], length, ap, ◌∙◌}
 use Rattle.std.specs.List.{list_all}
 use Rattle.std.proofs.lemmas.List.{take_all}
-use Rattle.bf_grammar.specs.Object.{name_of}
-use Rattle.bf_grammar.specs.declared.object.Kind.TheVariants.{Tree}
+use Rattle.bf_oid.specs.Object.{name_of}
+use Rattle.bf_oid.specs.declared.object.Kind.TheVariants.{Tree}
 use Rattle.bf_forest.specs.Nodes.{World, is_good, body_of, nodes_of, stood, trees_from, are_within}
 use Rattle.bf_forest.proofs.Pooled.{node-good, name_by_entries, closed_in}
 use Rattle.bf_forest.proofs.Tabled.{within_get, stood_get}
@@ -15,9 +15,11 @@ add_body-requires c =
     let items = c.as_slice-number-items.result.now in
     let at = c.loop-number.number-index in
     record {
-      within = within_get (length now.table) items at (ap (are_within (length now.table)) c.as_slice-number-items.ensures ∙ c.requires.within) c.loop-number-test.true;
+      within = within_get (length now.table) items at (ap (are_within (length now.table)) c.as_slice-number-items.ensures ∙ c.requires.within)
+          c.loop-number-test.true;
       good = stood_get now.table (is_good (length now.trees)) items at
-          (ap (λ v. list_all (is_good (length now.trees)) (stood now.table v)) c.as_slice-number-items.ensures ∙ node-good now.trees (stood now.table numbers) c.requires.node) c.loop-number-test.true;
+          (ap (λ v. list_all (is_good (length now.trees)) (stood now.table v)) c.as_slice-number-items.ensures ∙ node-good now.trees (stood now.table numbers)
+          c.requires.node) c.loop-number-test.true;
     }
 
 pub returns : goal.returns

@@ -24,7 +24,9 @@ returns-clause-files c =
     let view : trees_from [] nodes ≡ trees = ap (λ (w : World). w.trees) c.self.view_is in
     let numbers = c.index.result.now.numbers in
     let P : List Entry → Type 0 = λ v. files_in trees (stood v numbers) ≡ files_at trees c.args.number in
-    subst P (ap (λ (w : World). w.table) c.self.view_is) (numbered_in nodes trees c.args.number (node_of table c.index.result.now) c.self.invariant.2 view c.requires (node-at table kept c.args.number c.index.result.now c.index.ensures)).0
+    subst P (ap (λ (w : World). w.table) c.self.view_is)
+    (numbered_in nodes trees c.args.number (node_of table c.index.result.now) c.self.invariant.2 view c.requires
+    (node-at table kept c.args.number c.index.result.now c.index.ensures)).0
 
 pub returns-clause-node : goal.returns-clause-node
 returns-clause-node c =
@@ -35,7 +37,9 @@ returns-clause-node c =
     let view : trees_from [] nodes ≡ trees = ap (λ (w : World). w.trees) c.self.view_is in
     let numbers = c.index.result.now.numbers in
     let P : List Entry → Type 0 = λ v. is_node trees (stood v numbers) ≡ true in
-    subst P (ap (λ (w : World). w.table) c.self.view_is) (numbered_in nodes trees c.args.number (node_of table c.index.result.now) c.self.invariant.2 view c.requires (node-at table kept c.args.number c.index.result.now c.index.ensures)).1
+    subst P (ap (λ (w : World). w.table) c.self.view_is)
+    (numbered_in nodes trees c.args.number (node_of table c.index.result.now) c.self.invariant.2 view c.requires
+    (node-at table kept c.args.number c.index.result.now c.index.ensures)).1
 
 pub returns-clause-within : goal.returns-clause-within
 returns-clause-within c =
@@ -48,4 +52,5 @@ returns-clause-within c =
     let P : List Entry → Type 0 = λ v. are_within (length v) numbers ≡ true in
     let less = node_within nodes trees c.args.number c.self.inside.nodes.len view (c.self.inside.nodes.ok.0 ∙ sym (length-nodes table kept)) c.requires in
     subst P (ap (λ (w : World). w.table) c.self.view_is)
-    (kept_within_at (length table) kept c.args.number c.index.result.now c.self.invariant.3 (subst (λ (n : ℕ). c.args.number < n) c.self.inside.nodes.ok.0 less) c.index.ensures)
+    (kept_within_at (length table) kept c.args.number c.index.result.now c.self.invariant.3 (subst (λ (n : ℕ). c.args.number < n) c.self.inside.nodes.ok.0 less)
+    c.index.ensures)

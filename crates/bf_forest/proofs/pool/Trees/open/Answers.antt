@@ -18,8 +18,6 @@ use Rattle.bf_forest.proofs.pool.Trees.open.Goals as goal
 pub edit_all-requires : goal.edit_all-requires
 edit_all-requires c =
     let now = c.args.self.now in
-    let trees = now.trees in
-    let edits = c.args.edits.now in
     let table = c.self.inside.table in
     let same : table ≡ now.table = ap (λ (w : World). w.table) c.self.view_is in
     let tail = c.in_ok-tail.tail in
@@ -43,8 +41,10 @@ returns-clause-opened c =
     let files = subst F (sym same) c.in_ok-tail.ensures.files in
     let slots = slots_of entries in
     let first : overlaid slots c.new.result.entries ≡ slots = ap (overlaid slots) c.new.ensures.empty in
-    let all = slots_wider (length trees) (longest edits) slots (longest_some edits c.requires.some) (slots_earlier (length trees) entries (node-good trees entries node)) in
-    let known = slots_edited trees (longest edits) edits slots sound (ap is_listing (contents-of trees entries) ∙ node-listing trees entries node, all) c.in_ok-edit_all.ensures.paths (omega arith) in
+    let all = slots_wider (length trees) (longest edits) slots (longest_some edits c.requires.some)
+    (slots_earlier (length trees) entries (node-good trees entries node)) in
+    let known = slots_edited trees (longest edits) edits slots sound (ap is_listing (contents-of trees entries) ∙ node-listing trees entries node, all)
+    c.in_ok-edit_all.ensures.paths (omega arith) in
     let after : slots_in table c.edit_all.new.rest ≡ fold (λ slots edit. slots_after edit slots) slots edits =
     c.in_ok-edit_all.ensures.slots ∙ ap (λ v. fold (λ slots edit. slots_after edit slots) v edits) first in
     let P : List Entry → Type 0 = λ v. IsOpened trees (edited (base_files trees c.args.base) edits) (slots_in v c.edit_all.new.rest) in
@@ -59,31 +59,19 @@ pub returns-clause-base : goal.returns-clause-base
 returns-clause-base c =
     let now = c.args.self.now in
     let trees = now.trees in
-    let edits = c.args.edits.now in
-    let table = c.self.inside.table in
-    let same : table ≡ now.table = ap (λ (w : World). w.table) c.self.view_is in
     let tail = c.in_ok-tail.tail in
     base_shorter trees now.table tail c.edit_all.new.rest.base c.in_ok-tail.ensures.base c.in_ok-edit_all.ensures.base
 
 pub returns-clause-heft : goal.returns-clause-heft
 returns-clause-heft c =
     let now = c.args.self.now in
-    let trees = now.trees in
     let edits = c.args.edits.now in
     let table = c.self.inside.table in
     let same : table ≡ now.table = ap (λ (w : World). w.table) c.self.view_is in
     let tail = c.in_ok-tail.tail in
     let entries = stood table tail in
-    let nodes = nodes_of table c.self.inside.nodes.items in
-    let sound = sound_in nodes trees c.self.invariant.2 (ap (λ (w : World). w.trees) c.self.view_is) in
-    let N : List Entry → Type 0 = λ v. is_node trees (stood v tail) ≡ true in
-    let node = subst N (sym same) c.in_ok-tail.ensures.node in
-    let F : List Entry → Type 0 = λ v. files_in trees (stood v tail) ≡ base_files trees c.args.base in
-    let files = subst F (sym same) c.in_ok-tail.ensures.files in
     let slots = slots_of entries in
     let first : overlaid slots c.new.result.entries ≡ slots = ap (overlaid slots) c.new.ensures.empty in
-    let all = slots_wider (length trees) (longest edits) slots (longest_some edits c.requires.some) (slots_earlier (length trees) entries (node-good trees entries node)) in
-    let known = slots_edited trees (longest edits) edits slots sound (ap is_listing (contents-of trees entries) ∙ node-listing trees entries node, all) c.in_ok-edit_all.ensures.paths (omega arith) in
     let after : slots_in table c.edit_all.new.rest ≡ fold (λ slots edit. slots_after edit slots) slots edits =
     c.in_ok-edit_all.ensures.slots ∙ ap (λ v. fold (λ slots edit. slots_after edit slots) v edits) first in
     let P : List Entry → Type 0 = λ v. heft (slots_in v c.edit_all.new.rest) + 2 * length edits ≤ weight edits in

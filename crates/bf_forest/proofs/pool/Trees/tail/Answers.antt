@@ -24,8 +24,11 @@ returns-in-Some-clause-base c =
     let numbers = c.node.result.now in
     let entries = stood now.table numbers in
     let P : List ℕ → Type 0 = IsBase now.trees now.table in
-    let known : IsBase now.trees now.table numbers =
-    ((c.node.ensures.within, in_order now.trees entries (node-listing now.trees entries c.node.ensures.node)), node-filled now.trees entries c.node.ensures.node) in
+    let known : IsBase now.trees now.table numbers = (
+      (c.node.ensures.within, in_order now.trees entries (node-listing now.trees entries c.node.ensures.node)),
+      node-filled now.trees entries
+          c.node.ensures.node,
+    ) in
     IfOk-weaker c.of.result (λ tail. tail ≡ c.as_slice.result.now) _ (λ tail e. subst P (sym (e ∙ c.as_slice.ensures)) known) c.of.ensures
 
 pub returns-in-Some-clause-files : goal.returns-in-Some-clause-files
@@ -34,7 +37,8 @@ returns-in-Some-clause-files c =
     let numbers = c.node.result.now in
     let entries = stood now.table numbers in
     IfOk-weaker c.of.result (λ tail. tail ≡ c.as_slice.result.now) _
-    (λ tail e. ap (λ v. files_in now.trees (stood now.table v)) (e ∙ c.as_slice.ensures) ∙ c.node.ensures.files ∙ sym (ap (base_files now.trees) c.in-Some.is)) c.of.ensures
+    (λ tail e. ap (λ v. files_in now.trees (stood now.table v)) (e ∙ c.as_slice.ensures) ∙ c.node.ensures.files ∙ sym (ap (base_files now.trees) c.in-Some.is))
+    c.of.ensures
 
 pub returns-in-Some-clause-node : goal.returns-in-Some-clause-node
 returns-in-Some-clause-node c =

@@ -31,5 +31,6 @@ pub returns : goal.returns
 returns c =
     let table = c.self.inside.table in
     let kept = c.self.inside.nodes.items in
-    ap (trees_from []) (ap (nodes_of table) c.truncate.ensures.items ∙ nodes-front table kept c.args.count) ∙ sym (trees-take (nodes_of table kept) c.args.count)
+    ap (trees_from []) (ap (nodes_of table) c.truncate.ensures.items ∙ nodes-front table kept c.args.count) ∙ sym
+    (trees-take (nodes_of table kept) c.args.count)
     ∙ ap (λ (w : World). take c.args.count w.trees) c.self.view_is

@@ -11,7 +11,8 @@ invariant_of-self c = keys_stay c.self.inside.keys.keys c.number_of_key.new.keys
 
 pub returns-in_err-key-clause-kept : goal.returns-in_err-key-clause-kept
 returns-in_err-key-clause-kept c =
-    table_stays c.self.inside.keys.keys c.number_of_key.new.keys.keys c.self.inside.stored.keys c.args.self.now c.number_of_key.ensures.kept c.self.invariant c.self.view_is
+    table_stays c.self.inside.keys.keys c.number_of_key.new.keys.keys c.self.inside.stored.keys c.args.self.now c.number_of_key.ensures.kept c.self.invariant
+    c.self.view_is
 
 pub invariant_of-self-2 : goal.invariant_of-self-2
 invariant_of-self-2 c =

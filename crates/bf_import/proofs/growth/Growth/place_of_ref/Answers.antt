@@ -1,6 +1,6 @@
 use Rattle.std.proofs.Common.{ℕ, ◌<◌, length, Option, IfSome, subst, sym}
 use Rattle.bf_forest.specs.Files.{is_same}
-use Rattle.bf_import.specs.Kept.{Growing}
+use Rattle.bf_import.specs.Growing.{Growing}
 use Rattle.bf_import.proofs.Keeping.{value_stands}
 use Rattle.bf_import.proofs.growth.Growth.place_of_ref.Goals as goal
 

@@ -7,16 +7,22 @@ use Rattle.bf_import.proofs.importer.Importer.merged.Goals as goal
 
 pub returns-in_err-place_of_target-clause-places : goal.returns-in_err-place_of_target-clause-places
 returns-in_err-place_of_target-clause-places c =
-    each_refused (place_of_target BadFrom c.args.self.now.loading) c.args.merges.now c.loop-target.target-index c.loop-target.places.items (λ (place : ℕ). place) (λ (places : Vec ℕ Global). places.items)
-    c.target-item.result c.in_err-place_of_target.field-0.0 c.from_residual.result c.from_residual.ensures.1 c.loop-target-test.true c.target-item.is c.in_err-place_of_target.ensures.place c.loop-target.invariant.so_far
+    each_refused (place_of_target BadFrom c.args.self.now.loading) c.args.merges.now c.loop-target.target-index c.loop-target.places.items
+    (λ (place : ℕ). place) (λ (places : Vec ℕ Global). places.items)
+    c.target-item.result c.in_err-place_of_target.field-0.0 c.from_residual.result c.from_residual.ensures.1 c.loop-target-test.true c.target-item.is
+    c.in_err-place_of_target.ensures.place c.loop-target.invariant.so_far
 
 pub loop-target-preserved : goal.loop-target-preserved
 loop-target-preserved c = record {
-  so_far = subst (λ (done : List ℕ). EachSoFar (place_of_target BadFrom c.args.self.now.loading) c.args.merges.now (c.loop-target.target-index + 1) done) (sym c.in_ok-push.ensures.items)
-      (each_more (place_of_target BadFrom c.args.self.now.loading) c.args.merges.now c.loop-target.target-index c.loop-target.places.items c.target-item.result c.in_ok-place_of_target.field-0 c.loop-target-test.true c.target-item.is c.in_ok-place_of_target.ensures.place c.loop-target.invariant.so_far);
+  so_far = subst (λ (done : List ℕ). EachSoFar (place_of_target BadFrom c.args.self.now.loading) c.args.merges.now (c.loop-target.target-index + 1) done)
+      (sym c.in_ok-push.ensures.items)
+      (each_more (place_of_target BadFrom c.args.self.now.loading) c.args.merges.now c.loop-target.target-index c.loop-target.places.items c.target-item.result
+      c.in_ok-place_of_target.field-0 c.loop-target-test.true c.target-item.is c.in_ok-place_of_target.ensures.place c.loop-target.invariant.so_far);
   there = subst (All (λ place. place < length c.args.self.now.loading.history.parents)) (sym c.in_ok-push.ensures.items)
-      (All-push (λ place. place < length c.args.self.now.loading.history.parents) c.loop-target.places.items c.in_ok-place_of_target.field-0 c.loop-target.invariant.there c.in_ok-place_of_target.ensures.there);
+      (All-push (λ place. place < length c.args.self.now.loading.history.parents) c.loop-target.places.items c.in_ok-place_of_target.field-0
+      c.loop-target.invariant.there c.in_ok-place_of_target.ensures.there);
 }
 
 pub returns-clause-places : goal.returns-clause-places
-returns-clause-places c = each_done (place_of_target BadFrom c.args.self.now.loading) c.args.merges.now c.loop-target.target-index c.loop-target.places.items c.loop-target-test.false c.loop-target.invariant.so_far
+returns-clause-places c = each_done (place_of_target BadFrom c.args.self.now.loading) c.args.merges.now c.loop-target.target-index c.loop-target.places.items
+    c.loop-target-test.false c.loop-target.invariant.so_far

@@ -15,7 +15,7 @@ returns-then-count-eq0-clause-filled g c = record {
   held = rw (← c.self.view_is)
       (view-kept (the_view c.self.inside) c.self.inside.buf.items c.make_room-start.new.buf.items c.read_behind.new.buf.items
       (c.self.inside.end - c.self.inside.start) c.self.inside.start c.make_room-start.result refl c.make_room-start.ensures.part c.read_behind.ensures.before);
-  within = rw (← c.self.view_is) (false_from_ne_true c.self.inside.past (λ t. c.if-self-eq0.false (c.self.invariant.4 t)));
+  within = rw (← c.self.view_is) (false_from_ne_true c.self.inside.past (λ t. c.if-self-eq0.false (c.self.invariant.spent t)));
   ended = c.in_ok-count.ensures.bytes.1 c.if-count-eq0.true;
 }
 
@@ -46,4 +46,5 @@ returns-clause-place g c =
     let gains = view-grown (the_view c.self.inside) c.self.inside.buf.items c.make_room-start.new.buf.items c.read_behind.new.buf.items
     size c.self.inside.start c.make_room-start.result n refl c.make_room-start.ensures.part c.read_behind.ensures.before
     (omega arith) (omega arith) (omega arith) in
-    Gains-place c.args.self.now _ _ _ (take n (drop (c.make_room-start.result + size) c.read_behind.new.buf.items)) (rw (← c.self.view_is) gains) c.in_ok-count.ensures.bytes.0
+    Gains-place c.args.self.now _ _ _ (take n (drop (c.make_room-start.result + size) c.read_behind.new.buf.items)) (rw (← c.self.view_is) gains)
+    c.in_ok-count.ensures.bytes.0

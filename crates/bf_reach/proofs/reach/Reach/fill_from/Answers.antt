@@ -19,9 +19,11 @@ walk-requires-clause-marks c = λ p h. let l : p < length c.mark_all.new.out = i
 
 pub returns-clause-row : goal.returns-clause-row
 returns-clause-row c =
-    let start : c.mark_all.new.out ≡ marked (replicate (length c.args.out.now) false) c.args.places.now = c.mark_all.ensures ∙ ap (λ (row : List Bool). marked row c.args.places.now) c.clear.ensures in
+    let start : c.mark_all.new.out ≡ marked (replicate (length c.args.out.now) false) c.args.places.now = c.mark_all.ensures ∙ ap
+    (λ (row : List Bool). marked row c.args.places.now) c.clear.ensures in
     row_of-from_marks _ _ (length c.args.out.now) _ c.len.ensures.graph c.requires.out (rw c.requires.out c.requires.places)
     (subst (λ (row : List Bool). Marks c.args.self.now row c.walk.new.out 0) start c.walk.ensures)
 
 pub returns-clause-len : goal.returns-clause-len
-returns-clause-len c = c.walk.ensures.same_length ∙ ap length c.mark_all.ensures ∙ length-marked c.clear.new.self c.args.places.now ∙ ap length c.clear.ensures ∙ length-replicate (length c.args.out.now) false
+returns-clause-len c = c.walk.ensures.same_length ∙ ap length c.mark_all.ensures ∙ length-marked c.clear.new.self c.args.places.now ∙ ap length c.clear.ensures
+    ∙ length-replicate (length c.args.out.now) false

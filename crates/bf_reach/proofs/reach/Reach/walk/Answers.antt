@@ -11,7 +11,8 @@ get-requires c = omega (arith, c.loop-place.invariant.same_length)
 
 pub loop-place-preserved-then-get : goal.loop-place-preserved-then-get
 loop-place-preserved-then-get c =
-    rw c.mark_all.ensures (Marks-more _ _ c.parents.ensures.parents (omega arith) (sym c.get.ensures ∙ c.if-get.true) c.parents.ensures.earlier c.loop-place.invariant)
+    rw c.mark_all.ensures (Marks-more _ _ c.parents.ensures.parents (omega arith) (sym c.get.ensures ∙ c.if-get.true) c.parents.ensures.earlier
+    c.loop-place.invariant)
 
 pub loop-place-preserved : goal.loop-place-preserved
 loop-place-preserved c = Marks-skip _ (omega arith) (sym c.get.ensures ∙ c.if-get.false) c.loop-place.invariant

@@ -13,4 +13,5 @@ pub returns-in_ok-from_slice-2-clause-taken : goal.returns-in_ok-from_slice-2-cl
 returns-in_ok-from_slice-2-clause-taken c =
     old_taken c.args.self.now c.set_old.new.self
     (behind_either (codes "--term-new=") (codes "--term-bad=") c.args.word.now) (behind_either (codes "--term-old=") (codes "--term-good=") c.args.word.now)
-    c.in-Some-behind_either.old.now c.in_ok-from_slice-2.field-0 c.in_default.ensures c.in-Some-behind_either.ensures c.set_old.ensures c.in_ok-from_slice-2.ensures
+    c.in-Some-behind_either.old.now c.in_ok-from_slice-2.field-0 c.in_default.ensures c.in-Some-behind_either.ensures c.set_old.ensures
+    c.in_ok-from_slice-2.ensures

@@ -7,12 +7,14 @@ use Rattle.bf_rows.proofs.blocks.Blocks.count.Goals as goal
 
 pub count_vector-requires : goal.count_vector-requires
 count_vector-requires c =
-    let number : c.self.inside.rows ≡ length c.args.self.now = sym (length-block_rows c.self.inside.rows c.self.inside.words.items) ∙ ap length c.self.view_is in
+    let number : c.self.inside.rows ≡ length c.args.self.now = sym (length-block_rows c.self.inside.rows c.self.inside.words.items) ∙ ap length
+    c.self.view_is in
     omega (arith, ap length c.as_slice.ensures.value, c.self.invariant.1)
 
 pub overflow_cast-result : goal.overflow_cast-result
 overflow_cast-result c =
-    let number : c.self.inside.rows ≡ length c.args.self.now = sym (length-block_rows c.self.inside.rows c.self.inside.words.items) ∙ ap length c.self.view_is in
+    let number : c.self.inside.rows ≡ length c.args.self.now = sym (length-block_rows c.self.inside.rows c.self.inside.words.items) ∙ ap length
+    c.self.view_is in
     let room : 8 * c.args.row + 8 ≤ length c.as_slice.result.now = omega (arith, ap length c.as_slice.ensures.value, c.self.invariant.1) in
     omega (arith, c.count_vector.ensures.ones, ones_of_vector c.as_slice.result.now (8 * c.args.row) room c.count_vector.ensures.fits)
 

@@ -7,13 +7,16 @@ use Rattle.bf_rows.proofs.blocks.Blocks.set.Goals as goal
 
 pub set-requires : goal.set-requires
 set-requires c =
-    let number : c.self.inside.rows ≡ length c.args.self.now = sym (length-block_rows c.self.inside.rows c.self.inside.words.items) ∙ ap length c.self.view_is in
+    let number : c.self.inside.rows ≡ length c.args.self.now = sym (length-block_rows c.self.inside.rows c.self.inside.words.items) ∙ ap length
+    c.self.view_is in
     omega (arith, ap length c.as_mut_slice.ensures.value, c.self.invariant.1)
 
 pub returns : goal.returns
 returns c =
     let rows = c.self.inside.rows in
     let number : rows ≡ length c.args.self.now = sym (length-block_rows rows c.self.inside.words.items) ∙ ap length c.self.view_is in
-    ap (block_rows rows) (with_items_is c.self.inside.words c.set.new.words (c.set.auto.words ∙ ap length c.as_mut_slice.ensures.value ∙ sym c.self.inside.words.ok.0))
-    ∙ place_set rows c.self.inside.words.items c.set.new.words c.args.self.now c.args.row c.args.column c.self.view_is (omega arith) c.requires.column_in c.set.ensures.same
+    ap (block_rows rows) (with_items_is c.self.inside.words c.set.new.words
+    (c.set.auto.words ∙ ap length c.as_mut_slice.ensures.value ∙ sym c.self.inside.words.ok.0))
+    ∙ place_set rows c.self.inside.words.items c.set.new.words c.args.self.now c.args.row c.args.column c.self.view_is (omega arith) c.requires.column_in
+    c.set.ensures.same
     (λ k other. c.set.ensures.others k other ∙ ap (λ l. has_bit l k) c.as_mut_slice.ensures.value)

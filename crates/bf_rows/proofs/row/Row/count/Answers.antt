@@ -9,7 +9,13 @@ count-requires c = omega (arith, ap length c.as_slice.ensures.value, c.self.inva
 pub overflow_cast-result : goal.overflow_cast-result
 overflow_cast-result c =
     let shown : Shows c.self.inside.len c.self.inside.words.items c.args.self.now = record { holds = c.self.invariant; view = c.self.view_is } in
-    omega (arith, shown_count _ _ _ _ _ shown c.as_slice.ensures.value c.count.ensures.ones c.count.ensures.fits, shown_length _ _ _ shown, count_by-le-length (λ b. b) c.args.self.now)
+    omega (
+      arith,
+      shown_count _ _ _ _ _ shown c.as_slice.ensures.value c.count.ensures.ones c.count.ensures.fits,
+      shown_length _ _ _ shown,
+      count_by-le-length
+          (λ b. b) c.args.self.now,
+    )
 
 pub returns : goal.returns
 returns c =

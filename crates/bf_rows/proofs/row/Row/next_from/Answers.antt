@@ -5,7 +5,8 @@ use Rattle.bf_rows.proofs.row.Row.next_from.Goals as goal
 pub returns-then-p-self-clause-next : goal.returns-then-p-self-clause-next
 returns-then-p-self-clause-next c =
     let shown : Shows c.self.inside.len c.self.inside.words.items c.args.self.now = record { holds = c.self.invariant; view = c.self.view_is } in
-    shown_result c.self.inside.len c.self.inside.words.items c.args.self.now c.args.p c.as_slice.result.now c.next_bit.result shown c.as_slice.ensures.value c.next_bit.ensures
+    shown_result c.self.inside.len c.self.inside.words.items c.args.self.now c.args.p c.as_slice.result.now c.next_bit.result shown c.as_slice.ensures.value
+    c.next_bit.ensures
 
 pub returns-else-p-self-clause-next : goal.returns-else-p-self-clause-next
 returns-else-p-self-clause-next c =
@@ -16,4 +17,5 @@ pub returns-then-p-self-clause-can_go_on : goal.returns-then-p-self-clause-can_g
 returns-then-p-self-clause-can_go_on c =
     let shown : Shows c.self.inside.len c.self.inside.words.items c.args.self.now = record { holds = c.self.invariant; view = c.self.view_is } in
     place_after c.args.self.now c.args.p c.next_bit.result (omega (arith, shown_length _ _ _ shown, c.self.invariant.short))
-    (shown_result c.self.inside.len c.self.inside.words.items c.args.self.now c.args.p c.as_slice.result.now c.next_bit.result shown c.as_slice.ensures.value c.next_bit.ensures)
+    (shown_result c.self.inside.len c.self.inside.words.items c.args.self.now c.args.p c.as_slice.result.now c.next_bit.result shown c.as_slice.ensures.value
+    c.next_bit.ensures)

@@ -14,7 +14,8 @@ use Rattle.bf_state.proofs.state.State.advance.Goals as goal
 pub follow-requires : goal.follow-requires
 follow-requires c =
     subst (λ (n : ℕ). IfSome (tested c.in_ok-decision.decision.step.ask) (λ p. p < n)) c.requires
-    (decision_within c.args.reach.now c.args.self.now.search c.in_ok-decision.decision.checked c.in_ok-decision.decision.step c.in_ok-decision.ensures.graph c.in_ok-decision.ensures.decides)
+    (decision_within c.args.reach.now c.args.self.now.search c.in_ok-decision.decision.checked c.in_ok-decision.decision.step c.in_ok-decision.ensures.graph
+    c.in_ok-decision.ensures.decides)
 
 pub returns-clause-state : goal.returns-clause-state
 returns-clause-state c =
@@ -24,7 +25,8 @@ returns-clause-state c =
 pub returns-clause-asked : goal.returns-clause-asked
 returns-clause-asked c = λ p h.
     subst (λ (n : ℕ). p < n) c.requires
-    (asking c.args.reach.now c.args.self.now.search p c.in_ok-decision.ensures.graph (ap (λ (t : Step). t.ask) (sym c.in_ok-decision.ensures.decides.step) ∙ h)).asks_for.within
+    (asking c.args.reach.now c.args.self.now.search p c.in_ok-decision.ensures.graph
+    (ap (λ (t : Step). t.ask) (sym c.in_ok-decision.ensures.decides.step) ∙ h)).asks_for.within
 
 pub returns-clause-first_bad : goal.returns-clause-first_bad
 returns-clause-first_bad c = λ p h.
@@ -34,4 +36,5 @@ returns-clause-first_bad c = λ p h.
 
 pub returns-clause-warned : goal.returns-clause-warned
 returns-clause-warned c =
-    subst (λ (t : Step). All (λ p. p < c.args.self.now.len) t.warned) (sym c.in_ok-decision.ensures.decides.step) (warned_in_session c.args.reach.now c.args.self.now c.requires c.in_ok-decision.ensures.below)
+    subst (λ (t : Step). All (λ p. p < c.args.self.now.len) t.warned) (sym c.in_ok-decision.ensures.decides.step)
+    (warned_in_session c.args.reach.now c.args.self.now c.requires c.in_ok-decision.ensures.below)

@@ -9,7 +9,8 @@ use Rattle.bf_state.proofs.state.State.advance_over.Goals as goal
 pub follow-requires : goal.follow-requires
 follow-requires c =
     subst (λ (n : ℕ). IfSome (tested c.in_ok-decision.decision.step.ask) (λ p. p < n)) c.requires.len
-    (decision_within c.args.reach.now c.args.self.now.search c.in_ok-decision.decision.checked c.in_ok-decision.decision.step c.in_ok-decision.ensures.graph c.in_ok-decision.ensures.decides)
+    (decision_within c.args.reach.now c.args.self.now.search c.in_ok-decision.decision.checked c.in_ok-decision.decision.step c.in_ok-decision.ensures.graph
+    c.in_ok-decision.ensures.decides)
 
 pub returns-clause-state : goal.returns-clause-state
 returns-clause-state c =

@@ -9,9 +9,11 @@ use Rattle.bf_state.proofs.state.State.advance_ranked.Goals as goal
 pub follow-requires : goal.follow-requires
 follow-requires c =
     subst (λ (n : ℕ). IfSome (tested c.in_ok-decision.field-0.decision.step.ask) (λ p. p < n)) c.requires.len
-    (decision_within c.args.reach.now c.args.self.now.search c.in_ok-decision.field-0.decision.checked c.in_ok-decision.field-0.decision.step c.in_ok-decision.ensures.graph c.in_ok-decision.ensures.decides)
+    (decision_within c.args.reach.now c.args.self.now.search c.in_ok-decision.field-0.decision.checked c.in_ok-decision.field-0.decision.step
+    c.in_ok-decision.ensures.graph c.in_ok-decision.ensures.decides)
 
 pub returns-clause-state : goal.returns-clause-state
 returns-clause-state c =
     c.follow.ensures ∙ ap (λ (s : Search). with_search c.args.self.now s)
-    (decision_leaves c.args.reach.now c.args.self.now.search c.in_ok-decision.field-0.decision.checked c.in_ok-decision.field-0.decision.step c.in_ok-decision.ensures.decides)
+    (decision_leaves c.args.reach.now c.args.self.now.search c.in_ok-decision.field-0.decision.checked c.in_ok-decision.field-0.decision.step
+    c.in_ok-decision.ensures.decides)

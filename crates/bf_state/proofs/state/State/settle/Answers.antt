@@ -20,7 +20,8 @@ returns c =
           ∙ settled_good now place asked (c.requires.added w.in-Good.is) asked_is
           ∙ ap (λ (m : Mark). with_search now (mark now.search m place)) (sym w.in-Good.is)
       | in-Bad w ↦ ap (λ (x : Inside). the_view (record x { expected = None })) w.self-inside-is
-          ∙ ap (λ (v : Session). with_search v (record v.search { bad = Some place; checked = v.search.checked && asked; expected = None; bad_asked = asked })) c.self.view_is
+          ∙ ap (λ (v : Session). with_search v (record v.search { bad = Some place; checked = v.search.checked && asked; expected = None; bad_asked = asked }))
+          c.self.view_is
           ∙ settled_bad now place asked asked_is
           ∙ ap (λ (m : Mark). with_search now (mark now.search m place)) (sym w.in-Bad.is)
       | in-Skip w ↦ ap (λ (x : Inside). the_view (record x { expected = None })) w.self-inside-is

@@ -12,7 +12,8 @@ pub follow-requires : goal.follow-requires
 follow-requires c =
     subst (λ (n : ℕ). IfSome (tested c.in_ok-decision.decision.step.ask) (λ p. p < n))
     (c.requires.len ∙ sym (ap (λ (v : Session). v.len) c.in_ok-add_if_good.ensures.ok))
-    (decision_within c.args.reach.now c.args.self.now.search c.in_ok-decision.decision.checked c.in_ok-decision.decision.step c.in_ok-decision.ensures.graph c.in_ok-decision.ensures.decides)
+    (decision_within c.args.reach.now c.args.self.now.search c.in_ok-decision.decision.checked c.in_ok-decision.decision.step c.in_ok-decision.ensures.graph
+    c.in_ok-decision.ensures.decides)
 
 pub returns-clause-state : goal.returns-clause-state
 returns-clause-state c =
@@ -24,6 +25,7 @@ returns-clause-state c =
     let followed_is : c.follow.new.self ≡ with_search now (with_marked_good (ask c.args.reach.now now.search).search m p) =
     c.follow.ensures ∙ ap (λ (v : Session). with_search v (followed v.search checked expected)) c.in_ok-add_if_good.ensures.ok
     ∙ ap (λ (s : Search). with_search now s) (follow_added now.search m p checked expected)
-    ∙ ap (λ (s : Search). with_search now (with_marked_good s m p)) (decision_leaves c.args.reach.now now.search checked c.in_ok-decision.decision.step c.in_ok-decision.ensures.decides) in
+    ∙ ap (λ (s : Search). with_search now (with_marked_good s m p))
+    (decision_leaves c.args.reach.now now.search checked c.in_ok-decision.decision.step c.in_ok-decision.ensures.decides) in
     c.settle.ensures ∙ ap (λ (v : Session). with_search v (mark v.search m p)) followed_is
     ∙ ap (λ (s : Search). with_search now s) (mark_added (ask c.args.reach.now now.search).search m p)

@@ -28,7 +28,8 @@ invariant_of-self c =
     let value = alone_value name there.0 number slots there.1 one in
     let less = one_less name (filled slots) there.0 value in
     let same = ap length (alone_without name there.0 number slots there.1 one) in
-    let count : index_map_len c.swap_remove.new.self ≡ length (filled (set slots number None)) = omega (arith, less, same, c.self.invariant.0, c.in-Some.ensures.len) in
+    let count : index_map_len c.swap_remove.new.self ≡ length (filled (set slots number None)) = omega
+    (arith, less, same, c.self.invariant.0, c.in-Some.ensures.len) in
     let P : Slots → Type 0 = λ v. (index_map_len c.swap_remove.new.self ≡ length (filled v)) × Leads next v × IsLedTo next v in
     subst P (sym c.fill.ensures) (
       count,

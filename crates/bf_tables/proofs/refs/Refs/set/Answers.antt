@@ -1,11 +1,13 @@
-use Rattle.std.proofs.Common.{◌≡◌, ℕ, ◌+◌, List, [], ◌∷◌, ◌++◌, length, set, cond, Option, Some, None, is_some, if◌then◌else◌, sym, ap, ◌∙◌, subst, arith, length-append}
+use Rattle.std.proofs.Common.{◌≡◌, ℕ, ◌+◌, List, [], ◌∷◌, ◌++◌, length, set, cond, Option, Some, None, is_some, if◌then◌else◌, sym, ap, ◌∙◌, subst, arith}
+use Rattle.std.proofs.Common.{length-append}
 use Rattle.std.proofs.lemmas.Option.{slice_get_within}
 use Rattle.std.specs.Map.{lookup}
 use Rattle.indexmap.specs.IndexMap.{get, index_map_len}
 use Rattle.bf_forest.specs.Files.{is_same}
 use Rattle.bf_history.specs.Named.{with_value}
 use Rattle.bf_tables.specs.Slots.{Slots, filled, Leads, IsLedTo}
-use Rattle.bf_tables.proofs.Numbered.{lacks, lacking_with, alone, alone_value, alone_with, same_length, leads_set, led_set, leads_empty, led_empty, leads_new, led_new, empty_last, filled_last, always_err}
+use Rattle.bf_tables.proofs.Numbered.{lacks, lacking_with, alone, alone_value, alone_with, same_length, leads_set, led_set, leads_empty, led_empty, leads_new}
+use Rattle.bf_tables.proofs.Numbered.{led_new, empty_last, filled_last, always_err}
 use Rattle.bf_tables.proofs.refs.Refs.set.Goals as goal
 
 pub fill-requires : goal.fill-requires
@@ -53,7 +55,8 @@ invariant_of-self-in_err-insert c =
     let slots = c.self.inside.slots.items in
     let old = c.self.inside.numbers.entries in
     let number_of = get is_same c.self.inside.numbers in
-    let P : Slots → List (List ℕ × ℕ) → Type 0 = λ v es. (length es ≡ length (filled v)) × Leads (λ q. lookup (is_same q) es) v × IsLedTo (λ q. lookup (is_same q) es) v in
+    let P : Slots → List (List ℕ × ℕ) → Type 0 = λ v es. (length es ≡ length (filled v)) × Leads (λ q. lookup (is_same q) es) v × IsLedTo
+    (λ q. lookup (is_same q) es) v in
     let empty : P (slots ++ None ∷ []) old = (
       c.self.invariant.0 ∙ sym (ap length (empty_last slots)),
       leads_empty number_of slots c.self.invariant.1 c.self.invariant.2,
@@ -83,7 +86,8 @@ invariant_of-self-2 c =
     let before : c.in_ok-insert.field-0 ≡ None = c.in_ok-insert.ensures.old ∙ ap number_of key ∙ none in
     let more = c.in_ok-insert.ensures.len ∙ ap (λ (o : Option ℕ). index_map_len numbers + (if is_some o then 0 else 1)) before in
     let last = ap length (filled_last slots (name, value)) in
-    let count : index_map_len c.insert.new.self ≡ length (filled after) = omega (arith, more, last, length-append (filled slots) ((name, value) ∷ []), c.self.invariant.0) in
+    let count : index_map_len c.insert.new.self ≡ length (filled after) = omega
+    (arith, more, last, length-append (filled slots) ((name, value) ∷ []), c.self.invariant.0) in
     let P : Slots → Type 0 = λ v. (index_map_len c.insert.new.self ≡ length (filled v)) × Leads next v × IsLedTo next v in
     subst P (sym all) (
       count,

@@ -1,0 +1,18 @@
+use Rattle.std.proofs.Common.{◌≡◌, ◌≤◌, ℕ, List, Option, false}
+use Rattle.bf_stream.specs.Standing as standing
+use Rattle.bf_import.specs.Loading.{LoadsOn}
+use Rattle.bf_import.proofs.loading.load.Given as goal
+
+abbrev pub invariant-commands : goal.invariant-commands
+invariant-commands g l = record {
+  loads : (bytes : Option (List ℕ)) → LoadsOn l.fn.importer.limits bytes (standing.reader_place g.S.Source.left l.fn.reader) l.fn.importer.loading
+      → LoadsOn l.fn.importer.limits bytes (standing.reader_place g.S.Source.left l.reader) l.importer.loading;
+  limits : l.importer.limits ≡ l.fn.importer.limits;
+  read_under : standing.limits_of l.reader ≡ l.fn.importer.limits;
+  going_on : standing.is_over l.reader ≡ false;
+  source : standing.source_of l.reader ≡ standing.source_of l.fn.reader;
+  later : standing.reader_faults g.S.Source.faults l.fn.reader ≤ standing.reader_faults g.S.Source.faults l.reader;
+}
+
+abbrev pub decreases-commands : goal.decreases-commands
+decreases-commands g l = standing.left_to_read l.reader

@@ -1,0 +1,111 @@
+//! A commit that joins a history.
+ghost use Rattle.std.specs.Prelude.{◌≡◌, ◌≤◌, ◌<◌, length, None, All, IfOk, IfSome};
+ghost use Rattle.bf_forest.specs.Trees.{files_at};
+ghost use Rattle.bf_history.specs.Bodies.{subject_of};
+ghost use Rattle.bf_history.specs.Imports.{Means};
+ghost use Rattle.bf_history.specs.Meanings.{place_named, place_of_commit};
+ghost use Rattle.bf_import.specs.Growing.{HasPlace, commit_from, edited_files, joined, refusal_of, with_edits, with_new, within_commits, within_entries};
+
+use crate::growth::Growth;
+use bf_commits::{commit_name, subject_of};
+use bf_forest::{Edit, ForestFault};
+use bf_grammar::{Header, Limit};
+use bf_history::ImportFault;
+use bf_io::Bytes;
+use bf_oid::Oid;
+
+impl Growth {
+    /// Adds a commit with these parents, whose files are those of a place after edits, and gives its
+    /// place; without a place they begin with no files. A commit whose name is there already stays at its
+    /// place.
+    pub(crate) fn commit(
+        &mut self,
+        first: Option<u32>,
+        parents: &[u32],
+        edits: &[Edit],
+        header: &Header,
+    ) -> Result<u32, ImportFault>
+        requires first { IfSome first (HasPlace self.old.history) }
+        requires parents { All (HasPlace self.old.history) parents.now }
+        ensures history { let history = self.old.history in
+            let commit = commit_from history first parents.now edits.now header.now in
+            Means (λ _. self.new.history) result (joined self.old.limits history commit) }
+        ensures place { let history = self.old.history in
+            let commit = commit_from history first parents.now edits.now header.now in
+            IfOk result (λ place. place ≡ place_of_commit history commit) }
+        ensures there { IfOk result (HasPlace self.new.history) }
+        ensures kept { length self.old.history.parents ≤ length self.new.history.parents }
+        ensures limits { self.new.limits ≡ self.old.limits }
+    {
+        let tree = self.edited_tree(first, edits)?;
+        let name = commit_name(self.tree_name(tree), parents, self.names(), header)?;
+        match self.place_named(name) {
+            Some(place) => Ok(place),
+            None => self.add_new(parents, tree, &header.message, name),
+        }
+    }
+
+    /// The number of the tree of a commit, which joins the pool of trees, where that is within its limit.
+    fn edited_tree(&mut self, first: Option<u32>, edits: &[Edit]) -> Result<u32, ImportFault>
+        requires { IfSome first (HasPlace self.old.history) }
+        ensures number { IfOk result (λ tree. tree < length self.new.history.directories) }
+        ensures files { IfOk result (λ tree. files_at self.new.history.directories tree
+            ≡ edited_files self.old.history first edits.now) }
+        ensures pool { let most = self.old.limits.entries in
+            let edited = with_edits self.old.history first edits.now in
+            Means (λ _. self.new.history) result (within_entries most edited) }
+        ensures parents { self.new.history.parents ≡ self.old.history.parents }
+        ensures limits { self.new.limits ≡ self.old.limits }
+    {
+        match self.apply(first, edits) {
+            Ok(tree) => Ok(tree),
+            Err(fault) => Err(refusal(fault)),
+        }
+    }
+
+    /// Adds a commit whose name is new, where one more is within the limit, and gives its place.
+    fn add_new(
+        &mut self,
+        parents: &[u32],
+        tree: u32,
+        message: &Bytes,
+        name: Oid,
+    ) -> Result<u32, ImportFault>
+        requires parents { All (HasPlace self.old.history) parents.now }
+        requires tree { tree < length self.old.history.directories }
+        requires new { place_named self.old.history.names name ≡ None }
+        ensures history { let most = self.old.limits.commits in
+            Means (λ _. self.new.history) result (within_commits most (with_new self.old.history (record {
+              parents = parents.now;
+              files = files_at self.old.history.directories tree;
+              subject = subject_of message.now;
+              name = name;
+            }))) }
+        ensures place { IfOk result (λ place. place ≡ length self.old.history.names) }
+        ensures there { IfOk result (HasPlace self.new.history) }
+        ensures kept { length self.old.history.parents ≤ length self.new.history.parents }
+        ensures limits { self.new.limits ≡ self.old.limits }
+    {
+        let place = self.len();
+        if place >= self.most() {
+            return Err(ImportFault::TooLarge {
+                what: Limit::Commits,
+            });
+        }
+        let subject = Bytes::from_slice(message.allocator(), subject_of(message.as_slice()))?;
+        self.add(parents, tree, subject, name)?;
+        Ok(place)
+    }
+}
+
+/// How an import is refused where a tree did not join the pool.
+fn refusal(fault: ForestFault) -> ImportFault
+    ensures { result ≡ refusal_of fault }
+{
+    match fault {
+        ForestFault::TooMany => ImportFault::TooLarge {
+            what: Limit::Entries,
+        },
+        ForestFault::NoMemory => ImportFault::NoMemory,
+    }
+}
