@@ -10,6 +10,8 @@ TOP = os.path.dirname(os.path.dirname(os.path.abspath(__file__)))
 FILE = r"`((?:crates/|benches/|tests/|docs/|tools/|man/)?[\w-]+(?:/[\w.-]+)+\.(?:rt|antt|edit|py|sh|md))`"
 # `name`, `name` in `file`, and `name` (`file`)
 NAMED = r"((?:`[\w:<>-]+`(?:, | and )?)+) (?:in |\()" + FILE
+# `file`: `name`
+FIRST_FILE = FILE + r": (`[\w:<>-]+`)"
 
 
 def path_of(name):
@@ -27,7 +29,7 @@ def missing_in(text):
     for name in re.findall(FILE, text):
         if not path_of(name):
             yield f"there is no {name}"
-    for names, file in re.findall(NAMED, text):
+    for names, file in [*re.findall(NAMED, text), *((name, file) for file, name in re.findall(FIRST_FILE, text))]:
         for name in re.findall(r"`([^`]+)`", names):
             if path_of(file) and name.split("::")[-1] not in read(path_of(file)):
                 yield f"there is no {name} in {file}"
@@ -41,7 +43,7 @@ def other_code(text):
 
 
 def main():
-    wrong = [f"{os.path.relpath(page, TOP)}: {fault}" for page in sorted(glob.glob(os.path.join(TOP, "docs", "*.md")))
+    wrong = [f"{os.path.relpath(page, TOP)}: {fault}" for page in [os.path.join(TOP, "README.md"), *sorted(glob.glob(os.path.join(TOP, "docs", "*.md")))]
              for fault in [*missing_in(read(page)), *other_code(read(page))]]
     print(*wrong, sep="\n")
     return not wrong
