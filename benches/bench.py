@@ -29,7 +29,8 @@ bench_stream, bench_forest or bench_farm where these are named below, else farmd
 proved build left, which is made where there is none; FARMDAWN may name another farmdawn.
 
 Ratios say how many times as fast as git a program is; times are of processors, where nothing else is said, and memory is
-the greatest that the program alone had. The status is 1 where something is not as it must be.
+the greatest that the program alone had. Imports below five seconds are run five times, and the least counts. The status is 1
+where something is not as it must be.
 """
 import argparse
 import os
@@ -49,7 +50,7 @@ import gate
 import repository
 import streams
 import watch
-from measure import measure
+from measure import least, measure
 from repository import git
 
 TOP = os.path.dirname(os.path.dirname(os.path.abspath(__file__)))
@@ -115,7 +116,7 @@ class Bench:
     def beside_git(self, label, ours):
         """Prints what git takes to import the stream, beside what a program took."""
         if HAS_GIT:
-            theirs, _ = self.git_import()
+            theirs = least(lambda: self.git_import()[0])
             print(f"{label}: git fast-import {theirs}; {ratio(theirs.processor, ours.processor)}")
 
 
@@ -131,8 +132,8 @@ def import_(bench, commits, files, megabytes):
     for make, size in ((streams.generated, commits), (streams.folder, files), (streams.contents, megabytes)):
         label = f"{make.__name__} {size}"
         count = bench.write(make, size)
-        ours = bench.ask(*NOTHING_TO_ASK)
-        plain = measure(["sha1sum"], bench.stream)
+        ours = least(lambda: bench.ask(*NOTHING_TO_ASK))
+        plain = least(lambda: measure(["sha1sum"], bench.stream))
         print(f"{label}: {count} bytes; farmdawn {ours}; sha1sum of the stream {plain.processor:.2f} s")
         bench.beside_git(label, ours)
     bench.write(streams.mark_far, commits // 2)

@@ -64,3 +64,12 @@ def measure(command, given=os.devnull, limit=600.0, keep=None, folder=None, stac
         with open(keep, "rb") as file:
             kept = file.read()
     return Cost(seconds, usage.ru_utime + usage.ru_stime, peak, child.returncode, kept)
+
+
+def least(run):
+    """The cost of the cheapest of five runs where one takes less than five seconds of a processor, for what else a machine does
+    only adds to them. A longer one is run once."""
+    costs = [run()]
+    while costs[0].processor < 5 and len(costs) < 5:
+        costs.append(run())
+    return min(costs, key=lambda cost: cost.processor)

@@ -47,4 +47,5 @@ IsNameIn line word text result =
 -- a feature that is taken, or its refusal
 abbrev pub IsFeature : ℕ → List ℕ → Result FirstLine StreamFault → Type 0
 IsFeature line feature result =
-    MatchResult result (λ read. (feature_of line feature ≡ Ok (head_in read)) × ((text : List ℕ) → NameIs text read)) (λ fault. feature_of line feature ≡ Err fault)
+    MatchResult result (λ read. (feature_of line feature ≡ Ok (head_in read)) × ((text : List ℕ) → NameIs text read))
+    (λ fault. feature_of line feature ≡ Err fault)

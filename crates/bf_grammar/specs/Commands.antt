@@ -20,7 +20,8 @@ use Rattle.bf_grammar.specs.declared.fault.StreamFault.{StreamFault}
 use Rattle.bf_grammar.specs.declared.fault.StreamFault.TheVariants.{Syntax, Unsupported, NoDone}
 use Rattle.bf_grammar.specs.Place.{Reading, pure, refuse, lifted, ◌>>=◌, repeat}
 use Rattle.bf_grammar.specs.Lines.{is_text, take_line, with_line, at_word, must_be_at, at_command, skip_end_of_line, bytes_at, delimited_at}
-use Rattle.bf_grammar.specs.Forms.{where_so, mark_of, text_after, ident_of, encoding_of, data_form, delimiter_in, modify_form, modified_path, head_of, name_after}
+use Rattle.bf_grammar.specs.Forms.{where_so, mark_of, text_after, ident_of, encoding_of, data_form, delimiter_in, modify_form, modified_path, head_of}
+use Rattle.bf_grammar.specs.Forms.{name_after}
 
 -- what the line in front says, and its end
 abbrev pub line_as : {X : Type 0} → (ℕ → List ℕ → Result X StreamFault) → Reading X

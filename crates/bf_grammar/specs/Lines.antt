@@ -1,5 +1,6 @@
 -- The lines and data parts of a stream (git-fast-import(1)). A line ends with LF, the last one may end without it.
-use Rattle.std.specs.Prelude.{ℕ, ◌+◌, Bool, true, false, ◌==◌, ◌&&◌, ◌||◌, not, nat_lt, nat_le, List, [], ◌∷◌, ◌++◌, length, take, codes, Ok, Err, if◌then◌else◌, ◌⊎◌}
+use Rattle.std.specs.Prelude.{ℕ, ◌+◌, Bool, true, false, ◌==◌, ◌&&◌, ◌||◌, not, nat_lt, nat_le, List, [], ◌∷◌, ◌++◌, length, take, codes, Ok, Err}
+use Rattle.std.specs.Prelude.{if◌then◌else◌, ◌⊎◌}
 use Rattle.std.specs.List.{list_any, starts_with, before_first}
 use Rattle.std.proofs.Common.{inl, inr}
 use Rattle.bf_grammar.specs.declared.fault.Limit.TheVariants.{Line, Data, Stream}

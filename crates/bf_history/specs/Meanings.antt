@@ -1,5 +1,6 @@
 -- What each command of a stream does to the history so far (git-fast-import(1)), or how it is refused.
-use Rattle.std.specs.Prelude.{ℕ, ◌-◌, Bool, true, false, ◌==◌, ◌&&◌, nat_lt, List, [], ◌∷◌, ◌++◌, length, take, map, codes, Option, Some, None, unwrap_or, Result, Ok, Err, if◌then◌else◌}
+use Rattle.std.specs.Prelude.{ℕ, ◌-◌, Bool, true, false, ◌==◌, ◌&&◌, nat_lt, List, [], ◌∷◌, ◌++◌, length, take, map, codes, Option, Some, None}
+use Rattle.std.specs.Prelude.{unwrap_or, Result, Ok, Err, if◌then◌else◌}
 use Rattle.std.specs.List.{list_all, ends_with, position, slice_index_or}
 use Rattle.std.specs.Option.{option_to_list, ok_or}
 use Rattle.bf_grammar.specs.declared.command.Change.{Change}
@@ -221,7 +222,8 @@ after_tag loading name mark target =
     Ok (record { history = with_ref (codes "refs/tags/" ++ name) place loading.history; marks = with_mark mark marked.Tag loading.marks })
 
 unfoldable pub after_command : Limits → Loading → Command → Result Loading ImportFault
-after_command limits loading (command.Blob line mark content) = Ok (record loading { marks = with_mark mark (marked.Blob (record { 0 = name_of kind.Blob content })) loading.marks })
+after_command limits loading (command.Blob line mark content) =
+    Ok (record loading { marks = with_mark mark (marked.Blob (record { 0 = name_of kind.Blob content })) loading.marks })
 after_command limits loading (command.Commit given) = after_commit limits loading given
 after_command limits loading (command.Tag line name mark from) = after_tag loading name mark from
 after_command limits loading (command.Reset line branch from) = after_reset loading branch from

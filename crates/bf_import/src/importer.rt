@@ -1,13 +1,15 @@
 //! An import under way.
-ghost use Rattle.std.specs.Prelude.{◌≡◌, ◌==◌, ◌≤◌, ◌<◌, ◌++◌, codes, length, All, IfOk, IfSome, OnErr, OnOk};
+ghost use Rattle.std.specs.Prelude.{◌≡◌, ◌==◌, ◌<◌, ◌++◌, codes, length, All, IfOk, IfSome, OnErr, OnOk};
 ghost use Rattle.std.specs.List.{list_all};
 ghost use Rattle.bf_oid.specs.declared.object.Kind.TheVariants as kind;
 ghost use Rattle.bf_grammar.specs.Limits.{IsWithin};
 ghost use Rattle.bf_oid.specs.Object.{name_of};
 ghost use Rattle.bf_history.specs.declared.marked.Marked.TheVariants as marked;
 ghost use Rattle.bf_history.specs.Imports.{Means};
-ghost use Rattle.bf_history.specs.Meanings.{nothing_loaded, after_command, after_commit, after_reset, after_tag, each_of, edit_of, is_no_name, place_of_commit, with_mark};
-ghost use Rattle.bf_import.specs.Growing.{HasPlace, Leaves, StandsBelow, commit_from, committed, joined, mark_set, meant_by, nothing_imported, ref_removed, ref_set};
+ghost use Rattle.bf_history.specs.Meanings.{after_reset, after_tag, each_of, edit_of, is_no_name};
+ghost use Rattle.bf_history.specs.Meanings.{place_of_commit, with_mark};
+ghost use Rattle.bf_import.specs.Growing.{HasPlace, Leaves, StandsBelow, commit_from, committed, joined, mark_set, meant_by, nothing_imported};
+ghost use Rattle.bf_import.specs.Growing.{ref_removed, ref_set};
 
 use crate::growth::Growth;
 use crate::history::History;

@@ -15,7 +15,11 @@ use bf_grammar::Target;
 use bf_history::{ImportFault, Marked};
 use bf_io::Bytes;
 use bf_oid::oid_from_hex;
-use std::alloc::AllocError;
+use smallvec::SmallVec;
+use std::alloc::{AllocError, Global};
+
+/// The places of the parents of a commit. One or two take no memory of their own.
+pub(crate) type Parents = SmallVec<u32, 2>;
 
 impl Importer {
     /// The place of the commit that a target names: by its mark, by its name or by a ref.
@@ -85,7 +89,7 @@ impl Importer {
         &self,
         first: Option<u32>,
         merges: &[Target],
-    ) -> Result<Vec<u32>, ImportFault>
+    ) -> Result<Parents, ImportFault>
         requires { IfSome first (HasPlace self.now.loading.history) }
         ensures parents { let loading = self.now.loading in
             Means (λ parents. parents.items) result (parents_given loading first merges.now) }
@@ -93,7 +97,7 @@ impl Importer {
             IfOk result (λ parents. All (HasPlace history) parents.items) }
     {
         let merged = self.merged(merges)?;
-        Ok(with_first(first, merged)?)
+        Ok(with_first(self.allocator(), first, merged.as_slice())?)
     }
 
     /// The commits that are merged.
@@ -112,10 +116,10 @@ impl Importer {
     }
 }
 
-fn with_first(first: Option<u32>, places: Vec<u32>) -> Result<Vec<u32>, AllocError>
-    ensures { IfOk result (λ parents. parents.items ≡ option_to_list first ++ places.items) }
+fn with_first(alloc: Global, first: Option<u32>, places: &[u32]) -> Result<Parents, AllocError>
+    ensures { IfOk result (λ parents. parents.items ≡ option_to_list first ++ places.now) }
 {
-    let mut parents = places;
+    let mut parents = SmallVec::from_slice(alloc, places)?;
     if let Some(place) = first {
         parents.insert(0, place)?;
     }

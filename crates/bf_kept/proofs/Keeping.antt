@@ -1,5 +1,5 @@
 -- What each command of a stream keeps.
-use Rattle.std.proofs.Common.{◌≡◌, ℕ, zero, suc, ◌+◌, ◌<◌, ◌≤◌, ◌==◌, Bool, true, false, not, cond, nat_lt, List, [], ◌∷◌, ◌++◌, length, map, codes, get_or}
+use Rattle.std.proofs.Common.{◌≡◌, ℕ, zero, suc, ◌+◌, ◌<◌, ◌≤◌, ◌==◌, Bool, true, false, not, cond, List, [], ◌∷◌, ◌++◌, length, map, codes, get_or}
 use Rattle.std.proofs.Common.{Option, Some, None, Result, Ok, Err, IfOk, refl, sym, ap, subst, ◌∙◌, arith, ⊎_elim, length-append}
 use Rattle.std.proofs.lemmas.Bool.{cases_lt}
 use Rattle.std.proofs.lemmas.List.Elements.{All-nil, All-push}
@@ -18,7 +18,7 @@ use Rattle.bf_oid.specs.declared.object.Oid.{Oid}
 use Rattle.bf_oid.specs.Object.{object_header}
 use Rattle.bf_forest.specs.declared.edits.Edit.{Edit}
 use Rattle.bf_forest.specs.Files.{Files, edited, is_same}
-use Rattle.bf_forest.specs.Trees.{tree_name, with_directories, entries_of}
+use Rattle.bf_forest.specs.Trees.{tree_name, with_directories}
 use Rattle.bf_history.specs.declared.fault.ImportFault.{ImportFault}
 use Rattle.bf_history.specs.declared.fault.ImportFault.TheVariants.{BadFrom, Unsupported}
 use Rattle.bf_history.specs.declared.marked.Marked.TheVariants as marked
@@ -27,6 +27,7 @@ use Rattle.bf_history.specs.Imports.{loaded}
 use Rattle.bf_history.specs.Meanings.{History, Loading, Commit, nothing_loaded, ◌>>=◌, each_of, place_named, place_of_target, edit_of, begins_with, files_from}
 use Rattle.bf_history.specs.Meanings.{name_at, commit_on, stood, with_commit, place_of_commit, within_limits, with_ref, without_ref, with_mark, after_commit}
 use Rattle.bf_history.specs.Meanings.{after_reset, after_tag, after_command, is_no_name}
+use Rattle.bf_history.proofs.Steps.{last_step, within_same}
 use Rattle.bf_tables.proofs.Positions.{position_more}
 use Rattle.bf_kept.specs.Kept.{IsOneLine, IsWholeName, IsKept}
 use Rattle.bf_kept.proofs.Digests.{sha1_long, sha1_bytes, front_passes}
@@ -127,10 +128,6 @@ whole_name history parents files header =
 abbrev AfterIsKept : Result Loading ImportFault → Type 0
 AfterIsKept result = IfOk result (λ loading. IsKept loading.history)
 
-last_step : {D Y : Type 0} (d : Result D ImportFault) (f : D → Y) (P : Y → Type 0) → ((w : D) → d ≡ Ok w → P (f w)) → IfOk (d >>= λ w. Ok (f w)) P
-last_step (Ok w) f P h = h w refl
-last_step (Err e) f P h = tt
-
 four_steps : {A B C D Y : Type 0} (a : Result A ImportFault) (b : Result B ImportFault) (c : Result C ImportFault)
     (d : A → B → C → Result D ImportFault) (f : A → B → C → D → Y) (P : Y → Type 0)
     → ((x : A) (y : B) (z : C) (w : D) → d x y z ≡ Ok w → P (f x y z w))
@@ -139,19 +136,6 @@ four_steps (Ok x) (Ok y) (Ok z) d f P h = last_step (d x y z) (f x y z) P (h x y
 four_steps (Ok x) (Ok y) (Err e) d f P h = tt
 four_steps (Ok x) (Err e) c d f P h = tt
 four_steps (Err e) b c d f P h = tt
-
-err_ok : {X F : Type 0} (e : F) (x : X) → Err e ≡ Ok x → ⊥
-err_ok e x h = cc
-
-limited : {X F : Type 0} (one other : Bool) (e f : F) (x w : X) → cond one (Err e) (cond other (Err f) (Ok x)) ≡ Ok w → x ≡ w
-limited true other e f x w h = absurd (err_ok e w h)
-limited false true e f x w h = absurd (err_ok f w h)
-limited false false e f x w h = cc
-
-within_same : (limits : Limits) (history after : History) → within_limits limits history ≡ Ok after → history ≡ after
-unfolding within_limits
-within_same limits history after h =
-    limited (nat_lt limits.entries (entries_of history.directories)) (nat_lt limits.commits (length history.names)) _ _ history after h
 
 -- the commit that a command makes
 abbrev made : Loading → Header → Option ℕ → List ℕ → List Edit → Commit

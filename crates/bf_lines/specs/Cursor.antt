@@ -11,7 +11,7 @@ use Rattle.bf_grammar.specs.Lines as lines
 use Rattle.bf_grammar.specs.Lines.{front_line}
 use Rattle.bf_lines.specs.declared.cursor.Cursor.{Cursor}
 use Rattle.bf_lines.specs.Held as held
-use Rattle.bf_lines.specs.Held.{place_of, remaining}
+use Rattle.bf_lines.specs.Held.{past_held_line, place_of, remaining}
 
 -- the place where a reading through a cursor stands, where the source tells what it has left
 abbrev pub place_at : {S : Type 0} → (S → Option (List ℕ)) → Cursor S → Option Place
@@ -70,6 +70,12 @@ pub record Reads {S X : Type 0} (left : S → Option (List ℕ)) (faults : S →
 -- the line in front has this text
 abbrev pub TextIs : {S : Type 0} → (S → Option (List ℕ)) → Cursor S → List ℕ → Type 0
 TextIs left cursor text = IfSome (place_at left cursor) (λ p. text ≡ front_line p.rest)
+
+-- the line in front was taken, or all that is held of it, and nothing of the source
+pub record GoesBehindLine {S : Type 0} (old new : Cursor S) : Type 0 where
+  pub window : new.window ≡ past_held_line old.window
+  pub limits : limits_of new ≡ limits_of old
+  pub source : new.source ≡ old.source
 
 -- the line in front was taken, which is at least a byte
 pub record TakesLine {S : Type 0} (left : S → Option (List ℕ)) (faults : S → ℕ) (old new : Cursor S) : Type 0 where

@@ -41,4 +41,5 @@ TakesContent left line old new content more result = parts.TakesContent (limits_
 -- the line in front was taken behind the content so far
 abbrev pub TakesWholeLine : {S : Type 0} → (S → Option (List ℕ)) → ℕ → Cursor S → Cursor S → List ℕ → List ℕ → Result (Unit {0}) StreamFault
     → Type 0
-TakesWholeLine left line old new content more result = Gives (λ _. more) (place_at left old) (place_at left new) result (content_line (limits_of old) line content)
+TakesWholeLine left line old new content more result =
+    Gives (λ _. more) (place_at left old) (place_at left new) result (content_line (limits_of old) line content)

@@ -3,7 +3,7 @@ ghost use Rattle.std.specs.Prelude.{◌≡◌, ◌≤◌, length, IfOk};
 ghost use Rattle.std.specs.Option.{IfSome};
 ghost use Rattle.bf_grammar.specs.Commands.{done_is_due};
 ghost use Rattle.bf_grammar.specs.Limits.{IsWithin};
-ghost use Rattle.bf_lines.specs.Cursor.{HasLine, Opens, Reads, TakesLine, TextIs};
+ghost use Rattle.bf_lines.specs.Cursor.{GoesBehindLine, HasLine, Opens, Reads, TakesLine, TextIs};
 ghost use Rattle.bf_lines.specs.Cursor.{is_due, limits_of, line_of, place_at};
 ghost use Rattle.bf_lines.specs.Held.{nothing_held};
 
@@ -86,7 +86,8 @@ impl<'a, S: Source> Cursor<'a, S> {
 
     /// Goes behind the line in front.
     pub fn take_line(&mut self)
-        ensures { HasLine S.left self.old → TakesLine S.left S.faults self.old self.new }
+        ensures line { HasLine S.left self.old → TakesLine S.left S.faults self.old self.new }
+        ensures cursor { GoesBehindLine self.old self.new }
     {
         self.window.take_line();
     }

@@ -1,14 +1,10 @@
 -- What the writer is given, as the definition of the texts has it.
-use Rattle.std.specs.Prelude.{◌≡◌, ℕ, ◌<◌, length, map, All}
-use Rattle.std.specs.Option.{ForSome}
+use Rattle.std.specs.Prelude.{◌≡◌, length, map}
 use Rattle.bf_oid.specs.declared.object.Oid.{Oid}
 use Rattle.bf_texts.specs.Texts as texts
 use Rattle.bf_log.specs.declared.label.Commits.{Commits}
 use Rattle.bf_log.specs.declared.label.Sides.{Sides}
-use Rattle.bf_search.specs.declared.asks.Ask.{Ask}
 use Rattle.bf_search.specs.declared.asks.Ask.TheVariants as ask
-use Rattle.bf_search.specs.declared.entries.Entry.{Entry}
-use Rattle.bf_search.specs.declared.entries.Entry.TheVariants.{Start, Marked, SkippedBase, FirstBadFound, OnlySkippedLeft}
 
 abbrev pub commits_of : Commits → texts.Commits
 commits_of commits = record { names = map (λ (name : Oid). name.0) commits.names.now; subjects = commits.subjects.now }

@@ -2,8 +2,9 @@
 ghost use Rattle.std.specs.Prelude.{◌<◌, length, All};
 ghost use Rattle.bf_texts.specs.Texts as texts;
 ghost use Rattle.bf_search.specs.Within.{IsAskWithin};
-ghost use Rattle.bf_log.specs.Lines.{Adds, aborted_line, ask_lines, both_sides_line, first_bad_line, merge_base_bad_lines, name_lines, next_line, not_ancestor_line, only_skipped_lines, waiting_for_both, waiting_for_new, waiting_for_old, waiting_line, waiting_text};
-ghost use Rattle.bf_search.specs.Run.{Aborted};
+ghost use Rattle.bf_log.specs.Lines.{Adds, aborted_line, ask_lines, both_sides_line, first_bad_line, merge_base_bad_lines, name_lines, next_line};
+ghost use Rattle.bf_log.specs.Lines.{not_ancestor_line, only_skipped_lines, waiting_for_both, waiting_for_new, waiting_for_old, waiting_line};
+ghost use Rattle.bf_log.specs.Lines.{waiting_text};
 
 use crate::label::{Commits, Sides, put_hex, put_name_line};
 use bf_io::{Bytes, put_decimal};

@@ -5,7 +5,9 @@ ghost use Rattle.bf_texts.specs.Texts as texts;
 ghost use Rattle.bf_logs.specs.Written.{known_after_all};
 ghost use Rattle.bf_log.specs.Labels.{AreCommits};
 ghost use Rattle.bf_search.specs.Within.{IsEntryWithin};
-ghost use Rattle.bf_log.specs.Lines.{Adds, comments, end_lines, end_words, entry_lines, first_comment, given_terms, log_from, mark_lines, mark_word, option_words, possible_comment, possible_comments, quoted_names, skipped_left_lines, start_lines, term_words, worded_mark_lines};
+ghost use Rattle.bf_log.specs.Lines.{Adds, comments, end_lines, end_words, entry_lines, first_comment, given_terms, log_from, mark_lines, mark_word};
+ghost use Rattle.bf_log.specs.Lines.{option_words, possible_comment, possible_comments, quoted_names, skipped_left_lines, start_lines, term_words};
+ghost use Rattle.bf_log.specs.Lines.{worded_mark_lines};
 
 use crate::known::Known;
 use crate::label::{

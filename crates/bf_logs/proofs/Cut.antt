@@ -409,7 +409,7 @@ are_back n [] ys h = h
 are_back n (x ∷ xs) ys h = are_back n xs ys (tail_are n x (xs ++ ys) h)
 
 -- where both ends are known, the text doesn't depend on what else is
-text_alike : (n : ℕ) (commits : Commits) (sides : Sides) (one other : Known) (entries : List Entry) → AreKnown one
+pub text_alike : (n : ℕ) (commits : Commits) (sides : Sides) (one other : Known) (entries : List Entry) → AreKnown one
     → AreKnown other → AreRunEntries n entries → log_from commits sides one entries ≡ log_from commits sides other
     entries
 unfolding log_from

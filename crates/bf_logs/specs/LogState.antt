@@ -1,10 +1,8 @@
 -- What the entries of a log tell: the state that they lead to, with the warnings that came on the way.
 use Rattle.std.specs.Prelude.{ℕ, Bool, false, List, [], ◌∷◌, ◌++◌, length, map, replicate, Option, None}
 use Rattle.bf_search.specs.Ends.{end_entries}
-use Rattle.bf_search.specs.declared.asks.Ask.{Ask}
-use Rattle.bf_search.specs.declared.asks.Ask.TheVariants.{FirstBad, OnlySkipped}
 use Rattle.bf_search.specs.declared.entries.Entry.{Entry}
-use Rattle.bf_search.specs.declared.entries.Entry.TheVariants.{Start, Marked, SkippedBase, FirstBadFound, OnlySkippedLeft}
+use Rattle.bf_search.specs.declared.entries.Entry.TheVariants.{Start, Marked, SkippedBase}
 use Rattle.bf_search.specs.declared.outcomes.Mark.{Mark}
 use Rattle.bf_search.specs.State.{Search, ask, mark}
 use Rattle.bf_search.specs.Run.{Run, End, Answered, Leg, Open, Aborted}

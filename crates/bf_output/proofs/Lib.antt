@@ -1,5 +1,4 @@
 pub mod Accepted
-mod Alike
 mod Begins
 mod Closing
 mod Ended

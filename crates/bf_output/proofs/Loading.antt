@@ -1,5 +1,5 @@
 -- What a stream loads: each parent of a commit is earlier, and the refs and marks lead to commits that are there.
-use Rattle.std.proofs.Common.{◌≡◌, ℕ, ◌+◌, ◌<◌, ◌≤◌, ◌==◌, Bool, true, false, cond, nat_lt, List, [], ◌∷◌, ◌++◌, length, codes, Option, Some, None, IfSome}
+use Rattle.std.proofs.Common.{◌≡◌, ℕ, ◌+◌, ◌<◌, ◌≤◌, ◌==◌, Bool, true, false, cond, List, [], ◌∷◌, ◌++◌, length, codes, Option, Some, None, IfSome}
 use Rattle.std.proofs.Common.{unwrap_or, Result, Ok, Err, IfOk, refl, sym, ap, subst, ◌∙◌, arith, length-append}
 use Rattle.std.proofs.lemmas.List.Elements.{All-nil, All-cons}
 use Rattle.std.proofs.lemmas.List.Quantifiers.{position-Some}
@@ -7,7 +7,7 @@ use Rattle.std.specs.List.{All, position}
 use Rattle.std.specs.Option.{ok_or, option_to_list}
 use Rattle.bf_forest.specs.declared.edits.Edit.{Edit}
 use Rattle.bf_forest.specs.Files.{Files, edited, is_same}
-use Rattle.bf_forest.specs.Trees.{with_directories, entries_of}
+use Rattle.bf_forest.specs.Trees.{with_directories}
 use Rattle.bf_grammar.specs.declared.command.Command.{Command}
 use Rattle.bf_grammar.specs.declared.command.Command.TheVariants as command
 use Rattle.bf_grammar.specs.declared.command.Commit as given
@@ -29,6 +29,7 @@ use Rattle.bf_history.specs.Meanings.{History, Loading, Commit, nothing_loaded, 
 use Rattle.bf_history.specs.Meanings.{place_of_target, edit_of, begins_with, files_from, commit_on, stood, with_commit, place_of_commit, within_limits}
 use Rattle.bf_history.specs.Meanings.{with_ref, without_ref, with_mark, after_commit, after_reset, after_tag, after_command, is_no_name}
 use Rattle.bf_history.specs.Named.{value_of, with_value, without_value}
+use Rattle.bf_history.proofs.Steps.{last_step, within_same}
 
 -- ---- values under names
 
@@ -187,24 +188,7 @@ commit_grown history commit w within =
     stood_grown history (with_directories history.directories commit.files) commit w within (place_named history.names commit.name)
     (named_below history commit.name w)
 
-err_ok : {X F : Type 0} (e : F) (x : X) → Err e ≡ Ok x → ⊥
-err_ok e x h = cc
-
-limited : {X F : Type 0} (one other : Bool) (e f : F) (x w : X) → cond one (Err e) (cond other (Err f) (Ok x)) ≡ Ok w → x ≡ w
-limited true other e f x w h = absurd (err_ok e w h)
-limited false true e f x w h = absurd (err_ok f w h)
-limited false false e f x w h = cc
-
-within_same : (limits : Limits) (history after : History) → within_limits limits history ≡ Ok after → history ≡ after
-unfolding within_limits
-within_same limits history after h =
-    limited (nat_lt limits.entries (entries_of history.directories)) (nat_lt limits.commits (length history.names)) _ _ history after h
-
 -- ---- commands
-
-last_step : {D Y : Type 0} (d : Result D ImportFault) (f : D → Y) (P : Y → Type 0) → ((w : D) → d ≡ Ok w → P (f w)) → IfOk (d >>= λ w. Ok (f w)) P
-last_step (Ok w) f P h = h w refl
-last_step (Err e) f P h = tt
 
 next_step : {D Y : Type 0} (d : Result D ImportFault) (f : D → Y) (Q : D → Type 0) (P : Y → Type 0) → IfOk d Q → ((w : D) → Q w → P (f w))
     → IfOk (d >>= λ w. Ok (f w)) P

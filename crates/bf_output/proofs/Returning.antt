@@ -11,7 +11,7 @@ use Rattle.bf_logs.specs.Resolved.{AreRunEntries}
 use Rattle.bf_logs.specs.Replay.{Replayed}
 use Rattle.bf_logs.specs.LogState.{LogState, retold}
 use Rattle.bf_logs.specs.Written.{known_after_all}
-use Rattle.bf_logs.proofs.Cut.{text_goes_on}
+use Rattle.bf_logs.proofs.Cut.{text_alike, text_goes_on}
 use Rattle.bf_logs.proofs.Whole.{gives_back, log_leads, run_are}
 use Rattle.bf_replay.specs.Meaning.{setting_of}
 use Rattle.bf_search.specs.declared.entries.Entry.{Entry}
@@ -24,7 +24,6 @@ use Rattle.bf_words.specs.Words as asked
 use Rattle.bf_output.specs.Beginning.{Begun, begun_behind, begun_with_skips, commits_of, has_ends, log_on, with_skips}
 use Rattle.bf_output.specs.Returning.{LogGivesBack, GoesOnFromStart, GoesOnFromParts}
 use Rattle.bf_output.proofs.Accepted.{terms_read}
-use Rattle.bf_output.proofs.Alike.{written_alike}
 use Rattle.bf_output.proofs.Begins.{is_begun, are_named}
 use Rattle.bf_output.proofs.Loading.{IsWhole, whole_loaded}
 use Rattle.bf_output.proofs.Replayed.{IsReplayed, goes_on_behind, file_leads, file_accepted}
@@ -89,7 +88,7 @@ module _ (history : History) (loaded : IsLoaded history) where
         (log_leads (setting_of history) (commits_of history) first.sides s.start
         (replayable history first.sides s.start (history_kept history loaded) s.sides s.ends) s.later s.are));
     printed = λ now k.
-        written_alike (length history.parents) (commits_of history) first.sides now (known_after_all first.known first.entries)
+        text_alike (length history.parents) (commits_of history) first.sides now (known_after_all first.known first.entries)
         (run history.parents known None first.search).entries k (subst AreKnown (known_there first s) s.both)
         (run_are history.parents known graph None first.search);
     search = refl;

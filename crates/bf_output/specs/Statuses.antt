@@ -6,7 +6,9 @@ use Rattle.bf_grammar.specs.declared.fault.Limit.TheVariants as limit
 use Rattle.bf_names.specs.declared.fault.NameFault.{NameFault}
 use Rattle.bf_names.specs.declared.fault.NameFault.TheVariants as name
 use Rattle.bf_output.specs.declared.status.Status.{Status}
-use Rattle.bf_output.specs.declared.status.Status.TheVariants.{Done, Usage, OnlySkipped, MergeBaseBad, GoodNotAncestor, BothSides, Aborted, StreamRefused, NameRefused, TooLarge, LogRefused, TestFault, ReadFault, WriteFault, ShelfFault, NoMemory, NoFile, Waiting}
+use Rattle.bf_output.specs.declared.status.Status.TheVariants.{Done, Usage, OnlySkipped, MergeBaseBad, GoodNotAncestor, BothSides, Aborted}
+use Rattle.bf_output.specs.declared.status.Status.TheVariants.{StreamRefused, NameRefused, TooLarge, LogRefused, TestFault, ReadFault, WriteFault}
+use Rattle.bf_output.specs.declared.status.Status.TheVariants.{ShelfFault, NoMemory, NoFile, Waiting}
 use Rattle.bf_output.specs.declared.status.StreamKind.{StreamKind}
 use Rattle.bf_output.specs.declared.status.StreamKind.TheVariants as kind
 

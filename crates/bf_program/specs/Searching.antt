@@ -189,7 +189,8 @@ IsGoneCaused tester gone = HasGoneCause tester.before.faults tester.after gone
 -- ---- what was written
 
 -- what was written and this answer are what the search tells
-pub record IsToldSoFar (request : Request) (tested : Tested) (history : History) (first : Begun) (before after : Option (List ℕ)) (answer : Answer) : Type 0 where
+pub record IsToldSoFar (request : Request) (tested : Tested) (history : History) (first : Begun) (before after : Option (List ℕ)) (answer : Answer)
+    : Type 0 where
   pub written : List ℕ
   pub gained : Appends before after written
   pub tells : IsTested request tested history first (record { status = answer.status; text = written ++ answer.text })
@@ -202,7 +203,8 @@ pub record IsSearchSoFar (verb : Verb) (started : Started) (request : Request) (
   pub tells : IsSearched verb request words tested started.history (begun_of started.first) (record { status = answer.status; text = written ++ answer.text })
 
 -- a front of what the command tells of its search was written
-pub record IsSearchCut (verb : Verb) (started : Started) (request : Request) (words : List (List ℕ)) (tested : Tested) (before after : Option (List ℕ)) : Type 0 where
+pub record IsSearchCut (verb : Verb) (started : Started) (request : Request) (words : List (List ℕ)) (tested : Tested)
+    (before after : Option (List ℕ)) : Type 0 where
   pub told : Told
   pub is : IsSearched verb request words tested started.history (begun_of started.first) told
   pub front : AppendsFront before after told.text

@@ -2,7 +2,8 @@
 ghost use Rattle.std.specs.Prelude.{◌≡◌, length, IfOk, IfErr, All};
 ghost use Rattle.bf_logs.specs.Replay as logs;
 ghost use Rattle.bf_replay.specs.Meaning.{text_of, AreWithin, HasLength};
-ghost use Rattle.bf_replay.specs.Parts.{Gives, GivesAll, LeadsTo, Means, IsPlaceOf, ArePlacesOf, begun_in, leaves_open, names_terms, places_in, start_in, terms_in};
+ghost use Rattle.bf_replay.specs.Parts.{Gives, GivesAll, LeadsTo, Means, IsPlaceOf, ArePlacesOf, begun_in, leaves_open, names_terms, places_in};
+ghost use Rattle.bf_replay.specs.Parts.{start_in, terms_in};
 ghost use Rattle.bf_replay.specs.Refusals.{Refuses, term_refusal};
 
 use crate::fault::ReplayFault;

@@ -1,4 +1,5 @@
 use Rattle.std.proofs.Common.{◌<◌, ℕ, Vec, Global, Result, Ok, length, subst, sym, ap, ◌∙◌}
+use Rattle.smallvec.specs.SmallVec.{SmallVec}
 use Rattle.bf_forest.specs.declared.edits.Edit.{Edit}
 use Rattle.bf_history.specs.declared.fault.ImportFault.{ImportFault}
 use Rattle.bf_import.specs.Growing.{Importing}
@@ -14,7 +15,7 @@ pub returns-in_err-parents-clause-loading : goal.returns-in_err-parents-clause-l
 returns-in_err-parents-clause-loading c =
     parents_refused c.args.self.now.limits c.args.self.now.loading c.args.commit (λ _. c.args.self.now.loading) c.from_residual-in_err-parents.result
     c.in_ok-first.first c.in_ok-first.ensures.place
-    (λ (places : Vec ℕ Global). places.items) c.in_err-parents.field-0.0 c.from_residual-in_err-parents.ensures.1
+    (λ (places : SmallVec ℕ). places.items) c.in_err-parents.field-0.0 c.from_residual-in_err-parents.ensures.1
     (rw c.as_slice.ensures at c.in_err-parents.ensures.parents)
 
 pub returns-in_err-edits-clause-loading : goal.returns-in_err-edits-clause-loading
@@ -30,7 +31,7 @@ returns-in_err-place-clause-loading c =
     c.in_ok-first.first c.in_ok-first.ensures.place c.in_ok-parents.parents.items (rw c.as_slice.ensures at c.in_ok-parents.ensures.parents)
     c.in_ok-edits.edits.items (rw c.as_slice-2.ensures at c.in_ok-edits.ensures)
     (λ (_ : ℕ). c.add_commit.new.self.loading.history) c.in_err-place.field-0.0 c.from_residual-in_err-place.ensures.1
-    (rw (c.as_slice-3.ensures.value, c.as_slice-4.ensures.value) at c.in_err-place.ensures.history)
+    (rw (c.as_slice-3.ensures, c.as_slice-4.ensures.value) at c.in_err-place.ensures.history)
 
 pub set_mark-requires : goal.set_mark-requires
 set_mark-requires c = subst (λ (i : Importing). c.in_ok-place.place < length i.loading.history.parents) (sym c.in_ok-set_ref.ensures)
@@ -44,8 +45,8 @@ returns-clause-loading c =
     c.in_ok-edits.edits.items (rw c.as_slice-2.ensures at c.in_ok-edits.ensures)
     (commit_carried c.args.self.now.limits c.args.self.now.loading c.args.commit c.in_ok-first.first c.in_ok-parents.parents.items c.in_ok-edits.edits.items
     c.add_commit.new.self.loading.history c.in_ok-place.place c.set_mark.new.self.loading
-    (rw (c.as_slice-3.ensures.value, c.as_slice-4.ensures.value) at c.in_ok-place.ensures.history)
-    (rw (c.as_slice-3.ensures.value, c.as_slice-4.ensures.value) at c.in_ok-place.ensures.place)
+    (rw (c.as_slice-3.ensures, c.as_slice-4.ensures.value) at c.in_ok-place.ensures.history)
+    (rw (c.as_slice-3.ensures, c.as_slice-4.ensures.value) at c.in_ok-place.ensures.place)
     (place_set c.args.self.now c.add_commit.new.self c.set_ref.new.self c.set_mark.new.self c.args.commit c.in_ok-place.place c.in_ok-place.ensures.marks
     c.in_ok-set_ref.ensures c.in_ok-set_mark.ensures))
 

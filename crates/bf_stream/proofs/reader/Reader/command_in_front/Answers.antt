@@ -35,7 +35,7 @@ returns-in_err-blob-in-Blob-clause-reads g c =
     reads_handed_on _ c.from_residual-in_err-blob-in-Blob.ensures.1
     (line_read head_of command_next c.line_number-line.result c.line.result.now head.Blob is
     (c.in_ok-first_line.ensures.value.0 ∙ ap (λ (read : FirstLine). Ok (head_in read)) c.in-Blob.is)
-    (behind_stopped (c.take_line.ensures c.requires).reads c.in_err-blob-in-Blob.ensures))
+    (behind_stopped (c.take_line.ensures.line c.requires).reads c.in_err-blob-in-Blob.ensures))
 
 pub returns-in_ok-blob-in-Blob-clause-reads : goal.returns-in_ok-blob-in-Blob-clause-reads
 unfolding headed_at
@@ -44,7 +44,7 @@ returns-in_ok-blob-in-Blob-clause-reads g c =
     (c.line.ensures.text c.requires) in
     line_read head_of command_next c.line_number-line.result c.line.result.now head.Blob is
     (c.in_ok-first_line.ensures.value.0 ∙ ap (λ (read : FirstLine). Ok (head_in read)) c.in-Blob.is)
-    (behind_read (c.take_line.ensures c.requires).reads c.in_ok-blob-in-Blob.ensures)
+    (behind_read (c.take_line.ensures.line c.requires).reads c.in_ok-blob-in-Blob.ensures)
 
 pub returns-in_err-commit-in-Commit-clause-reads : goal.returns-in_err-commit-in-Commit-clause-reads
 unfolding headed_at
@@ -56,7 +56,7 @@ returns-in_err-commit-in-Commit-clause-reads g c =
     reads_handed_on _ c.from_residual-in_err-commit-in-Commit.ensures.1
     (line_read head_of command_next c.line_number-line.result c.line.result.now head.Commit is
     (c.in_ok-first_line.ensures.value.0 ∙ ap (λ (read : FirstLine). Ok (head_in read)) c.in-Commit.is)
-    (behind_stopped (c.take_line-in-Commit.ensures c.requires).reads
+    (behind_stopped (c.take_line-in-Commit.ensures.line c.requires).reads
     (reads_of (commit_from c.line_number-line.result) c.in_ok-branch-in-Commit.branch (name_after (codes "commit") c.line.result.now) name
     c.in_err-commit-in-Commit.ensures)))
 
@@ -69,7 +69,7 @@ returns-in_ok-commit-in-Commit-clause-reads g c =
     c.in_ok-first_line.ensures.value.1 in
     line_read head_of command_next c.line_number-line.result c.line.result.now head.Commit is
     (c.in_ok-first_line.ensures.value.0 ∙ ap (λ (read : FirstLine). Ok (head_in read)) c.in-Commit.is)
-    (behind_read (c.take_line-in-Commit.ensures c.requires).reads
+    (behind_read (c.take_line-in-Commit.ensures.line c.requires).reads
     (reads_of (commit_from c.line_number-line.result) c.in_ok-branch-in-Commit.branch (name_after (codes "commit") c.line.result.now) name
     c.in_ok-commit-in-Commit.ensures))
 
@@ -82,7 +82,7 @@ returns-in_err-tag-in-Tag-clause-reads g c =
     reads_handed_on _ c.from_residual-in_err-tag-in-Tag.ensures.1
     (line_read head_of command_next c.line_number-line.result c.line.result.now head.Tag is
     (c.in_ok-first_line.ensures.value.0 ∙ ap (λ (read : FirstLine). Ok (head_in read)) c.in-Tag.is)
-    (behind_stopped (c.take_line-in-Tag.ensures c.requires).reads
+    (behind_stopped (c.take_line-in-Tag.ensures.line c.requires).reads
     (reads_of (tag_from c.line_number-line.result) c.in_ok-name-in-Tag.name (name_after (codes "tag") c.line.result.now) name c.in_err-tag-in-Tag.ensures)))
 
 pub returns-in_ok-tag-in-Tag-clause-reads : goal.returns-in_ok-tag-in-Tag-clause-reads
@@ -93,7 +93,7 @@ returns-in_ok-tag-in-Tag-clause-reads g c =
     let name = c.in_ok-name-in-Tag.ensures ∙ subst (λ (read : FirstLine). NameIs c.line.result.now read) c.in-Tag.is c.in_ok-first_line.ensures.value.1 in
     line_read head_of command_next c.line_number-line.result c.line.result.now head.Tag is
     (c.in_ok-first_line.ensures.value.0 ∙ ap (λ (read : FirstLine). Ok (head_in read)) c.in-Tag.is)
-    (behind_read (c.take_line-in-Tag.ensures c.requires).reads
+    (behind_read (c.take_line-in-Tag.ensures.line c.requires).reads
     (reads_of (tag_from c.line_number-line.result) c.in_ok-name-in-Tag.name (name_after (codes "tag") c.line.result.now) name c.in_ok-tag-in-Tag.ensures))
 
 pub returns-in_err-reset-in-Reset-clause-reads : goal.returns-in_err-reset-in-Reset-clause-reads
@@ -105,7 +105,7 @@ returns-in_err-reset-in-Reset-clause-reads g c =
     reads_handed_on _ c.from_residual-in_err-reset-in-Reset.ensures.1
     (line_read head_of command_next c.line_number-line.result c.line.result.now head.Reset is
     (c.in_ok-first_line.ensures.value.0 ∙ ap (λ (read : FirstLine). Ok (head_in read)) c.in-Reset.is)
-    (behind_stopped (c.take_line-in-Reset.ensures c.requires).reads
+    (behind_stopped (c.take_line-in-Reset.ensures.line c.requires).reads
     (reads_of (reset_from c.line_number-line.result) c.in_ok-branch-in-Reset.branch (name_after (codes "reset") c.line.result.now) name
     c.in_err-reset-in-Reset.ensures)))
 
@@ -117,7 +117,7 @@ returns-in_ok-reset-in-Reset-clause-reads g c =
     let name = c.in_ok-branch-in-Reset.ensures ∙ subst (λ (read : FirstLine). NameIs c.line.result.now read) c.in-Reset.is c.in_ok-first_line.ensures.value.1 in
     line_read head_of command_next c.line_number-line.result c.line.result.now head.Reset is
     (c.in_ok-first_line.ensures.value.0 ∙ ap (λ (read : FirstLine). Ok (head_in read)) c.in-Reset.is)
-    (behind_read (c.take_line-in-Reset.ensures c.requires).reads
+    (behind_read (c.take_line-in-Reset.ensures.line c.requires).reads
     (reads_of (reset_from c.line_number-line.result) c.in_ok-branch-in-Reset.branch (name_after (codes "reset") c.line.result.now) name
     c.in_ok-reset-in-Reset.ensures))
 
@@ -128,7 +128,7 @@ returns-in-Progress-clause-reads g c =
     (c.line.ensures.text c.requires) in
     line_read head_of command_next c.line_number-line.result c.line.result.now head.Progress is
     (c.in_ok-first_line.ensures.value.0 ∙ ap (λ (read : FirstLine). Ok (head_in read)) c.in-Progress.is)
-    (line_alone _ (c.take_line-in-Progress.ensures c.requires).reads)
+    (line_alone _ (c.take_line-in-Progress.ensures.line c.requires).reads)
 
 pub returns-in-Feature-clause-reads : goal.returns-in-Feature-clause-reads
 unfolding headed_at
@@ -137,7 +137,7 @@ returns-in-Feature-clause-reads g c =
     (c.line.ensures.text c.requires) in
     line_read head_of command_next c.line_number-line.result c.line.result.now head.Feature is
     (c.in_ok-first_line.ensures.value.0 ∙ ap (λ (read : FirstLine). Ok (head_in read)) c.in-Feature.is)
-    (line_alone _ (c.take_line-in-Feature.ensures c.requires).reads)
+    (line_alone _ (c.take_line-in-Feature.ensures.line c.requires).reads)
 
 pub returns-in-FeatureDone-clause-reads : goal.returns-in-FeatureDone-clause-reads
 unfolding headed_at
@@ -146,4 +146,4 @@ returns-in-FeatureDone-clause-reads g c =
     (c.line.ensures.text c.requires) in
     line_read head_of command_next c.line_number-line.result c.line.result.now head.FeatureDone is
     (c.in_ok-first_line.ensures.value.0 ∙ ap (λ (read : FirstLine). Ok (head_in read)) c.in-FeatureDone.is)
-    (feature_done (Feature c.line_number-line.result) (c.take_line-in-FeatureDone.ensures c.requires).reads c.make_done_due.ensures)
+    (feature_done (Feature c.line_number-line.result) (c.take_line-in-FeatureDone.ensures.line c.requires).reads c.make_done_due.ensures)

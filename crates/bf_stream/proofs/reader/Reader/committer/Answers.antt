@@ -29,4 +29,4 @@ returns g c =
     (c.line.ensures.text held) in
     required_taken (codes "committer") (λ line. ident_of line (codes "committer")) c.line_number-line.result c.line.result.now c.in_ok-ident.ident
     c.in_ok-must_be_at.ensures.reads is (c.in_ok-text.ensures.value ∙ ap (λ (t : List ℕ). Ok t) (sym c.in_ok-ident.ensures))
-    (c.take_line.ensures held).reads
+    (c.take_line.ensures.line held).reads

@@ -25,7 +25,7 @@ returns-in-Counted g c =
     announced_read c.line_number-line.result c.line.result.now is (Counted c.in-Counted.count)
     (ap (λ limits. data_form limits c.line_number-line.result c.line.result.now) (sym c.limits-limits.ensures.limits) ∙
     (c.in_ok-count.ensures.value.0 ∙ ap (λ (read : DataLine). Ok (form_in read)) c.in-Counted.is))
-    (c.take_line.ensures c.requires).reads c.take_bytes.ensures
+    (c.take_line.ensures.line c.requires).reads c.take_bytes.ensures
 
 pub returns-in_ok-delimiter-in-Delimited : goal.returns-in_ok-delimiter-in-Delimited
 returns-in_ok-delimiter-in-Delimited g c =
@@ -37,5 +37,5 @@ returns-in_ok-delimiter-in-Delimited g c =
     announced_read c.line_number-line.result text is Delimited
     (ap (λ limits. data_form limits c.line_number-line.result c.line.result.now) (sym c.limits-limits.ensures.limits) ∙
     (c.in_ok-count.ensures.value.0 ∙ ap (λ (read : DataLine). Ok (form_in read)) c.in-Delimited.is))
-    (c.take_line-in-Delimited.ensures c.requires).reads
+    (c.take_line-in-Delimited.ensures.line c.requires).reads
     (reads_of (delimited_by c.line_number-line.result) c.as_slice.result.now (delimiter_in text) delimiter c.take_delimited.ensures)

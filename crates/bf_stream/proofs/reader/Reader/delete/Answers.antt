@@ -20,4 +20,4 @@ returns-clause-reads g c =
     let is = line_is g.S.Source.left c.args.self.now.cursor c.line_number-line.result c.line.result.now c.line_number-line.ensures.number
     (c.line.ensures.text c.requires) in
     line_read (λ line. text_after line (codes "D")) delete_next c.line_number-line.result c.line.result.now c.in_ok-path.path is
-    (c.in_ok-text.ensures.value ∙ ap (λ (t : List ℕ). Ok t) (sym c.in_ok-path.ensures)) (line_alone _ (c.take_line.ensures c.requires).reads)
+    (c.in_ok-text.ensures.value ∙ ap (λ (t : List ℕ). Ok t) (sym c.in_ok-path.ensures)) (line_alone _ (c.take_line.ensures.line c.requires).reads)

@@ -19,4 +19,4 @@ returns-clause-reads g c =
     let is = line_is g.S.Source.left c.args.self.now.cursor c.line_number-line.result c.line.result.now c.line_number-line.ensures.number
     (c.line.ensures.text c.requires) in
     line_read delete_all_form delete_all_next c.line_number-line.result c.line.result.now tt is (sym c.in_ok-delete_all_of.ensures.value)
-    (line_alone _ (c.take_line.ensures c.requires).reads)
+    (line_alone _ (c.take_line.ensures.line c.requires).reads)

@@ -31,4 +31,4 @@ returns g c =
     let is = line_is g.S.Source.left c.at_word.new.self c.line_number.result c.line.result.now c.line_number.ensures.number (c.line.ensures.text held) in
     optional_taken (codes "encoding") encoding_of c.line_number.result c.line.result.now c.in_ok-encoding.encoding
     (rw c.if-not-branch.false at c.in_ok-at_word.ensures.reads) is (c.in_ok-text.ensures.value ∙ ap (λ (t : List ℕ). Ok t) (sym c.in_ok-encoding.ensures))
-    (c.take_line.ensures held).reads
+    (c.take_line.ensures.line held).reads

@@ -30,4 +30,4 @@ returns g c =
     let held = at_true _ _ c.if-not-branch.false c.in_ok-at_word.ensures.line in
     let is = line_is g.S.Source.left c.at_word.new.self c.line_number.result c.line.result.now c.line_number.ensures.number (c.line.ensures.text held) in
     optional_taken (codes "mark") mark_of c.line_number.result c.line.result.now c.in_ok-mark.mark (rw c.if-not-branch.false at c.in_ok-at_word.ensures.reads)
-    is (sym c.in_ok-mark.ensures.value) (c.take_line.ensures held).reads
+    is (sym c.in_ok-mark.ensures.value) (c.take_line.ensures.line held).reads

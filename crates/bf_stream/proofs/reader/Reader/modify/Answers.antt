@@ -22,7 +22,7 @@ returns-in_err-dataref-clause-reads g c =
     reads_handed_on _ c.from_residual-in_err-dataref.ensures.1
     (line_read modify_form modify_next c.line_number-line.result c.line.result.now (c.in_ok-read.read.mode, c.in_ok-read.read.content) is
     c.in_ok-read.ensures.value.0 (modify_stopped c.line_number-line.result c.line.result.now c.in_ok-read.read.mode c.in_ok-read.read.content
-    (c.take_line.ensures c.requires).reads c.in_err-dataref.ensures))
+    (c.take_line.ensures.line c.requires).reads c.in_err-dataref.ensures))
 
 pub returns-clause-reads : goal.returns-clause-reads
 unfolding modify_at
@@ -31,4 +31,4 @@ returns-clause-reads g c =
     (c.line.ensures.text c.requires) in
     line_read modify_form modify_next c.line_number-line.result c.line.result.now (c.in_ok-read.read.mode, c.in_ok-read.read.content) is
     c.in_ok-read.ensures.value.0 (modify_read c.line_number-line.result c.line.result.now c.in_ok-read.read.mode c.in_ok-read.read.content
-    (c.take_line.ensures c.requires).reads c.in_ok-path.path (c.in_ok-path.ensures ∙ c.in_ok-read.ensures.value.1) c.in_ok-dataref.ensures)
+    (c.take_line.ensures.line c.requires).reads c.in_ok-path.path (c.in_ok-path.ensures ∙ c.in_ok-read.ensures.value.1) c.in_ok-dataref.ensures)

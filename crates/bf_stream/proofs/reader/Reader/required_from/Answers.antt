@@ -29,4 +29,4 @@ returns g c =
     required_taken (codes "from") (target_of (codes "from")) c.line_number-line.result c.line.result.now
     (record { line = c.line_number-line.result; text = c.in_ok-named.named }) c.in_ok-must_be_at.ensures.reads is
     (target_ok (codes "from") c.line_number-line.result c.line.result.now c.in_ok-named.named
-    (c.in_ok-text.ensures.value ∙ ap (λ (t : List ℕ). Ok t) (sym c.in_ok-named.ensures))) (c.take_line.ensures held).reads
+    (c.in_ok-text.ensures.value ∙ ap (λ (t : List ℕ). Ok t) (sym c.in_ok-named.ensures))) (c.take_line.ensures.line held).reads

@@ -36,4 +36,4 @@ returns g c =
     (c.line.ensures.text held) in
     reads_then _ (optional_taken (codes "original-oid") (λ line. text_after line (codes "original-oid")) c.line_number-line.result c.line.result.now
     c.in_ok-text_after.field-0.now (rw c.if-not-branch.false at c.in_ok-at_word.ensures.reads) is c.in_ok-text_after.ensures.value
-    (c.take_line.ensures held).reads) (reads_pure _ _ _ _)
+    (c.take_line.ensures.line held).reads) (reads_pure _ _ _ _)

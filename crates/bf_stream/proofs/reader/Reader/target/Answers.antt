@@ -35,4 +35,4 @@ returns-clause-reads g c =
     optional_taken c.args.word.now (target_of c.args.word.now) c.line_number-line.result c.line.result.now
     (record { line = c.line_number-line.result; text = c.in_ok-named.named }) (rw c.if-not-branch.false at c.in_ok-at_word.ensures.reads) is
     (target_ok c.args.word.now c.line_number-line.result c.line.result.now c.in_ok-named.named
-    (c.in_ok-text.ensures.value ∙ ap (λ (t : List ℕ). Ok t) (sym c.in_ok-named.ensures))) (c.take_line.ensures held).reads
+    (c.in_ok-text.ensures.value ∙ ap (λ (t : List ℕ). Ok t) (sym c.in_ok-named.ensures))) (c.take_line.ensures.line held).reads
