@@ -14,7 +14,7 @@ use Rattle.std.proofs.lemmas.List.Folds.{list_any_at, list_any_none}
 use Rattle.std.proofs.lemmas.List.Sums.{position_or_len_is}
 use Rattle.memchr.specs.Find.{IsFirstByte}
 
-same_either_way : (x y : ℕ) → (x == y) ≡ (y == x)
+pub same_either_way : (x y : ℕ) → (x == y) ≡ (y == x)
 same_either_way x y = grind (arith, nat_tests)
 
 pointwise_either_way : (xs ys : List ℕ) → pointwise ◌==◌ xs ys ≡ pointwise ◌==◌ ys xs

@@ -1,3 +1,4 @@
 pub mod Dots
 pub mod Fronts
 pub mod Refusals
+pub mod Words

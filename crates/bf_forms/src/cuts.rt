@@ -17,18 +17,25 @@ pub(crate) fn behind_word<'a>(word: &[u8], text: &'a [u8]) -> Option<&'a [u8]>
     text.strip_prefix(word)?.strip_prefix(b" ")
 }
 
-// Whether a text is this one.
-pub(crate) fn is_text(wanted: &[u8], text: &[u8]) -> bool
+/// Whether a text is this one.
+pub fn is_text(wanted: &[u8], text: &[u8]) -> bool
     ensures { result ≡ lines.is_text wanted.now text.now }
 {
     text.len() == wanted.len() && text.starts_with(wanted)
 }
 
-// Whether the first word of a text is this one.
-pub(crate) fn has_word(word: &[u8], text: &[u8]) -> bool
+/// Whether the first word of a text is this one: it begins with the word, and ends or goes on with a space
+/// there. The first bytes tell most texts apart, without a call.
+#[inline]
+pub fn has_word(word: &[u8], text: &[u8]) -> bool
     ensures { result ≡ lines.has_word word.now text.now }
 {
-    behind_word(word, text).is_some() || is_text(word, text)
+    if let ([wanted, ..], [first, ..]) = (word, text) {
+        if wanted != first {
+            return false;
+        }
+    }
+    text.starts_with(word) && (text.len() == word.len() || text[word.len()] == b' ')
 }
 
 // What stands before the first such byte, or all; and what stands after it.

@@ -9,7 +9,7 @@ mod idents;
 mod parts;
 
 pub use changes::{ModifyLine, delete_all_of, modify_line};
-pub use cuts::text_after;
+pub use cuts::{has_word, is_text, text_after};
 pub use heads::{FirstLine, first_line, is_ref};
 pub use idents::ident_of;
 pub use parts::{DataLine, colon_number, data_line, encoding_of, mark_of};

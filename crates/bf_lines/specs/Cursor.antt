@@ -1,6 +1,6 @@
 -- A cursor over a stream: where a reading through it stands, and what a call of it gives. What a source has left,
 -- and its count of faults, are handed on: `left` and `faults`.
-use Rattle.std.specs.Prelude.{◌≡◌, ℕ, ◌≤◌, ◌<◌, Bool, List, Option, Result, Ok}
+use Rattle.std.specs.Prelude.{◌≡◌, ℕ, ◌≤◌, ◌<◌, Bool, List, length, Option, Result, Ok}
 use Rattle.std.specs.Option.{IfSome, option_map}
 use Rattle.bf_io.specs.Causes.{FailsOnlyAt}
 use Rattle.bf_grammar.specs.declared.fault.Limits.{Limits}
@@ -36,7 +36,7 @@ limits_of cursor = cursor.limits
 abbrev pub left_to_read : {S : Type 0} → Cursor S → ℕ
 left_to_read cursor = remaining cursor.window
 
--- in front of what a source has left
+-- in front of what a source has left, as line 1
 abbrev pub start_at : Limits → Option (List ℕ) → Option Place
 start_at limits bytes = option_map (start_of limits.stream) bytes
 
@@ -81,6 +81,10 @@ pub record GoesBehindLine {S : Type 0} (old new : Cursor S) : Type 0 where
 pub record TakesLine {S : Type 0} (left : S → Option (List ℕ)) (faults : S → ℕ) (old new : Cursor S) : Type 0 where
   pub reads : Reads left faults old new (Ok tt) (λ _. lines.take_line)
   pub takes : left_to_read new < left_to_read old
+
+-- a first word that is held whole with the front of any line, also of one that is too long
+abbrev pub IsShortWord : List ℕ → Type 0
+IsShortWord word = length word ≤ 14
 
 -- whether a line with this first word stands in front
 abbrev pub looks_for : List ℕ → Limits → Reading Bool

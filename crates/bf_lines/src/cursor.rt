@@ -1,4 +1,4 @@
-//! The cursor.
+//! The cursor. Its methods stand in other files, since definitions on it are read behind its ghost field.
 ghost use Rattle.bf_grammar.specs.Limits.{IsWithin};
 
 use crate::window::Window;

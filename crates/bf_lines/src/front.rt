@@ -5,8 +5,9 @@ ghost use Rattle.bf_lines.specs.Fronts.{sized, ended, passed, told_passed, told_
 ghost use Rattle.bf_lines.specs.Steps.{FindsFront, FindsNext, PassesBytes, PassesLine};
 
 use crate::Cursor;
-use crate::text::{end_of_line, has_word, is_passed_over};
+use crate::text::{end_of_line, is_passed_over};
 use crate::window::Filled;
+use bf_forms::has_word;
 use bf_grammar::{Limit, StreamFault};
 use bf_io::Source;
 

@@ -76,7 +76,7 @@ impl<'a, S: Source> Cursor<'a, S> {
         self.window.line_number()
     }
 
-    /// The line in front, without its LF.
+    /// The line in front, without its LF; of one that is not held whole, what is held.
     pub fn line(&self) -> &[u8]
         ensures text { HasLine S.left self.now → TextIs S.left self.now result.now }
         ensures short { length result.now ≤ 65536 }

@@ -6,12 +6,12 @@ ghost use Rattle.bf_grammar.specs.Lines as lines;
 
 use memchr::memchr;
 
-/// The place of the first LF, or the length where there is none. The bytes before the given place are known
-/// to have none.
+/// The index of the first LF, or the length where there is none. The first `known` bytes have none.
 pub(crate) fn end_of_line(bytes: &[u8], known: usize) -> usize
     requires { known ≤ position_or_len is_end_of_line bytes.now }
     ensures { result ≡ position_or_len is_end_of_line bytes.now }
 {
+    // A line that was found before is answered without a search.
     if known < bytes.len() && bytes[known] == b'\n' {
         return known;
     }
@@ -51,29 +51,9 @@ fn count_in_part(part: &[u8]) -> u8
     lines
 }
 
-/// Whether the first word of a text is this one. The first bytes tell most texts apart, without a call.
-#[inline]
-pub(crate) fn has_word(word: &[u8], text: &[u8]) -> bool
-    ensures { result ≡ lines.has_word word.now text.now }
-{
-    if let ([wanted, ..], [first, ..]) = (word, text) {
-        if wanted != first {
-            return false;
-        }
-    }
-    text.starts_with(word) && (text.len() == word.len() || text[word.len()] == b' ')
-}
-
-/// Whether a line is a comment, or, where they count, an empty line.
+/// Whether a line is passed over: a comment and, where `empty_too`, also an empty line.
 pub(crate) fn is_passed_over(empty_too: bool, text: &[u8]) -> bool
     ensures { result ≡ lines.is_passed_over empty_too text.now }
 {
     text.starts_with(b"#") || (empty_too && text.is_empty())
-}
-
-/// Whether a text is this one.
-pub(crate) fn is_text(wanted: &[u8], text: &[u8]) -> bool
-    ensures { result ≡ lines.is_text wanted.now text.now }
-{
-    text.len() == wanted.len() && text.starts_with(wanted)
 }

@@ -9,7 +9,8 @@ ghost use Rattle.bf_lines.specs.Filling.{Fills, IsReady, KeepsPart, ReadsBehind}
 ghost use Rattle.bf_lines.specs.Held.{GoesPast, IsLineOf, IsPlain, Stays};
 ghost use Rattle.bf_lines.specs.Held.{advanced, moved_held, nothing_held, past_held_line, remaining};
 
-use crate::text::{count_lines, end_of_line, is_text};
+use crate::text::{count_lines, end_of_line};
+use bf_forms::is_text;
 use bf_io::{Failed, Source};
 use std::alloc::{AllocError, Global};
 use std::marker::Model;
@@ -41,6 +42,7 @@ pub struct Window {
     line: u64,
     quota: u64,
     past: bool,
+    // Whether `feature done` was read, which a place of the definition has too.
     done_due: bool,
 }
 
