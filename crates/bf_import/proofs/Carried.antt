@@ -19,7 +19,7 @@ use Rattle.bf_history.specs.Meanings.{History, Loading, ◌>>=◌, each_of, mark
 use Rattle.bf_history.specs.Meanings.{edit_of, begins_with, place_of_commit, with_ref, without_ref, with_mark, is_no_name, after_command, after_commit}
 use Rattle.bf_history.specs.Meanings.{after_reset}
 use Rattle.bf_history.proofs.Meant.{means_refused, means_same, means_passed_on, means_then}
-use Rattle.bf_import.specs.declared.importer.Role.{Role}
+use Rattle.bf_import.specs.declared.targets.Role.{Role}
 use Rattle.bf_import.specs.Growing.{Importing, StandsBelow, after_parts, commit_from, joined, mark_set, parents_given, ref_set, with_place}
 use Rattle.bf_import.specs.Roles.{said_of}
 

@@ -12,7 +12,7 @@ use Rattle.bf_grammar.specs.Limits.{IsWithin}
 use Rattle.bf_history.specs.Named.{value_of, with_value, without_value}
 use Rattle.bf_history.specs.declared.marked.Marked.{Marked}
 use Rattle.bf_history.specs.declared.marked.Marked.TheVariants as marked
-use Rattle.bf_history.specs.Meanings.{files_from, with_mark}
+use Rattle.bf_history.specs.Meanings.{files_from}
 use Rattle.bf_import.specs.declared.growth.Growth.TheInside.{Inside}
 use Rattle.bf_import.specs.Growing.{MarksStand, StandsBelow, begun_with, edited_files, with_edits}
 use Rattle.bf_import.specs.Kept.{IsKept, history_of}
@@ -165,10 +165,9 @@ either_way (Ok x) make other a b = make a
 either_way (Err e) make other a b = other b
 
 -- what a mark stands for is there
-pub marks_with : (count : ℕ) (marks : List (ℕ × Marked)) → MarksStand count marks → (mark : Option ℕ) (what : Marked) → StandsBelow count what
-    → (more : List (ℕ × Marked)) → more ≡ with_mark mark what marks → MarksStand count more
-marks_with count marks stand None what there more is = subst (MarksStand count) (sym is) stand
-marks_with count marks stand (Some number) what there more is = subst (MarksStand count) (sym is)
+pub marks_with : (count : ℕ) (marks : List (ℕ × Marked)) → MarksStand count marks → (number : ℕ) (what : Marked) → StandsBelow count what
+    → (more : List (ℕ × Marked)) → more ≡ with_value ◌==◌ number what marks → MarksStand count more
+marks_with count marks stand number what there more is = subst (MarksStand count) (sym is)
     (with_value_stands (StandsBelow count) ◌==◌ number what there marks stand)
 
 -- marks that stand still do where there are more commits

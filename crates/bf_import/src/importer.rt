@@ -1,5 +1,5 @@
 //! An import under way.
-ghost use Rattle.std.specs.Prelude.{◌≡◌, ◌==◌, ◌<◌, ◌++◌, codes, length, All, IfOk, IfSome, OnErr, OnOk};
+ghost use Rattle.std.specs.Prelude.{◌≡◌, ◌==◌, ◌<◌, ◌++◌, codes, length, All, IfOk, IfSome, OnOk};
 ghost use Rattle.std.specs.List.{list_all};
 ghost use Rattle.bf_oid.specs.declared.object.Kind.TheVariants as kind;
 ghost use Rattle.bf_grammar.specs.Limits.{IsWithin};
@@ -13,6 +13,7 @@ ghost use Rattle.bf_import.specs.Growing.{ref_removed, ref_set};
 
 use crate::growth::Growth;
 use crate::history::History;
+use crate::targets::Role;
 use bf_commits::edits_of;
 use bf_forest::Edit;
 use bf_grammar::{Change, Command, Commit, Header, Limits, Target};
@@ -22,15 +23,6 @@ use bf_oid::{Kind, object_name};
 use bf_tables::Marks;
 use std::alloc::{AllocError, Global};
 use std::marker::Model;
-
-/// What a target is for.
-#[derive(Clone, Copy, Debug, PartialEq, Eq)]
-pub(crate) enum Role {
-    /// A commit's `from` or `merge`, and the `from` of a `reset`.
-    Parent,
-    /// The `from` of a tag.
-    Tagged,
-}
 
 /// The history so far, and what the marks stand for. A command that is refused may leave a part of its
 /// work behind.
@@ -198,7 +190,7 @@ impl Importer {
             self.remove_ref(&branch);
             return Ok(());
         }
-        let place = self.place_of_target(Role::Parent, target)?;
+        let place = self.place_of_target(Role::Commit, target)?;
         self.set_ref(branch, place)?;
         Ok(())
     }
@@ -222,17 +214,10 @@ impl Importer {
         requires { StandsBelow (length self.old.loading.history.parents) what }
         ensures { OnOk result (self.new ≡ mark_set mark what self.old) }
     {
-        mark_as(&mut self.marks, mark, what)
-    }
-}
-
-fn mark_as(marks: &mut Marks, mark: Option<u64>, what: Marked) -> Result<(), AllocError>
-    ensures ok { OnOk result (marks.new ≡ with_mark mark what marks.old) }
-    ensures err { OnErr result (marks.new ≡ marks.old) }
-{
-    match mark {
-        Some(number) => marks.set(number, what),
-        None => Ok(()),
+        match mark {
+            Some(number) => self.marks.set(number, what),
+            None => Ok(()),
+        }
     }
 }
 

@@ -1,7 +1,6 @@
 //! The commits that targets name.
-ghost use Rattle.std.specs.Prelude.{◌≡◌, ◌++◌, All, IfOk, IfSome, MatchOption};
-ghost use Rattle.std.specs.Option.{ok_or, option_to_list};
-ghost use Rattle.std.specs.Prelude.{None};
+ghost use Rattle.std.specs.Prelude.{◌≡◌, ◌++◌, None, All, IfOk, IfSome, MatchOption};
+ghost use Rattle.std.specs.Option.{option_to_list};
 ghost use Rattle.bf_oid.specs.Object.{oid_of_hex};
 ghost use Rattle.bf_history.specs.declared.fault.ImportFault.TheVariants.{BadFrom};
 ghost use Rattle.bf_history.specs.Imports.{Means};
@@ -9,17 +8,26 @@ ghost use Rattle.bf_history.specs.Meanings.{begins_with, commit_marked, each_of,
 ghost use Rattle.bf_import.specs.Growing.{HasPlace, parents_given};
 ghost use Rattle.bf_import.specs.Roles.{said_of};
 
-use crate::importer::{Importer, Role};
+use crate::importer::Importer;
 use bf_forms::colon_number;
 use bf_grammar::Target;
 use bf_history::{ImportFault, Marked};
 use bf_io::Bytes;
 use bf_oid::oid_from_hex;
 use smallvec::SmallVec;
-use std::alloc::{AllocError, Global};
+use std::alloc::AllocError;
 
 /// The places of the parents of a commit. One or two take no memory of their own.
 pub(crate) type Parents = SmallVec<u32, 2>;
+
+/// What a target is for.
+#[derive(Clone, Copy)]
+pub(crate) enum Role {
+    /// A commit's `from` or `merge`, and the `from` of a `reset`.
+    Commit,
+    /// The `from` of a tag.
+    Tagged,
+}
 
 impl Importer {
     /// The place of the commit that a target names: by its mark, by its name or by a ref.
@@ -42,14 +50,13 @@ impl Importer {
         ensures there { IfOk result (HasPlace self.now.loading.history) }
     {
         match oid_from_hex(target.text.as_slice()) {
-            Some(name) => found_or(
-                self.growth.place_named(name),
-                ImportFault::Unsupported { line: target.line },
-            ),
-            None => found_or(
-                self.place_of_ref(&target.text)?,
-                ImportFault::BadFrom { line: target.line },
-            ),
+            Some(name) => self
+                .growth
+                .place_named(name)
+                .ok_or(ImportFault::Unsupported { line: target.line }),
+            None => self
+                .place_of_ref(&target.text)?
+                .ok_or(ImportFault::BadFrom { line: target.line }),
         }
     }
 
@@ -79,7 +86,7 @@ impl Importer {
         ensures there { IfOk result (λ place. IfSome place (HasPlace self.now.loading.history)) }
     {
         match from {
-            Some(target) => Ok(Some(self.place_of_target(Role::Parent, &target)?)),
+            Some(target) => Ok(Some(self.place_of_target(Role::Commit, &target)?)),
             None => Ok(self.growth.place_of_ref(branch)),
         }
     }
@@ -97,33 +104,32 @@ impl Importer {
             IfOk result (λ parents. All (HasPlace history) parents.items) }
     {
         let merged = self.merged(merges)?;
-        Ok(with_first(self.allocator(), first, merged.as_slice())?)
+        Ok(with_first(first, merged)?)
     }
 
     /// The commits that are merged.
-    fn merged(&self, merges: &[Target]) -> Result<Vec<u32>, ImportFault>
+    fn merged(&self, merges: &[Target]) -> Result<Parents, ImportFault>
         ensures places { let loading = self.now.loading in
             let meant = each_of (place_of_target BadFrom loading) merges.now in
             Means (λ places. places.items) result meant }
         ensures there { let history = self.now.loading.history in
             IfOk result (λ places. All (HasPlace history) places.items) }
     {
-        let mut places = Vec::new(self.allocator());
+        let mut places = SmallVec::new(self.allocator());
         for target in merges {
-            places.push(self.place_of_target(Role::Parent, target)?)?;
+            places.push(self.place_of_target(Role::Commit, target)?)?;
         }
         Ok(places)
     }
 }
 
-fn with_first(alloc: Global, first: Option<u32>, places: &[u32]) -> Result<Parents, AllocError>
-    ensures { IfOk result (λ parents. parents.items ≡ option_to_list first ++ places.now) }
+fn with_first(first: Option<u32>, mut places: Parents) -> Result<Parents, AllocError>
+    ensures { IfOk result (λ parents. parents.items ≡ option_to_list first ++ places.items) }
 {
-    let mut parents = SmallVec::from_slice(alloc, places)?;
     if let Some(place) = first {
-        parents.insert(0, place)?;
+        places.insert(0, place)?;
     }
-    Ok(parents)
+    Ok(places)
 }
 
 /// The commit that a mark stands for.
@@ -142,15 +148,9 @@ fn other_marked(role: Role, line: u64) -> ImportFault
     ensures { result ≡ said_of role line }
 {
     match role {
-        Role::Parent => ImportFault::BadFrom { line },
+        Role::Commit => ImportFault::BadFrom { line },
         Role::Tagged => ImportFault::Unsupported { line },
     }
-}
-
-fn found_or(place: Option<u32>, fault: ImportFault) -> Result<u32, ImportFault>
-    ensures { result ≡ ok_or place fault }
-{
-    place.ok_or(fault)
 }
 
 /// What stands before `^0` at the end of a text.
