@@ -7,11 +7,10 @@ use Rattle.bf_grammar.specs.declared.fault.StreamFault.{StreamFault}
 use Rattle.bf_grammar.specs.declared.fault.StreamFault.TheVariants.{Read, Unsupported}
 use Rattle.bf_grammar.specs.Place.{Reading, Gives, pure, refuse, lifted, ◌>>=◌}
 use Rattle.bf_grammar.specs.Lines.{front_line, take_line, with_line}
-use Rattle.bf_grammar.specs.Forms.{text_after}
-use Rattle.bf_grammar.specs.Commands.{line_as, optional, required, some, target_of}
+use Rattle.bf_grammar.specs.Commands.{line_as, optional, some}
 use Rattle.bf_grammar.proofs.Parts.{LineIs}
 use Rattle.bf_lines.specs.declared.cursor.Cursor.{Cursor}
-use Rattle.bf_lines.specs.Cursor.{Reads, TextIs, place_at, line_of, looks_for, must_find}
+use Rattle.bf_lines.specs.Cursor.{Reads, TextIs, place_at, line_of, looks_for}
 use Rattle.bf_lines.specs.Held.{Held, place_of}
 use Rattle.bf_lines.proofs.Chains.{reads_then, reads_stopped, reads_pure, reads_said, reads_unsaid, reads_line}
 
@@ -100,31 +99,6 @@ module _ {S X : Type 0} {left : S → Option (List ℕ)} {faults : S → ℕ} {a
       → Reads left faults a c (Ok (Some x)) (λ limits. optional limits word form)
   optional_taken {c = c} number text x looked is says taken =
       optional_there looked (reads_then (λ x _. pure (Some x)) (line_taken form number text x is says taken) (reads_pure left faults c (Some x)))
-
--- a part that must stand
-module _ {S X : Type 0} {left : S → Option (List ℕ)} {faults : S → ℕ} {a b : Cursor S} (word : List ℕ) (form : ℕ → List ℕ → Result X StreamFault) where
-  pub required_stopped : {fault : StreamFault} → Reads left faults a b (Err fault) (must_find word)
-      → Reads left faults a b (Err fault) (λ limits. required limits word (line_as form))
-  required_stopped found = reads_stopped (λ _ _. line_as form) found
-
-  pub required_refused : (number : ℕ) (text : List ℕ) (fault : StreamFault) → Reads left faults a b (Ok tt) (must_find word)
-      → LineIs (place_at left b) number text → form number text ≡ Err fault → (fault ≡ Read → ⊥)
-      → Reads left faults a b (Err fault) (λ limits. required limits word (line_as form))
-  required_refused number text fault found is refused other =
-      reads_then (λ _ _. line_as form) found (line_refused form (λ _ _ x _. take_line >>= (λ _. pure x)) number text fault is refused other)
-
-  pub required_taken : {c : Cursor S} (number : ℕ) (text : List ℕ) (x : X) → Reads left faults a b (Ok tt) (must_find word)
-      → LineIs (place_at left b) number text → form number text ≡ Ok x → Reads left faults b c (Ok tt) (λ _. take_line)
-      → Reads left faults a c (Ok x) (λ limits. required limits word (line_as form))
-  required_taken number text x found is says taken = reads_then (λ _ _. line_as form) found (line_taken form number text x is says taken)
-
--- a target by what its line says
-pub target_ok : (word : List ℕ) (line : ℕ) (text name : List ℕ) → text_after line word text ≡ Ok name
-    → target_of word line text ≡ Ok (record { line = line; text = name })
-target_ok word line text name is = rw is refl
-
-pub target_err : (word : List ℕ) (line : ℕ) (text : List ℕ) (fault : StreamFault) → text_after line word text ≡ Err fault → target_of word line text ≡ Err fault
-target_err word line text fault is = rw is refl
 
 -- the refusal of the line in front
 pub refused_here : {S X : Type 0} (left : S → Option (List ℕ)) (faults : S → ℕ) (a : Cursor S) (number : ℕ) → number ≡ line_of a

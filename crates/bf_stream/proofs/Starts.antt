@@ -1,5 +1,5 @@
 -- What the lines of data parts and changes, the first line of a command and the end of the input give.
-use Rattle.std.proofs.Common.{◌≡◌, ℕ, Bool, true, false, cond, ◌++◌, ◌||◌, List, take, Option, Some, None, Result, Ok, Err, refl, sym, ◌∙◌, ap, length, nat_lt}
+use Rattle.std.proofs.Common.{◌≡◌, ℕ, Bool, true, false, cond, List, Option, Some, None, Result, Ok, Err, refl, sym, ◌∙◌, ap}
 use Rattle.std.proofs.Common.{codes, arith}
 use Rattle.bf_grammar.specs.declared.command.Change.{Change}
 use Rattle.bf_grammar.specs.declared.command.Change.TheVariants.{Modify, Delete, DeleteAll}

@@ -1,8 +1,8 @@
 //! The parts of a command: lines that begin with their word, and data parts.
-ghost use Rattle.std.specs.Prelude.{◌≤◌, length};
 ghost use Rattle.bf_grammar.specs.Commands as grammar;
-ghost use Rattle.bf_stream.specs.Parts.{ident_behind, target_behind};
-ghost use Rattle.bf_stream.specs.Standing.{HasLine, Reads, TakesIfSome};
+ghost use Rattle.bf_lines.specs.Cursor.{IsShortWord};
+ghost use Rattle.bf_stream.specs.Parts.{ident_behind, ident_in, target_behind, target_in};
+ghost use Rattle.bf_stream.specs.Standing.{HasLine, Reads, Takes, TakesIfSome};
 
 use crate::Reader;
 use bf_forms::{DataLine, data_line, encoding_of, ident_of, mark_of, text_after};
@@ -37,17 +37,13 @@ impl<'a, S: Source> Reader<'a, S> {
 
     /// `author <ident>` or `tagger <ident>`, where it stands.
     pub(crate) fn optional_ident(&mut self, word: &[u8]) -> Result<Option<Bytes>, StreamFault>
-        requires { length word.now ≤ 14 }
+        requires { IsShortWord word.now }
         ensures { Reads S.left S.faults self.old self.new result (ident_behind word.now) }
     {
         if !self.cursor.at_word(word)? {
             return Ok(None);
         }
-        let alloc = self.cursor.allocator();
-        let text = ident_of(self.cursor.line_number(), word, self.cursor.line())?;
-        let ident = Bytes::from_slice(alloc, text)?;
-        self.cursor.take_line();
-        Ok(Some(ident))
+        Ok(Some(self.ident_in_front(word)?))
     }
 
     /// `committer <ident>`, which must stand.
@@ -55,9 +51,16 @@ impl<'a, S: Source> Reader<'a, S> {
         ensures { Reads S.left S.faults self.old self.new result grammar.committer_at }
     {
         self.cursor.must_be_at(b"committer")?;
+        self.ident_in_front(b"committer")
+    }
+
+    /// The ident of the line in front, which begins with this word.
+    fn ident_in_front(&mut self, word: &[u8]) -> Result<Bytes, StreamFault>
+        requires { HasLine S.left self.old }
+        ensures { Reads S.left S.faults self.old self.new result (ident_in word.now) }
+    {
         let alloc = self.cursor.allocator();
-        let line = self.cursor.line_number();
-        let text = ident_of(line, b"committer", self.cursor.line())?;
+        let text = ident_of(self.cursor.line_number(), word, self.cursor.line())?;
         let ident = Bytes::from_slice(alloc, text)?;
         self.cursor.take_line();
         Ok(ident)
@@ -91,19 +94,14 @@ impl<'a, S: Source> Reader<'a, S> {
 
     /// `from <target>` or `merge <target>`, where it stands.
     pub(crate) fn target(&mut self, word: &[u8]) -> Result<Option<Target>, StreamFault>
-        requires { length word.now ≤ 14 }
+        requires { IsShortWord word.now }
         ensures reads { Reads S.left S.faults self.old self.new result (target_behind word.now) }
         ensures takes { TakesIfSome self.old self.new result }
     {
         if !self.cursor.at_word(word)? {
             return Ok(None);
         }
-        let alloc = self.cursor.allocator();
-        let line = self.cursor.line_number();
-        let text = text_after(line, word, self.cursor.line())?;
-        let named = Bytes::from_slice(alloc, text)?;
-        self.cursor.take_line();
-        Ok(Some(Target { line, text: named }))
+        Ok(Some(self.target_in_front(word)?))
     }
 
     /// `from <target>`, which must stand.
@@ -111,9 +109,18 @@ impl<'a, S: Source> Reader<'a, S> {
         ensures { Reads S.left S.faults self.old self.new result grammar.from_at }
     {
         self.cursor.must_be_at(b"from")?;
+        self.target_in_front(b"from")
+    }
+
+    /// The target of the line in front, which begins with this word.
+    fn target_in_front(&mut self, word: &[u8]) -> Result<Target, StreamFault>
+        requires { HasLine S.left self.old }
+        ensures reads { Reads S.left S.faults self.old self.new result (target_in word.now) }
+        ensures takes { Takes self.old self.new result }
+    {
         let alloc = self.cursor.allocator();
         let line = self.cursor.line_number();
-        let text = text_after(line, b"from", self.cursor.line())?;
+        let text = text_after(line, word, self.cursor.line())?;
         let named = Bytes::from_slice(alloc, text)?;
         self.cursor.take_line();
         Ok(Target { line, text: named })
@@ -132,7 +139,7 @@ impl<'a, S: Source> Reader<'a, S> {
         }
     }
 
-    /// A data part, which must stand, with the LF behind it.
+    /// The bytes of a data part, which must stand. One LF directly behind it is passed over.
     pub(crate) fn data(&mut self) -> Result<Bytes, StreamFault>
         ensures { Reads S.left S.faults self.old self.new result grammar.data_at }
     {
