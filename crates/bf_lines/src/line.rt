@@ -23,7 +23,7 @@ impl<'a, S: Source> Cursor<'a, S> {
 
     /// Goes past comments, and tells whether the line that is in front then begins with this word. A line
     /// that was found before is not searched again.
-    #[inline]
+    #[inline(always)]
     pub fn at_word(&mut self, word: &[u8]) -> Result<bool, StreamFault>
         requires { IsShortWord word.now }
         ensures reads { Reads S.left S.faults self.old self.new result (looks_for word.now) }
@@ -38,6 +38,7 @@ impl<'a, S: Source> Cursor<'a, S> {
     }
 
     /// The same, by a search for the line.
+    #[inline(never)]
     fn next_at_word(&mut self, word: &[u8]) -> Result<bool, StreamFault>
         requires { IsShortWord word.now }
         ensures reads { Reads S.left S.faults self.old self.new result (looks_for word.now) }
