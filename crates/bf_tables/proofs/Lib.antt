@@ -1,3 +1,3 @@
-pub mod Entries
+pub mod Indexed
 pub mod Numbered
 pub mod Positions

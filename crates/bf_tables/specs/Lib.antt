@@ -1,2 +1,3 @@
+pub mod Indices
 pub mod Named
 pub mod Slots

@@ -1,6 +1,7 @@
-//! The tables of an import: what the marks of a stream stand for, the places of its refs, and the names
-//! of its commits. Each is seen as a list, in the order in which its entries came, and looks an entry up
-//! by a hash of what it is under.
+//! The tables of an import: what the marks of a stream stand for, the places of its refs, and the
+//! names of its commits. Each is seen as a list, in the order in which its entries came, and looks
+//! an entry up by a hash of what it is under; a mark whose number is near the count of marks, by the
+//! number alone.
 #![tactic(auto)]
 
 mod marks;

@@ -75,6 +75,23 @@ fn marks_stand_for_what_was_set_last(rt: HostRuntime) -> Result<(), Fail> {
 }
 
 #[test]
+fn marks_far_from_their_count_keep_their_order(rt: HostRuntime) -> Result<(), Fail> {
+    let mut marks = Marks::new(rt.alloc());
+    let numbers: [u64; 5] = [1, 5, 536870911, 2, 5];
+    for place in 0..5 {
+        marks.set(numbers[place as usize], Marked::Commit(place))?;
+    }
+    assert_eq!(rt; marks.len(), 4);
+    assert_eq!(rt; marks.get(1), Some(Marked::Commit(0)));
+    assert_eq!(rt; marks.get(5), Some(Marked::Commit(4)));
+    assert_eq!(rt; marks.get(536870911), Some(Marked::Commit(2)));
+    assert_eq!(rt; marks.get(2), Some(Marked::Commit(3)));
+    assert_eq!(rt; marks.get(3), None);
+    assert_eq!(rt; marks.get(536870912), None);
+    Ok(())
+}
+
+#[test]
 fn names_stand_once(rt: HostRuntime) -> Result<(), Fail> {
     let mut names = Names::new(rt.alloc());
     assert_eq!(rt; place_of(&mut names, Oid([3; 20]))?, 0);
