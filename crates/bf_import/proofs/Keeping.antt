@@ -1,14 +1,11 @@
 -- What values under names keep, what an edit of files keeps of the trees before, and what a history keeps that grows.
-use Rattle.std.proofs.Common.{◌≡◌, ℕ, ◌<◌, ◌≤◌, Bool, true, false, List, [], ◌∷◌, ◌++◌, ◌+◌, length, length-append, length-take, map, take, Option, Some, None}
-use Rattle.std.proofs.Common.{IfSome, All, Vec, Global, get_or, if◌then◌else◌, ◌==◌, Result, Ok, Err, OnOk, OnErr, refl, sym, ◌∙◌, ap, ap₂, subst, arith}
+use Rattle.std.proofs.Common.{◌≡◌, ℕ, ◌<◌, ◌≤◌, Bool, true, false, List, [], ◌∷◌, length, length-take, map, take, Option, Some, None}
+use Rattle.std.proofs.Common.{IfSome, All, get_or, if◌then◌else◌, ◌==◌, Result, Ok, Err, OnOk, OnErr, refl, sym, ◌∙◌, ap, ap₂, subst, arith}
 use Rattle.std.proofs.lemmas.List.{get_or-map, get_or-take}
-use Rattle.std.proofs.lemmas.List.Elements.{All-cons, All-head, All-tail, All-push, All-weaker}
-use Rattle.bf_oid.specs.declared.object.Oid.{Oid}
+use Rattle.std.proofs.lemmas.List.Elements.{All-cons, All-head, All-tail, All-weaker}
 use Rattle.bf_forest.specs.declared.edits.Edit.{Edit}
 use Rattle.bf_forest.specs.Files.{Files, edited}
 use Rattle.bf_forest.specs.Trees.{Pool, files_at, with_directories}
-use Rattle.bf_grammar.specs.declared.fault.Limits.{Limits}
-use Rattle.bf_grammar.specs.Limits.{IsWithin}
 use Rattle.bf_history.specs.Named.{value_of, with_value, without_value}
 use Rattle.bf_history.specs.declared.marked.Marked.{Marked}
 use Rattle.bf_history.specs.declared.marked.Marked.TheVariants as marked
@@ -63,22 +60,6 @@ module _ (g : Inside) (kept : IsKept g) where
     commits = kept.commits;
   }
 
-  -- the same in other memory
-  pub kept_again : (subjects : Vec (List ℕ) Global) → subjects.items ≡ g.subjects.items → (trees : Vec ℕ Global) → trees.items ≡ g.trees.items
-      → IsKept (record g { subjects = subjects; trees = trees })
-  kept_again subjects subjects_same trees trees_same = record {
-    one_name = kept.one_name;
-    one_subject = ap length subjects_same ∙ kept.one_subject;
-    one_tree = ap length trees_same ∙ kept.one_tree;
-    refs_stand = kept.refs_stand;
-    trees_stand = subst (All (λ tree. tree < length g.forest.trees)) (sym trees_same) kept.trees_stand;
-    has_empty = kept.has_empty;
-    empty = kept.empty;
-    within = kept.within;
-    entries = kept.entries;
-    commits = kept.commits;
-  }
-
   -- more trees in the pool
   pub kept_with_forest : (forest : Pool) → forest.limit ≡ g.forest.limit → take (length g.forest.trees) forest.trees ≡ g.forest.trees
       → IsKept (record g { forest = forest })
@@ -96,32 +77,6 @@ module _ (g : Inside) (kept : IsKept g) where
         within = kept.within;
         entries = limit ∙ kept.entries;
         commits = kept.commits;
-      }
-
-  -- one more commit
-  pub kept_with_commit : (h : Inside) (parents : List ℕ) (name : Oid) (subject : List ℕ) (tree : ℕ) → tree < length g.forest.trees
-      → length g.graph < g.limits.commits
-      → h.graph ≡ g.graph ++ parents ∷ [] → h.names ≡ g.names ++ name ∷ []
-      → h.subjects.items ≡ g.subjects.items ++ subject ∷ [] → h.trees.items ≡ g.trees.items ++ tree ∷ []
-      → h.refs ≡ g.refs → h.forest ≡ g.forest → h.limits ≡ g.limits
-      → IsKept h
-  kept_with_commit h parents name subject tree there room graph_is names_are subjects_are trees_are refs_same forest_same limits_same =
-      let long : length h.graph ≡ length g.graph + 1 = ap length graph_is ∙ length-append g.graph (parents ∷ []) in
-      record {
-        one_name = ap length names_are ∙ length-append g.names (name ∷ []) ∙ ap (λ (n : ℕ). n + 1) kept.one_name ∙ sym long;
-        one_subject = ap length subjects_are ∙ length-append g.subjects.items (subject ∷ []) ∙ ap (λ (n : ℕ). n + 1) kept.one_subject ∙ sym long;
-        one_tree = ap length trees_are ∙ length-append g.trees.items (tree ∷ []) ∙ ap (λ (n : ℕ). n + 1) kept.one_tree ∙ sym long;
-        refs_stand = subst (All (λ (ref : List ℕ × ℕ). ref.1 < length h.graph)) (sym refs_same)
-            (All-weaker (λ (ref : List ℕ × ℕ). ref.1 < length g.graph) (λ (ref : List ℕ × ℕ). ref.1 < length h.graph) (λ ref h. omega arith) g.refs
-            kept.refs_stand);
-        trees_stand = subst (λ (pool : Pool). All (λ t. t < length pool.trees) h.trees.items) (sym forest_same)
-            (subst (All (λ t. t < length g.forest.trees)) (sym trees_are)
-            (All-push (λ t. t < length g.forest.trees) g.trees.items tree kept.trees_stand there));
-        has_empty = subst (λ (pool : Pool). 0 < length pool.trees) (sym forest_same) kept.has_empty;
-        empty = subst (λ (pool : Pool). files_at pool.trees 0 ≡ []) (sym forest_same) kept.empty;
-        within = subst IsWithin (sym limits_same) kept.within;
-        entries = ap (λ (pool : Pool). pool.limit) forest_same ∙ kept.entries ∙ ap (λ (l : Limits). l.entries) (sym limits_same);
-        commits = subst (λ (l : Limits). length h.graph ≤ l.commits) (sym limits_same) (omega (arith, long, room));
       }
 
   -- the files that edits begin with

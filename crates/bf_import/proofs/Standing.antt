@@ -1,9 +1,9 @@
 -- How a commit stands in a history: its name, its place, and the limits.
-use Rattle.std.proofs.Common.{◌≡◌, ℕ, ◌+◌, ◌<◌, ◌≤◌, nat_lt, Bool, true, false, List, [], ◌∷◌, ◌++◌, length, length-append, Option, Some, None, if◌then◌else◌}
-use Rattle.std.proofs.Common.{Result, Ok, Err, IfOk, refl, sym, ◌∙◌, ap, subst, arith}
+use Rattle.std.proofs.Common.{◌≡◌, ℕ, ◌<◌, ◌≤◌, nat_lt, Bool, true, false, List, length, Option, Some, None, unwrap_or, if◌then◌else◌}
+use Rattle.std.proofs.Common.{Result, Ok, Err, refl, sym, ◌∙◌, ap, subst}
 use Rattle.std.proofs.lemmas.Bool.{lt-ltb, le-ltb}
 use Rattle.bf_grammar.specs.declared.command.Header.{Header}
-use Rattle.bf_grammar.specs.declared.fault.Limit.TheVariants.{Commits, Entries}
+use Rattle.bf_grammar.specs.declared.fault.Limit.TheVariants.{Entries}
 use Rattle.bf_grammar.specs.declared.fault.Limits.{Limits}
 use Rattle.bf_oid.specs.declared.object.Oid.{Oid}
 use Rattle.bf_forest.specs.declared.trees.ForestFault.{ForestFault}
@@ -17,15 +17,10 @@ use Rattle.bf_history.specs.Bodies.{subject_of}
 use Rattle.bf_history.specs.Imports.{Means}
 use Rattle.bf_history.specs.Meanings.{History, Commit, commit_on, stood, with_commit, within_limits, place_named, place_of_commit}
 use Rattle.bf_history.proofs.Meant.{means_alike}
-use Rattle.bf_import.specs.Growing.{joined, refusal_of, with_new, with_trees_of, within_commits, within_entries}
+use Rattle.bf_import.specs.Growing.{joined, refusal_of, with_named, with_trees_of, within_commits, within_entries}
 
 ok_same : {X E : Type 0} (x y : X) → (let r : Result X E = Ok x in r) ≡ Ok y → x ≡ y
 ok_same x y e = cc
-
--- what follows of a value follows of an answer
-pub ok_weaker : {T E : Type 0} {P Q : T → Type 0} (result : Result T E) → ((x : T) → P x → Q x) → IfOk result P → IfOk result Q
-ok_weaker (Ok x) make p = make x p
-ok_weaker (Err e) make p = tt
 
 -- ---- the pool of trees
 
@@ -91,6 +86,12 @@ module _ (limits : Limits) (history : History) (parents : List ℕ) (files : Fil
   with_commit_directories = stood_directories (place_named history.names (commit_on history parents files header).name) (commit_on history parents files header)
       (with_directories history.directories files)
 
+  stood_over : (known : Option ℕ) (commit : Commit)
+      → stood history (with_directories history.directories files) known commit
+      ≡ stood (with_trees_of history files) (with_directories history.directories files) known commit
+  stood_over None commit = refl
+  stood_over (Some place) commit = refl
+
   -- the trees are too many
   pub trees_refused : {X Y : Type 0} (view : X → History) (other : Y → History) (fault : ImportFault)
       → Means view (Err fault) (within_entries limits.entries (with_trees_of history files))
@@ -118,59 +119,28 @@ module _ (limits : Limits) (history : History) (parents : List ℕ) (files : Fil
         ∙ ap (λ (t : List ℕ). commit_name t parents names header) (tree_is ∙ ap tree_name shown)
         ∙ ap (λ (n : List Oid). commit_name (tree_name files) parents n header) names_kept)
 
-    known : (found : Option ℕ) → found ≡ place_named grown.names name → place_named history.names (commit_on history parents files header).name ≡ found
-    known found is = ap (place_named history.names) (sym named) ∙ ap (λ (h : History). place_named h.names name) grown_is ∙ sym is
-
     few_there : (h : History) → h.directories ≡ with_directories history.directories files → within_limits limits h ≡ within_commits limits.commits h
     few_there h same =
         commits_left limits h
         (ap (λ (directories : List Files). nat_lt limits.entries (entries_of directories)) same
         ∙ few_entries limits.entries (with_trees_of history files) grown pool)
 
-    -- a commit whose name is there adds its trees alone
-    pub stands_there : (place : ℕ) → place_named grown.names name ≡ Some place → length grown.names ≤ limits.commits
-        → joined limits history (commit_on history parents files header) ≡ Ok grown
-    unfolding with_commit commit_on
-    stands_there place is few =
-        let commit = commit_on history parents files header in
-        let same : with_commit history commit ≡ grown =
-        ap (λ (k : Option ℕ). stood history (with_directories history.directories files) k commit) (known (Some place) (sym is)) ∙ grown_is in
-        let low : nat_lt limits.commits (length grown.names) ≡ false = le-ltb limits.commits (length grown.names) few in
-        few_there (with_commit history commit) with_commit_directories
-        ∙ ap (within_commits limits.commits) same
-        ∙ rw low refl
-
-    pub stands_at : (place : ℕ) → place_named grown.names name ≡ Some place → place ≡ place_of_commit history (commit_on history parents files header)
-    unfolding place_of_commit
-    stands_at place is = rw (known (Some place) (sym is)) refl
-
-    -- a commit whose name is new
-    pub stands_new : place_named grown.names name ≡ None
-        → within_commits limits.commits (with_new grown
+    -- the commit stands as it does where its trees are there
+    pub stands : within_commits limits.commits (with_named grown
         (record { parents = parents; files = files_at grown.directories number; subject = subject_of header.message; name = name }))
         ≡ joined limits history (commit_on history parents files header)
     unfolding with_commit commit_on
-    stands_new is =
+    stands =
         let commit = commit_on history parents files header in
         sym (few_there (with_commit history commit) with_commit_directories
         ∙ ap (within_commits limits.commits)
-        (ap (λ (k : Option ℕ). stood history (with_directories history.directories files) k commit) (known None (sym is))
-        ∙ ap (λ (h : History). with_new h commit) grown_is
-        ∙ ap (λ (n : Oid). with_new grown (record commit { name = n })) (sym named)
-        ∙ ap (λ (f : Files). with_new grown (record { parents = parents; files = f; subject = subject_of header.message; name = name })) (sym shown)))
+        (stood_over (place_named history.names commit.name) commit
+        ∙ ap (λ (h : History). with_named h commit) grown_is
+        ∙ ap (λ (n : Oid). with_named grown (record commit { name = n })) (sym named)
+        ∙ ap (λ (f : Files). with_named grown (record { parents = parents; files = f; subject = subject_of header.message; name = name })) (sym shown)))
 
-    pub stands_last : place_named grown.names name ≡ None → (place : ℕ) → place ≡ length grown.names
-        → place ≡ place_of_commit history (commit_on history parents files header)
+    pub stands_at : unwrap_or (place_named grown.names name) (length grown.names) ≡ place_of_commit history (commit_on history parents files header)
     unfolding place_of_commit
-    stands_last is place last =
-        last ∙ ap (λ (h : History). length h.names) (sym grown_is) ∙ sym (rw (known None (sym is)) refl)
-
--- ---- the limit on commits
-
--- one commit more is past the limit
-pub one_too_many : (most place : ℕ) (names : List Oid) (name : Oid) (history : History) → place ≡ length names → most ≤ place
-    → history.names ≡ names ++ name ∷ [] → within_commits most history ≡ Err (TooLarge Commits)
-one_too_many most place names name history at full e =
-    let count : length history.names ≡ length names + 1 = ap (λ (l : List Oid). length l) e ∙ length-append names (name ∷ []) in
-    let high : nat_lt most (length history.names) ≡ true = lt-ltb most (length history.names) (omega (arith, count, at, full)) in
-    rw high refl
+    stands_at =
+        ap (λ (n : Oid). unwrap_or (place_named grown.names n) (length grown.names)) named
+        ∙ ap (λ (h : History). place_of_commit h (commit_on history parents files header)) (sym grown_is)

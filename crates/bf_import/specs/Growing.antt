@@ -19,7 +19,7 @@ use Rattle.bf_history.specs.declared.marked.Marked.{Marked}
 use Rattle.bf_history.specs.declared.marked.Marked.TheVariants as marked
 use Rattle.bf_history.specs.Imports.{Means}
 use Rattle.bf_history.specs.Meanings.{History, Loading, Commit, after_command, after_commit, commit_on, each_of, files_from, nothing_loaded}
-use Rattle.bf_history.specs.Meanings.{place_of_commit, place_of_target, stood, with_commit, with_mark, with_ref, within_limits, without_ref, ◌>>=◌}
+use Rattle.bf_history.specs.Meanings.{place_named, place_of_commit, place_of_target, stood, with_commit, with_mark, with_ref, within_limits, without_ref, ◌>>=◌}
 
 -- a history that grows, and its limits
 pub record Growing : Type 0 where
@@ -79,9 +79,9 @@ with_trees_of history files = record history { directories = with_directories hi
 abbrev pub with_edits : History → Option ℕ → List Edit → History
 with_edits history first edits = with_trees_of history (edited_files history first edits)
 
--- the history with a commit of a new name, whose directories are there
-abbrev pub with_new : History → Commit → History
-with_new history commit = stood history history.directories None commit
+-- the history with a commit whose directories are there; one of a name that stands there already changes nothing
+abbrev pub with_named : History → Commit → History
+with_named history commit = stood history history.directories (place_named history.names commit.name) commit
 
 -- the limits on entries and on commits, each for itself
 abbrev pub within_entries : ℕ → History → Result History ImportFault

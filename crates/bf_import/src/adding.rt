@@ -1,10 +1,10 @@
 //! A commit that joins a history.
-ghost use Rattle.std.specs.Prelude.{◌≡◌, ◌≤◌, ◌<◌, length, None, All, IfOk, IfSome};
+ghost use Rattle.std.specs.Prelude.{◌≡◌, ◌≤◌, ◌<◌, length, unwrap_or, All, IfOk, IfSome};
 ghost use Rattle.bf_forest.specs.Trees.{files_at};
 ghost use Rattle.bf_history.specs.Bodies.{subject_of};
 ghost use Rattle.bf_history.specs.Imports.{Means};
 ghost use Rattle.bf_history.specs.Meanings.{place_named, place_of_commit};
-ghost use Rattle.bf_import.specs.Growing.{HasPlace, commit_from, edited_files, joined, refusal_of, with_edits, with_new, within_commits, within_entries};
+ghost use Rattle.bf_import.specs.Growing.{HasPlace, commit_from, edited_files, joined, refusal_of, with_edits, with_named, within_commits, within_entries};
 
 use crate::growth::Growth;
 use bf_commits::{commit_name, subject_of};
@@ -39,10 +39,7 @@ impl Growth {
     {
         let tree = self.edited_tree(first, edits)?;
         let name = commit_name(self.tree_name(tree), parents, self.names(), header)?;
-        match self.place_named(name) {
-            Some(place) => Ok(place),
-            None => self.add_new(parents, tree, &header.message, name),
-        }
+        self.add_named_commit(parents, tree, &header.message, name)
     }
 
     /// The number of the tree of a commit, which joins the pool of trees, where that is within its limit.
@@ -63,8 +60,9 @@ impl Growth {
         }
     }
 
-    /// Adds a commit whose name is new, where one more is within the limit, and gives its place.
-    fn add_new(
+    /// Adds a commit of this tree and this name, where one more is within the limit, and gives its
+    /// place. A commit whose name is there already stays at its place, at the limit too.
+    fn add_named_commit(
         &mut self,
         parents: &[u32],
         tree: u32,
@@ -73,28 +71,32 @@ impl Growth {
     ) -> Result<u32, ImportFault>
         requires parents { All (HasPlace self.old.history) parents.now }
         requires tree { tree < length self.old.history.directories }
-        requires new { place_named self.old.history.names name ≡ None }
-        ensures history { let most = self.old.limits.commits in
-            Means (λ _. self.new.history) result (within_commits most (with_new self.old.history (record {
+        ensures history { let history = self.old.history in
+            let grown = with_named history (record {
               parents = parents.now;
-              files = files_at self.old.history.directories tree;
+              files = files_at history.directories tree;
               subject = subject_of message.now;
               name = name;
-            }))) }
-        ensures place { IfOk result (λ place. place ≡ length self.old.history.names) }
+            }) in
+            let most = self.old.limits.commits in
+            Means (λ _. self.new.history) result (within_commits most grown) }
+        ensures place { let names = self.old.history.names in
+            IfOk result (λ place. place ≡ unwrap_or (place_named names name) (length names)) }
         ensures there { IfOk result (HasPlace self.new.history) }
         ensures kept { length self.old.history.parents ≤ length self.new.history.parents }
         ensures limits { self.new.limits ≡ self.old.limits }
     {
         let place = self.len();
         if place >= self.most() {
-            return Err(ImportFault::TooLarge {
+            return self.place_named(name).ok_or(ImportFault::TooLarge {
                 what: Limit::Commits,
             });
         }
         let subject = Bytes::from_slice(message.allocator(), subject_of(message.as_slice()))?;
-        self.add(parents, tree, subject, name)?;
-        Ok(place)
+        if self.add(parents, tree, subject, name)? {
+            return Ok(place);
+        }
+        Ok(self.place_named(name).unwrap())
     }
 }
 

@@ -1,12 +1,13 @@
 //! A history that grows by its commits and refs.
-ghost use Rattle.std.specs.Prelude.{◌≡◌, ◌≤◌, ◌<◌, [], ◌∷◌, ◌++◌, length, None, All, IfOk, IfSome, OnOk, OnErr, IsErrOf};
+ghost use Rattle.std.specs.Prelude.{◌≡◌, ◌≤◌, ◌<◌, [], ◌∷◌, ◌++◌, if◌then◌else◌, length, is_none, All, IfOk, IfSome, OnOk, OnErr, IsErrOf};
 ghost use Rattle.std.specs.List.{slice_index_or};
 ghost use Rattle.bf_forest.specs.declared.trees.ForestFault.TheVariants as faults;
 ghost use Rattle.bf_forest.specs.Files.{edited};
 ghost use Rattle.bf_forest.specs.Trees.{tree_name, entries_of, files_at};
 ghost use Rattle.bf_grammar.specs.Limits.{IsWithin};
 ghost use Rattle.bf_history.specs.Meanings.{nothing_loaded, files_from, place_named, ref_in, with_ref, without_ref};
-ghost use Rattle.bf_import.specs.Growing.{HasPlace, begun_with, edited_files, nothing_grown, with_edits, with_new};
+ghost use Rattle.bf_import.specs.Growing.{HasPlace, begun_with, edited_files, nothing_grown, with_edits, with_named};
+ghost use Rattle.bf_tables.specs.Named.{with_name};
 
 use bf_forest::{Edit, Forest, ForestFault};
 use bf_grammar::Limits;
@@ -62,6 +63,7 @@ impl Growth {
     /// The number of commits.
     pub(crate) fn len(&self) -> u32
         ensures len { result ≡ length self.now.history.parents }
+        ensures few { result ≤ self.now.limits.commits }
         ensures names { length self.now.history.names ≡ length self.now.history.parents }
     {
         self.graph.len()
@@ -129,19 +131,21 @@ impl Growth {
         self.limits.commits
     }
 
-    /// Adds a commit, whose place is the number of commits before. After an error all is as before.
+    /// Adds a commit, whose place is the number of commits before, and tells whether its name was
+    /// new: one of a name that is there already changes nothing. After an error all is as before.
     pub(crate) fn add(
         &mut self,
         parents: &[u32],
         tree: u32,
         subject: Bytes,
         name: Oid,
-    ) -> Result<(), AllocError>
+    ) -> Result<bool, AllocError>
         requires parents { All (HasPlace self.old.history) parents.now }
         requires tree { tree < length self.old.history.directories }
-        requires new { place_named self.old.history.names name ≡ None }
         requires room { length self.old.history.parents < self.old.limits.commits }
-        ensures ok { OnOk result (self.new.history ≡ with_new self.old.history (record {
+        ensures added { IfOk result (λ added. added
+            ≡ is_none (place_named self.old.history.names name)) }
+        ensures ok { OnOk result (self.new.history ≡ with_named self.old.history (record {
           parents = parents.now;
           files = files_at self.old.history.directories tree;
           subject = subject;
@@ -153,10 +157,12 @@ impl Growth {
         // Room first, so that a commit is added as a whole or not at all.
         self.subjects.reserve(1)?;
         self.trees.reserve(1)?;
-        add_named(&mut self.graph, &mut self.names, parents, name)?;
+        if !add_named(&mut self.graph, &mut self.names, parents, name)? {
+            return Ok(false);
+        }
         self.subjects.push_reserved(subject);
         self.trees.push_reserved(tree);
-        Ok(())
+        Ok(true)
     }
 
     /// Sets a ref to a place. After an error all is as before.
@@ -178,25 +184,29 @@ impl Growth {
     }
 }
 
-/// Adds a commit's parents and its name. After an error both are as before.
+/// Adds a commit's parents and its name, and tells whether the name was new: one that is there
+/// already changes nothing. After an error both are as before.
 fn add_named(
     graph: &mut Graph,
     names: &mut Names,
     parents: &[u32],
     name: Oid,
-) -> Result<(), AllocError>
+) -> Result<bool, AllocError>
     requires len { length names.old ≡ length graph.old }
     requires parents { All (λ parent. parent < length graph.old) parents.now }
-    requires new { place_named names.old name ≡ None }
     requires room { length graph.old < 4294967295 }
-    ensures graph { OnOk result (graph.new ≡ graph.old ++ parents.now ∷ []) }
-    ensures names { OnOk result (names.new ≡ names.old ++ name ∷ []) }
+    ensures added { IfOk result (λ added. added ≡ is_none (place_named names.old name)) }
+    ensures graph { IfOk result (λ added. graph.new
+        ≡ (if added then graph.old ++ parents.now ∷ [] else graph.old)) }
+    ensures names { OnOk result (names.new ≡ with_name names.old name) }
     ensures same_graph { OnErr result (graph.new ≡ graph.old) }
     ensures same_names { OnErr result (names.new ≡ names.old) }
 {
-    names.push(name)?;
+    if !names.push(name)? {
+        return Ok(false);
+    }
     match graph.push(parents) {
-        Ok(_) => Ok(()),
+        Ok(_) => Ok(true),
         Err(error) => {
             names.truncate(graph.len());
             Err(error)

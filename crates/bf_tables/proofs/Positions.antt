@@ -1,12 +1,11 @@
 -- The position of a name in a list where each name stands once.
-use Rattle.std.proofs.Common.{◌≡◌, ℕ, zero, suc, ◌+◌, Bool, true, false, cond, not, nat_lt, List, [], ◌∷◌, ◌++◌, length, slice_get, position, Option, Some}
-use Rattle.std.proofs.Common.{None, if◌then◌else◌, refl, sym, ap, ◌∙◌, subst, inl, inr, arith}
+use Rattle.std.proofs.Common.{◌≡◌, ℕ, zero, suc, ◌+◌, Bool, true, false, cond, not, ◌||◌, nat_lt, List, [], ◌∷◌, length, slice_get, position, Option, Some}
+use Rattle.std.proofs.Common.{None, is_some, refl, sym, ap, ◌∙◌, subst, inl, inr, arith}
 use Rattle.std.specs.List.{list_any, position_or_len, IsDistinct, AllByRecursion}
 use Rattle.std.specs.Option.{option_map}
-use Rattle.std.proofs.lemmas.Bool.{or_from, cases_Bool, false≢true}
+use Rattle.std.proofs.lemmas.Bool.{cases_Bool, false≢true}
 use Rattle.std.proofs.lemmas.Bool.Decides.{nat_tests}
 use Rattle.std.proofs.lemmas.Slice.Eq.{bytes_eq-Decides}
-use Rattle.indexmap.specs.IndexSet.{insert_key}
 use Rattle.bf_oid.specs.declared.object.Oid.{Oid}
 use Rattle.bf_forest.specs.Files.{is_same}
 use Rattle.bf_history.specs.Meanings.{place_named}
@@ -36,22 +35,19 @@ module _ {X : Type 0} (p : X → Bool) where
   pub position_more : (x : X) (xs : List X) → position p (x ∷ xs) ≡ cond (p x) (Some 0) (option_map suc (position p xs))
   position_more x xs = by_head (p x) (position_or_len p xs) (length xs)
 
-  some_none : (n : ℕ) → Some n ≡ None → ⊥
-  some_none n e = cc
+  any_on : (b : Bool) (rest : List X) → list_any p rest ≡ is_some (position p rest)
+      → (b || list_any p rest) ≡ is_some (cond b (Some 0) (option_map suc (position p rest)))
+  any_on true rest same = refl
+  any_on false rest same = same ∙ more (position p rest)
+    where
+      more : (o : Option ℕ) → is_some o ≡ is_some (option_map suc o)
+      more None = refl
+      more (Some n) = refl
 
-  no_more : (o : Option ℕ) → option_map suc o ≡ None → o ≡ None
-  no_more None h = refl
-  no_more (Some n) h = cc
-
-  pub absent : (xs : List X) → position p xs ≡ None → list_any p xs ≡ false
-  absent [] h = refl
-  absent (x ∷ xs) h = elim (cases_Bool (p x)) [
-    | inl here ↦ absurd (some_none 0 (sym (ap (λ b. cond b (Some 0) (option_map suc (position p xs))) here) ∙ sym (position_more x xs) ∙ h))
-    | inr other ↦
-        let rest : option_map suc (position p xs) ≡ None = sym (ap (λ b. cond b (Some 0) (option_map suc (position p xs))) other) ∙ sym (position_more x xs) ∙
-        h in
-        or_from (p x) (list_any p xs) other (absent xs (no_more (position p xs) rest))
-  ]
+  -- an element passes the test exactly where it has a position
+  pub any_is_some : (xs : List X) → list_any p xs ≡ is_some (position p xs)
+  any_is_some [] = refl
+  any_is_some (x ∷ xs) = any_on (p x) xs (any_is_some xs) ∙ ap is_some (sym (position_more x xs))
 
 each_at : {X : Type 0} (P : X → Type 0) (xs : List X) (i : ℕ) (x : X) → AllByRecursion P xs → slice_get xs i ≡ Some x → P x
 each_at P [] i x all at = cc
@@ -81,7 +77,3 @@ own_place (first ∷ rest) (suc place) name once at =
     position_more (is_same_name name) first rest
     ∙ ap (λ b. cond b (Some 0) (option_map suc (place_named rest name))) other
     ∙ ap (option_map suc) (own_place rest place name once.1 at)
-
--- a name that is not there goes last
-pub pushed : (names : List Oid) (name : Oid) → place_named names name ≡ None → insert_key is_same_name names name ≡ names ++ name ∷ []
-pushed names name none = ap (λ there. if there then names else names ++ name ∷ []) (absent (is_same_name name) names none)

@@ -1,8 +1,8 @@
 //! The names of the commits of a history, by place.
-ghost use Rattle.std.specs.Prelude.{◌≡◌, ◌<◌, ◌++◌, ◌∷◌, [], length, take, None, Some, IfSome, OnOk, OnErr};
+ghost use Rattle.std.specs.Prelude.{◌≡◌, ◌<◌, [], length, take, is_none, IfOk, IfSome, OnOk, OnErr};
 ghost use Rattle.bf_oid.specs.declared.object.Oid.{Oid};
 ghost use Rattle.bf_history.specs.Meanings.{place_named};
-ghost use Rattle.bf_tables.specs.Named.{LeadEachToItself};
+ghost use Rattle.bf_tables.specs.Named.{LeadEachToItself, with_name};
 
 use bf_oid::Oid;
 use indexmap::IndexSet;
@@ -61,15 +61,16 @@ impl Names {
         Some(place as u32)
     }
 
-    /// Adds a name that is not there, at the next place. After an error all is as before.
-    pub fn push(&mut self, name: Oid) -> Result<(), AllocError>
-        requires new { place_named self.old name ≡ None }
+    /// Adds a name at the next place, and tells whether it was new: one that is there already stays
+    /// at its place. After an error all is as before.
+    pub fn push(&mut self, name: Oid) -> Result<bool, AllocError>
         requires room { length self.old < 4294967295 }
-        ensures ok { OnOk result (self.new ≡ self.old ++ name ∷ []) }
+        ensures added { IfOk result (λ added. added ≡ is_none (place_named self.old name)) }
+        ensures ok { OnOk result (self.new ≡ with_name self.old name) }
         ensures err { OnErr result (self.new ≡ self.old) }
     {
-        self.set.insert(name)?;
-        Ok(())
+        let added = self.set.insert(name)?;
+        Ok(added)
     }
 
     /// Leaves the first names, so many at most.

@@ -21,15 +21,14 @@ fn listing(alloc: Global, refs: &Refs) -> Result<Bytes, AllocError> {
 
 /// The place of a name, which is added where it is not there.
 fn place_of(names: &mut Names, name: Oid) -> Result<u32, AllocError> {
-    if let Some(place) = names.place_of(name) {
-        return Ok(place);
-    }
     let place = names.len();
     if place == u32::MAX {
         return Err(AllocError);
     }
-    names.push(name)?;
-    Ok(place)
+    if names.push(name)? {
+        return Ok(place);
+    }
+    names.place_of(name).ok_or(AllocError)
 }
 
 #[test]

@@ -1,12 +1,11 @@
-use Rattle.std.proofs.Common.{◌≡◌, ℕ, ◌≤◌, List, length, subst, sym, ◌∙◌}
+use Rattle.std.proofs.Common.{◌≡◌, ℕ, IfOk, subst}
 use Rattle.bf_forest.specs.Trees.{files_at}
 use Rattle.bf_grammar.specs.declared.fault.Limits.{Limits}
 use Rattle.bf_history.specs.Bodies.{subject_of}
 use Rattle.bf_history.specs.Imports.{Means}
-use Rattle.bf_oid.specs.declared.object.Oid.{Oid}
-use Rattle.bf_import.specs.Growing.{commit_from, edited_files, joined, with_new, within_commits}
+use Rattle.bf_import.specs.Growing.{commit_from, edited_files, joined, with_named, within_commits}
 use Rattle.bf_history.proofs.Meant.{means_at_exit, means_same}
-use Rattle.bf_import.proofs.Standing.{trees_refused, stands_there, stands_at, stands_new, stands_last, ok_weaker}
+use Rattle.bf_import.proofs.Standing.{trees_refused, stands, stands_at}
 use Rattle.bf_import.proofs.growth.Growth.commit.Goals as goal
 
 pub returns-in_err-tree-clause-history : goal.returns-in_err-tree-clause-history
@@ -19,49 +18,28 @@ returns-in_err-tree-clause-history c =
     (trees_refused limits history c.args.parents.now (edited_files history c.args.first c.args.edits.now) c.args.header.now (λ (number : ℕ). after)
     (λ (place : ℕ). after) c.in_err-tree.field-0.0 c.in_err-tree.ensures.pool)
 
-pub returns-in-Some-clause-history : goal.returns-in-Some-clause-history
-returns-in-Some-clause-history c =
+pub returns-clause-history : goal.returns-clause-history
+returns-clause-history c =
     let history = c.args.self.now.history in
-    stands_there c.args.self.now.limits history c.args.parents.now (edited_files history c.args.first c.args.edits.now) c.args.header.now
+    let after = λ (_ : ℕ). c.add_named_commit.new.self.history in
+    means_same after c.add_named_commit.result _ _
+    (stands c.args.self.now.limits history c.args.parents.now (edited_files history c.args.first c.args.edits.now) c.args.header.now
     c.edited_tree.new.self.history c.in_ok-tree.ensures.pool c.in_ok-tree.tree c.in_ok-tree.ensures.files
-    c.tree_name.result c.tree_name.ensures c.names.result.now c.names.ensures.names c.in_ok-name.name c.in_ok-name.ensures.oid
-    c.in-Some.place (sym c.place_named.ensures.value ∙ c.in-Some.is)
-    (subst (λ (names : List Oid). length names ≤ c.args.self.now.limits.commits) c.names.ensures.names
-    (subst (λ (limits : Limits). length c.names.result.now ≤ limits.commits) c.in_ok-tree.ensures.limits c.names.ensures.few))
-
-pub returns-in-Some-clause-place : goal.returns-in-Some-clause-place
-returns-in-Some-clause-place c =
-    let history = c.args.self.now.history in
-    stands_at c.args.self.now.limits history c.args.parents.now (edited_files history c.args.first c.args.edits.now) c.args.header.now
-    c.edited_tree.new.self.history c.in_ok-tree.ensures.pool c.in_ok-tree.tree c.in_ok-tree.ensures.files
-    c.tree_name.result c.tree_name.ensures c.names.result.now c.names.ensures.names c.in_ok-name.name c.in_ok-name.ensures.oid
-    c.in-Some.place (sym c.place_named.ensures.value ∙ c.in-Some.is)
-
-pub returns-in-None-clause-history : goal.returns-in-None-clause-history
-returns-in-None-clause-history c =
-    let history = c.args.self.now.history in
-    let after = λ (_ : ℕ). c.add_new.new.self.history in
-    means_same after c.add_new.result _ _
-    (stands_new c.args.self.now.limits history c.args.parents.now (edited_files history c.args.first c.args.edits.now) c.args.header.now
-    c.edited_tree.new.self.history c.in_ok-tree.ensures.pool c.in_ok-tree.tree c.in_ok-tree.ensures.files
-    c.tree_name.result c.tree_name.ensures c.names.result.now c.names.ensures.names c.in_ok-name.name c.in_ok-name.ensures.oid
-    (sym c.place_named.ensures.value ∙ c.in-None.is))
-    (subst (λ (limits : Limits). Means after c.add_new.result (within_commits limits.commits (with_new c.edited_tree.new.self.history (record {
+    c.tree_name.result c.tree_name.ensures c.names.result.now c.names.ensures.names c.in_ok-name.name c.in_ok-name.ensures.oid)
+    (subst (λ (limits : Limits). Means after c.add_named_commit.result (within_commits limits.commits (with_named c.edited_tree.new.self.history (record {
       parents = c.args.parents.now;
       files = files_at c.edited_tree.new.self.history.directories c.in_ok-tree.tree;
       subject = subject_of
           c.args.header.now.message;
       name = c.in_ok-name.name;
     }))))
-    c.in_ok-tree.ensures.limits c.add_new.ensures.history)
+    c.in_ok-tree.ensures.limits c.add_named_commit.ensures.history)
 
-pub returns-in-None-clause-place : goal.returns-in-None-clause-place
-returns-in-None-clause-place c =
+pub returns-clause-place : goal.returns-clause-place
+returns-clause-place c =
     let history = c.args.self.now.history in
-    ok_weaker c.add_new.result
-    (λ (place : ℕ) (last : place ≡ _).
-    stands_last c.args.self.now.limits history c.args.parents.now (edited_files history c.args.first c.args.edits.now) c.args.header.now
+    subst (λ (at : ℕ). IfOk c.add_named_commit.result (λ place. place ≡ at))
+    (stands_at c.args.self.now.limits history c.args.parents.now (edited_files history c.args.first c.args.edits.now) c.args.header.now
     c.edited_tree.new.self.history c.in_ok-tree.ensures.pool c.in_ok-tree.tree c.in_ok-tree.ensures.files
-    c.tree_name.result c.tree_name.ensures c.names.result.now c.names.ensures.names c.in_ok-name.name c.in_ok-name.ensures.oid
-    (sym c.place_named.ensures.value ∙ c.in-None.is) place last)
-    c.add_new.ensures.place
+    c.tree_name.result c.tree_name.ensures c.names.result.now c.names.ensures.names c.in_ok-name.name c.in_ok-name.ensures.oid)
+    c.add_named_commit.ensures.place
