@@ -90,8 +90,8 @@ fn test(
 ) -> Result<Turn, AllocError>
     requires { place < state.old.len }
     ensures session { OnOk result (IsSameSession state.old state.new) }
-    ensures rest { IfOk result
-        (IsPartMade (step_over plan.now state.old (Ask.Test place)) entries.old entries.new state.new) }
+    ensures rest { let step = step_over plan.now state.old (Ask.Test place) in
+        IfOk result (IsPartMade step entries.old entries.new state.new) }
     ensures entries { OnOk result (AllWithinMore state.old.len entries.old entries.new) }
     ensures turn { IfOk result (IsTurnWithin state.old.len) }
 {

@@ -7,7 +7,7 @@ mod subject;
 
 pub use body::commit_name;
 pub use edits::edits_of;
-pub use subject::subject_of;
+pub use subject::into_subject;
 
 #[cfg(test)]
 mod tests;

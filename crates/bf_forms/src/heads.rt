@@ -1,5 +1,5 @@
 //! The first lines of commands, and refs.
-ghost use Rattle.std.specs.Prelude.{◌≡◌};
+ghost use Rattle.std.specs.Prelude.{◌≡◌, ◌&&◌, not};
 ghost use Rattle.std.specs.List.{list_all};
 ghost use Rattle.bf_grammar.specs.Forms as forms;
 ghost use Rattle.bf_forms.specs.Answers.{IsOfText};
@@ -13,33 +13,31 @@ use bf_grammar::StreamFault;
 pub fn is_ref(text: &[u8]) -> bool
     ensures { result ≡ forms.is_ref text.now }
 {
-    !text.is_empty() && has_ref_bytes(text) && !has_two_dots(text)
+    !text.is_empty() && has_form_of_ref(text)
 }
 
-fn has_ref_bytes(text: &[u8]) -> bool
-    ensures { result ≡ list_all forms.is_ref_byte text.now }
+/// Whether all bytes may stand in a ref, and no dot stands behind another.
+#[tactic(auto, using(crate::proofs::Dots::never_with_dots))]
+fn has_form_of_ref(text: &[u8]) -> bool
+    ensures { result ≡ (list_all forms.is_ref_byte text.now && not (forms.has_two_dots text.now)) }
 {
-    text.iter().all(|byte| is_ref_byte(*byte))
+    let mut rest = text;
+    while let [byte, behind @ ..] = rest {
+        if !is_ref_byte(*byte) {
+            return false;
+        }
+        if rest.starts_with(b"..") {
+            return false;
+        }
+        rest = behind;
+    }
+    true
 }
 
 fn is_ref_byte(byte: u8) -> bool
     ensures { result ≡ forms.is_ref_byte byte }
 {
     byte > b' ' && !matches!(byte, 127 | b'\\' | b'~' | b'^' | b':' | b'?' | b'*' | b'[')
-}
-
-fn has_two_dots(text: &[u8]) -> bool
-    ensures { result ≡ forms.has_two_dots text.now }
-{
-    let mut after_dot = false;
-    for byte in text {
-        let is_dot = *byte == b'.';
-        if is_dot && after_dot {
-            return true;
-        }
-        after_dot = is_dot;
-    }
-    false
 }
 
 /// The first line of a command as it is read, with the ref or the name in it.

@@ -7,7 +7,7 @@ ghost use Rattle.bf_history.specs.Meanings.{place_named, place_of_commit};
 ghost use Rattle.bf_import.specs.Growing.{HasPlace, commit_from, edited_files, joined, refusal_of, with_edits, with_named, within_commits, within_entries};
 
 use crate::growth::Growth;
-use bf_commits::{commit_name, subject_of};
+use bf_commits::{commit_name, into_subject};
 use bf_forest::{Edit, ForestFault};
 use bf_grammar::{Header, Limit};
 use bf_history::ImportFault;
@@ -23,23 +23,23 @@ impl Growth {
         first: Option<u32>,
         parents: &[u32],
         edits: &[Edit],
-        header: &Header,
+        header: Header,
     ) -> Result<u32, ImportFault>
         requires first { IfSome first (HasPlace self.old.history) }
         requires parents { All (HasPlace self.old.history) parents.now }
         ensures history { let history = self.old.history in
-            let commit = commit_from history first parents.now edits.now header.now in
+            let commit = commit_from history first parents.now edits.now header in
             Means (λ _. self.new.history) result (joined self.old.limits history commit) }
         ensures place { let history = self.old.history in
-            let commit = commit_from history first parents.now edits.now header.now in
+            let commit = commit_from history first parents.now edits.now header in
             IfOk result (λ place. place ≡ place_of_commit history commit) }
         ensures there { IfOk result (HasPlace self.new.history) }
         ensures kept { length self.old.history.parents ≤ length self.new.history.parents }
         ensures limits { self.new.limits ≡ self.old.limits }
     {
         let tree = self.edited_tree(first, edits)?;
-        let name = commit_name(self.tree_name(tree), parents, self.names(), header)?;
-        self.add_named_commit(parents, tree, &header.message, name)
+        let name = commit_name(self.tree_name(tree), parents, self.names(), &header)?;
+        self.add_named_commit(parents, tree, header.message, name)
     }
 
     /// The number of the tree of a commit, which joins the pool of trees, where that is within its limit.
@@ -66,7 +66,7 @@ impl Growth {
         &mut self,
         parents: &[u32],
         tree: u32,
-        message: &Bytes,
+        message: Bytes,
         name: Oid,
     ) -> Result<u32, ImportFault>
         requires parents { All (HasPlace self.old.history) parents.now }
@@ -75,7 +75,7 @@ impl Growth {
             let grown = with_named history (record {
               parents = parents.now;
               files = files_at history.directories tree;
-              subject = subject_of message.now;
+              subject = subject_of message;
               name = name;
             }) in
             let most = self.old.limits.commits in
@@ -92,8 +92,7 @@ impl Growth {
                 what: Limit::Commits,
             });
         }
-        let subject = Bytes::from_slice(message.allocator(), subject_of(message.as_slice()))?;
-        if self.add(parents, tree, subject, name)? {
+        if self.add(parents, tree, into_subject(message)?, name)? {
             return Ok(place);
         }
         Ok(self.place_named(name).unwrap())

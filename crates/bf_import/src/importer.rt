@@ -91,7 +91,8 @@ impl Importer {
 
     fn take_blob(&mut self, mark: Option<u64>, content: &[u8]) -> Result<(), ImportFault>
         ensures loading { let blob = marked.Blob (record { 0 = name_of kind.Blob content.now }) in
-            let meant = record self.old.loading { marks = with_mark mark blob self.old.loading.marks } in
+            let loading = self.old.loading in
+            let meant = record loading { marks = with_mark mark blob loading.marks } in
             Leaves self.new result (Ok meant) }
         ensures limits { OnOk result (self.new.limits ≡ self.old.limits) }
     {
@@ -115,7 +116,7 @@ impl Importer {
         let first = self.first_parent(&branch, from)?;
         let parents = self.parents(first, merges.as_slice())?;
         let edits = self.edits(changes.as_slice())?;
-        let place = self.add_commit(first, parents.as_slice(), edits.as_slice(), &header)?;
+        let place = self.add_commit(first, parents.as_slice(), edits.as_slice(), header)?;
         self.set_ref(branch, place)?;
         self.set_mark(mark, Marked::Commit(place))?;
         Ok(())
@@ -134,15 +135,15 @@ impl Importer {
         first: Option<u32>,
         parents: &[u32],
         edits: &[Edit],
-        header: &Header,
+        header: Header,
     ) -> Result<u32, ImportFault>
         requires first { IfSome first (HasPlace self.old.loading.history) }
         requires parents { All (HasPlace self.old.loading.history) parents.now }
         ensures history { let history = self.old.loading.history in
-            let commit = commit_from history first parents.now edits.now header.now in
+            let commit = commit_from history first parents.now edits.now header in
             Means (λ _. self.new.loading.history) result (joined self.old.limits history commit) }
         ensures place { let history = self.old.loading.history in
-            let commit = commit_from history first parents.now edits.now header.now in
+            let commit = commit_from history first parents.now edits.now header in
             IfOk result (λ place. place ≡ place_of_commit history commit) }
         ensures there { IfOk result (HasPlace self.new.loading.history) }
         ensures marks { self.new.loading.marks ≡ self.old.loading.marks }

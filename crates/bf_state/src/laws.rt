@@ -29,7 +29,8 @@ pub fn longer_tables_go_on()
 pub fn longer_tables_end_alike()
     ensures { (graph : List (List ℕ)) (s : Search) (known more : Outcomes) (k : ℕ) →
         IsPartOf known more →
-        is_open (one_at_a_time graph s known k).end ≡ false → one_at_a_time graph s more k ≡ one_at_a_time graph s known k }
+        is_open (one_at_a_time graph s known k).end ≡ false →
+        one_at_a_time graph s more k ≡ one_at_a_time graph s known k }
 {}
 
 /// A run that ended with its leg, or for want of an outcome, goes on from the state that it reached: both
@@ -38,8 +39,9 @@ pub fn runs_go_on()
     ensures { (graph : List (List ℕ)) (s : Search) (known more : Outcomes) (k : ℕ) →
         IsGraph graph → IsSearchOver graph s → IsPartOf known more →
         is_unfinished (one_at_a_time graph s known k).end ≡ true →
+        let first = one_at_a_time graph s known k in
         one_at_a_time graph s more 0
-        ≡ in_sequence (one_at_a_time graph s known k) (one_at_a_time graph (one_at_a_time graph s known k).search more 0) }
+        ≡ in_sequence first (one_at_a_time graph first.search more 0) }
 {}
 
 /// A candidate is left after exactly one of the two guesses at the outcome of the place that is asked.
