@@ -4,19 +4,17 @@ use bf_io::{Bytes, Word};
 use std::alloc::{AllocError, Global};
 use std::test::Fail;
 
-// The words of a text, with SP between them.
+// Adds the words of a text, with SP between them.
+fn push_words(alloc: Global, text: &[u8], words: &mut Vec<Word>) -> Result<(), AllocError> {
+    for word in text.split(|letter| *letter == b' ') {
+        words.push(Bytes::from_slice(alloc, word)?)?;
+    }
+    Ok(())
+}
+
 fn split(alloc: Global, text: &[u8]) -> Result<Vec<Word>, AllocError> {
     let mut words = Vec::new(alloc);
-    let mut word = Bytes::new(alloc);
-    for letter in text {
-        if *letter == b' ' {
-            words.push(word)?;
-            word = Bytes::new(alloc);
-        } else {
-            word.push(*letter)?;
-        }
-    }
-    words.push(word)?;
+    push_words(alloc, text, &mut words)?;
     Ok(words)
 }
 
@@ -29,8 +27,14 @@ fn fault(alloc: Global, text: &[u8]) -> Result<Option<u32>, AllocError> {
     }
 }
 
+type Line = (&'static [u8], Option<u32>);
+
+fn lines() -> &'static [Line] {
+    &LINES
+}
+
 // Lines, each with its word at fault.
-const LINES: [(&[u8], Option<u32>); 40] = [
+static LINES: [Line; 40] = [
     (b"", Some(0)),
     (b"bisect main a g", Some(0)),
     (b"simulate", Some(1)),
@@ -78,7 +82,7 @@ const LINES: [(&[u8], Option<u32>); 40] = [
 
 #[test]
 fn faults_of_lines(rt: HostRuntime) -> Result<(), Fail> {
-    for (text, word) in LINES {
+    for &(text, word) in lines() {
         assert_eq!(rt; fault(rt.alloc(), text)?, word, "{text:?}");
     }
     Ok(())
