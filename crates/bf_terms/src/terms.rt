@@ -121,28 +121,42 @@ impl Terms {
 #[cfg(test)]
 mod tests {
     use super::*;
+    use std::process::Abort;
     use std::test::Fail;
 
+    // Why two words are no terms.
+    fn fault(alloc: Global, new: &[u8], old: &[u8]) -> Option<TermFault> {
+        match Terms::read(alloc, new, old) {
+            Ok(_) => None,
+            Err(fault) => Some(fault),
+        }
+    }
+
     #[test]
-    fn terms_are_read_in_order(rt: HostRuntime) -> Result<(), Fail> {
-        assert!(rt;
-            matches!(
-                Terms::read(rt.alloc(), b"good", b"broken"),
-                Err(TermFault::New)
-            )
-        );
-        assert!(rt;
-            matches!(
-                Terms::read(rt.alloc(), b"fixed", b"new"),
-                Err(TermFault::Old)
-            )
-        );
-        assert!(rt; matches!(Terms::read(rt.alloc(), b"x", b"x"), Err(TermFault::Same)));
-        assert!(rt; matches!(Terms::read(rt.alloc(), b"-x", b"y"), Err(TermFault::New)));
-        assert!(rt; matches!(Terms::read(rt.alloc(), b"x", b"terms"), Err(TermFault::Old)));
-        let terms = Terms::read(rt.alloc(), b"fixed", b"broken")?;
+    fn terms_are_read_in_order(rt: HostRuntime) {
+        let alloc = rt.alloc();
+        assert_eq!(rt; fault(alloc, b"good", b"broken"), Some(TermFault::New));
+        assert_eq!(rt; fault(alloc, b"fixed", b"new"), Some(TermFault::Old));
+        assert_eq!(rt; fault(alloc, b"x", b"x"), Some(TermFault::Same));
+        assert_eq!(rt; fault(alloc, b"-x", b"y"), Some(TermFault::New));
+        assert_eq!(rt; fault(alloc, b"x", b"terms"), Some(TermFault::Old));
+    }
+
+    fn have_their_words(rt: &impl Abort, terms: &Terms) -> Result<(), AllocError> {
         assert_eq!(rt; terms.new_term(), b"fixed".as_slice());
         assert_eq!(rt; terms.try_clone()?.old_term(), b"broken".as_slice());
+        Ok(())
+    }
+
+    #[test]
+    fn terms_have_their_words(rt: HostRuntime) -> Result<(), Fail> {
+        let terms = Terms::read(rt.alloc(), b"fixed", b"broken")?;
+        have_their_words(&rt, &terms)?;
+        Ok(())
+    }
+
+    #[test]
+    fn standard_terms_have_theirs(rt: HostRuntime) -> Result<(), Fail> {
         assert_eq!(rt; Terms::standard(rt.alloc())?.old_term(), b"good".as_slice());
         Ok(())
     }
