@@ -1,12 +1,16 @@
 //! Names that git gives commits, their subjects, and the edits of changes.
+ghost use Rattle.std.specs.Prelude.{◌<◌, length, All};
+
 use crate::*;
 use bf_forest::Edit;
 use bf_grammar::{Change, Changes, DataRef, Header};
 use bf_history::{ImportFault, Marked};
 use bf_io::Bytes;
 use bf_oid::{Kind, Mode, Oid, object_name, oid_from_hex, oid_hex};
+use bf_paths::Path;
 use bf_tables::Marks;
 use std::alloc::{AllocError, Global};
+use std::process::Abort;
 use std::test::Fail;
 
 fn hex(oid: Oid) -> [u8; 40] {
@@ -15,19 +19,21 @@ fn hex(oid: Oid) -> [u8; 40] {
     text
 }
 
-/// What a commit says.
-fn header(
-    alloc: Global,
-    author: Option<&[u8]>,
-    committer: &[u8],
-    encoding: Option<&[u8]>,
-    message: &[u8],
-) -> Result<Header, AllocError> {
+/// What a commit says, as texts.
+#[derive(Clone, Copy)]
+struct Texts<'a> {
+    author: Option<&'a [u8]>,
+    committer: &'a [u8],
+    encoding: Option<&'a [u8]>,
+    message: &'a [u8],
+}
+
+fn header(alloc: Global, texts: &Texts<'_>) -> Result<Header, AllocError> {
     Ok(Header {
-        author: part(alloc, author)?,
-        committer: Bytes::from_slice(alloc, committer)?,
-        encoding: part(alloc, encoding)?,
-        message: Bytes::from_slice(alloc, message)?,
+        author: part(alloc, texts.author)?,
+        committer: Bytes::from_slice(alloc, texts.committer)?,
+        encoding: part(alloc, texts.encoding)?,
+        message: Bytes::from_slice(alloc, texts.message)?,
     })
 }
 
@@ -38,45 +44,78 @@ fn part(alloc: Global, text: Option<&[u8]>) -> Result<Option<Bytes>, AllocError>
     }
 }
 
-#[test]
-fn commits_have_the_names_of_git(rt: HostRuntime) -> Result<(), Fail> {
-    let alloc = rt.alloc();
-    let empty = object_name(Kind::Tree, b"");
+/// The name of a commit of this tree, whose parents are places among names.
+fn named(
+    alloc: Global,
+    tree: Oid,
+    parents: (&[u32], &[Oid]),
+    texts: &Texts<'_>,
+) -> Result<Oid, AllocError>
+    requires { All (λ place. place < length parents.1.now) parents.0.now }
+{
+    commit_name(tree, parents.0, parents.1, &header(alloc, texts)?)
+}
+
+/// Asserts that a name is written so.
+fn is_written(rt: &impl Abort, name: Oid, text: &[u8]) {
+    assert_eq!(rt; hex(name).as_slice(), text);
+}
+
+/// The names of a root and of a commit that comes from it.
+fn first_names(rt: &impl Abort, alloc: Global, tree: Oid) -> Result<[Oid; 2], AllocError> {
+    let alone = Texts {
+        author: None,
+        committer: b"T <t@e> 0 +0000",
+        encoding: None,
+        message: b"c0",
+    };
+    let with_author = Texts {
+        author: Some(b"A <a@e> 1 +0000"),
+        committer: b"T <t@e> 2 +0100",
+        encoding: None,
+        message: b"second\n\nbody\n",
+    };
+    let first = named(alloc, tree, (&[], &[]), &alone)?;
+    let second = named(alloc, tree, (&[0], &[first]), &with_author)?;
+    is_written(rt, first, b"56b29d9c130e2ec4b506a48d4fe5a18d92d8d1e3");
+    is_written(rt, second, b"5ad05c58e436ce810be1299b11a09d495189cd96");
+    Ok([first, second])
+}
+
+/// Merges of the commits with these names.
+fn merges_have_names(
+    rt: &impl Abort,
+    alloc: Global,
+    names: &[Oid; 2],
+    empty: Oid,
+) -> Result<(), AllocError> {
     let with_a_file = oid_from_hex(b"aebda9dc3ba9fcf157d984e4875052d313f51a60").unwrap_or(Oid(
         [0; 20],
     ));
-    let author: [Option<&[u8]>; 2] = [Some(b"A <a@e> 1 +0000"), Some(b"A <a@e> 4 -0230")];
-    let latin: Option<&[u8]> = Some(b"iso-8859-1");
-    let alone = header(alloc, None, b"T <t@e> 0 +0000", None, b"c0")?;
-    let with_author = header(
-        alloc,
-        author[0],
-        b"T <t@e> 2 +0100",
-        None,
-        b"second\n\nbody\n",
-    )?;
-    let without_message = header(alloc, None, b"T <t@e> 3 +0000", latin, b"")?;
-    let with_all = header(
-        alloc,
-        author[1],
-        b"T <t@e> 5 +0000",
-        latin,
-        b"\n\ncaf\xe9\nbody",
-    )?;
-    let first = commit_name(empty, &[], &[], &alone)?;
-    let second = commit_name(empty, &[0], &[first], &with_author)?;
-    let names = [first, second];
-    let third = commit_name(with_a_file, &[0, 1], &names, &with_all)?;
-    let fourth = commit_name(empty, &[1, 0, 0], &names, &without_message)?;
-    let table: [(Oid, &[u8]); 4] = [
-        (first, b"56b29d9c130e2ec4b506a48d4fe5a18d92d8d1e3"),
-        (second, b"5ad05c58e436ce810be1299b11a09d495189cd96"),
-        (third, b"518083ea711e1d89df20a84cb9776b0f9ef4eead"),
-        (fourth, b"30a452e60c5bafad94008e7ace41d9dc3314d9ef"),
-    ];
-    for (name, text) in table {
-        assert_eq!(rt; hex(name).as_slice(), text);
-    }
+    let with_all = Texts {
+        author: Some(b"A <a@e> 4 -0230"),
+        committer: b"T <t@e> 5 +0000",
+        encoding: Some(b"iso-8859-1"),
+        message: b"\n\ncaf\xe9\nbody",
+    };
+    let without_message = Texts {
+        author: None,
+        committer: b"T <t@e> 3 +0000",
+        encoding: Some(b"iso-8859-1"),
+        message: b"",
+    };
+    let third = named(alloc, with_a_file, (&[0, 1], names), &with_all)?;
+    let fourth = named(alloc, empty, (&[1, 0, 0], names), &without_message)?;
+    is_written(rt, third, b"518083ea711e1d89df20a84cb9776b0f9ef4eead");
+    is_written(rt, fourth, b"30a452e60c5bafad94008e7ace41d9dc3314d9ef");
+    Ok(())
+}
+
+#[test]
+fn commits_have_the_names_of_git(rt: HostRuntime) -> Result<(), Fail> {
+    let empty = object_name(Kind::Tree, b"");
+    let names = first_names(&rt, rt.alloc(), empty)?;
+    merges_have_names(&rt, rt.alloc(), &names, empty)?;
     Ok(())
 }
 
@@ -95,22 +134,28 @@ fn subjects_are_the_first_lines_with_a_byte(rt: HostRuntime) {
     }
 }
 
+fn set_some(marks: &mut Marks) -> Result<(), AllocError> {
+    marks.set(1, Marked::Blob(object_name(Kind::Blob, b"hello\n")))?;
+    marks.set(2, Marked::Commit(0))?;
+    marks.set(3, Marked::Tag)
+}
+
 /// The marks of a blob, a commit and a tag.
 fn marks(alloc: Global) -> Result<Marks, AllocError> {
     let mut marks = Marks::new(alloc);
-    marks.set(1, Marked::Blob(object_name(Kind::Blob, b"hello\n")))?;
-    marks.set(2, Marked::Commit(0))?;
-    marks.set(3, Marked::Tag)?;
+    set_some(&mut marks)?;
     Ok(marks)
 }
 
 /// Adds a change that sets a file.
 fn push_file(
+    alloc: Global,
     changes: &mut Changes,
     mode: Mode,
     dataref: DataRef,
-    path: Bytes,
+    path: &[u8],
 ) -> Result<(), AllocError> {
+    let path = Bytes::from_slice(alloc, path)?;
     changes.push(Change::Modify {
         line: 7,
         mode,
@@ -119,64 +164,67 @@ fn push_file(
     })
 }
 
+fn word_of(mode: Mode) -> &'static [u8] {
+    match mode {
+        Mode::Plain => b"plain ",
+        Mode::Exec => b"exec ",
+        Mode::Link => b"link ",
+        Mode::Module => b"module ",
+    }
+}
+
+fn put_path(out: &mut Bytes, path: &Path) -> Result<(), AllocError> {
+    out.append(path.to_bytes()?.as_slice())
+}
+
 /// Adds what an edit does, as a line.
 fn put_edit(out: &mut Bytes, edit: &Edit) -> Result<(), AllocError> {
     match edit {
         Edit::Set { path, mode, oid } => {
-            out.append(match mode {
-                Mode::Plain => b"plain ",
-                Mode::Exec => b"exec ",
-                Mode::Link => b"link ",
-                Mode::Module => b"module ",
-            })?;
+            out.append(word_of(*mode))?;
             out.append(&hex(*oid))?;
             out.append(b" ")?;
-            out.append(path.to_bytes()?.as_slice())?;
+            put_path(out, path)?;
         }
         Edit::Remove { path } => {
             out.append(b"remove ")?;
-            out.append(path.to_bytes()?.as_slice())?;
+            put_path(out, path)?;
         }
         Edit::Clear => out.append(b"clear")?,
     }
     out.append(b"\n")
 }
 
-/// Removals, and files with each kind of content.
-fn some_changes(alloc: Global) -> Result<Changes, AllocError> {
-    let inline = Bytes::from_slice(alloc, b"x")?;
-    let plain = Bytes::from_slice(alloc, b"a")?;
-    let quoted = Bytes::from_slice(alloc, b"\"b\\tc\"")?;
-    let deep = Bytes::from_slice(alloc, b"lib/d")?;
-    let removed = Bytes::from_slice(alloc, b"a")?;
-    let mut changes = Changes::new(alloc);
+/// Adds removals, and files with each kind of content.
+fn push_some(alloc: Global, changes: &mut Changes) -> Result<(), AllocError> {
     changes.push(Change::DeleteAll { line: 4 })?;
-    push_file(&mut changes, Mode::Plain, DataRef::Mark(1), plain)?;
-    push_file(&mut changes, Mode::Exec, DataRef::Inline(inline), quoted)?;
-    push_file(
-        &mut changes,
-        Mode::Module,
-        DataRef::Name(Oid([0x2a; 20])),
-        deep,
-    )?;
-    changes.push(Change::Delete {
-        line: 9,
-        path: removed,
-    })?;
-    Ok(changes)
+    push_file(alloc, changes, Mode::Plain, DataRef::Mark(1), b"a")?;
+    let inline = DataRef::Inline(Bytes::from_slice(alloc, b"x")?);
+    push_file(alloc, changes, Mode::Exec, inline, b"\"b\\tc\"")?;
+    let module = DataRef::Name(Oid([0x2a; 20]));
+    push_file(alloc, changes, Mode::Module, module, b"lib/d")?;
+    let path = Bytes::from_slice(alloc, b"a")?;
+    changes.push(Change::Delete { line: 9, path })
 }
 
-#[test]
-fn changes_become_edits_in_order(rt: HostRuntime) -> Result<(), Fail> {
-    let alloc = rt.alloc();
-    let marks = marks(alloc)?;
-    let changes = some_changes(alloc)?;
+/// What edits do, each on its line.
+fn listing(alloc: Global, edits: &[Edit]) -> Result<Bytes, AllocError> {
     let mut text = Bytes::new(alloc);
-    for edit in edits_of(alloc, &marks, changes.as_slice())? {
-        put_edit(&mut text, &edit)?;
+    for edit in edits {
+        put_edit(&mut text, edit)?;
     }
+    Ok(text)
+}
+
+fn become_edits(
+    rt: &impl Abort,
+    alloc: Global,
+    marks: &Marks,
+    changes: &Changes,
+) -> Result<(), Fail> {
+    let edits = edits_of(alloc, marks, changes.as_slice())?;
     assert_eq!(rt;
-        text.as_slice(),
+        listing(alloc, edits.as_slice())?.as_slice(),
         b"clear
 plain ce013625030ba8dba906f756967f9e9ca394464a a
 exec c1b0730e0133447badcfd47fd144e254807b06e1 b\tc
@@ -188,23 +236,28 @@ remove a
     Ok(())
 }
 
+#[test]
+fn changes_become_edits_in_order(rt: HostRuntime) -> Result<(), Fail> {
+    let marks = marks(rt.alloc())?;
+    let mut changes = Changes::new(rt.alloc());
+    push_some(rt.alloc(), &mut changes)?;
+    become_edits(&rt, rt.alloc(), &marks, &changes)
+}
+
 /// The fault of a change that sets a file, if it has one.
 fn fault_of(
     alloc: Global,
+    marks: &Marks,
     mode: Mode,
     dataref: DataRef,
     path: &[u8],
 ) -> Result<Option<ImportFault>, AllocError> {
-    let path = Bytes::from_slice(alloc, path)?;
-    let marks = marks(alloc)?;
     let mut changes = Changes::new(alloc);
-    push_file(&mut changes, mode, dataref, path)?;
-    Ok(edits_of(alloc, &marks, changes.as_slice()).err())
+    push_file(alloc, &mut changes, mode, dataref, path)?;
+    Ok(edits_of(alloc, marks, changes.as_slice()).err())
 }
 
-#[test]
-fn contents_are_refused_before_paths(rt: HostRuntime) -> Result<(), Fail> {
-    let alloc = rt.alloc();
+fn are_refused(rt: &impl Abort, alloc: Global, marks: &Marks) -> Result<(), AllocError> {
     let bad_mark = Some(ImportFault::BadMark { line: 7 });
     let bad_path = Some(ImportFault::BadPath { line: 7 });
     let table: [(Mode, u64, &[u8], Option<ImportFault>); 6] = [
@@ -216,9 +269,20 @@ fn contents_are_refused_before_paths(rt: HostRuntime) -> Result<(), Fail> {
         (Mode::Module, 1, b"a", bad_mark),
     ];
     for (mode, mark, path, fault) in table {
-        assert_eq!(rt; fault_of(alloc, mode, DataRef::Mark(mark), path)?, fault);
+        let dataref = DataRef::Mark(mark);
+        assert_eq!(rt; fault_of(alloc, marks, mode, dataref, path)?, fault);
     }
     let inline = DataRef::Inline(Bytes::new(alloc));
-    assert_eq!(rt; fault_of(alloc, Mode::Module, inline, b"a")?, bad_mark);
+    assert_eq!(rt;
+        fault_of(alloc, marks, Mode::Module, inline, b"a")?,
+        bad_mark
+    );
+    Ok(())
+}
+
+#[test]
+fn contents_are_refused_before_paths(rt: HostRuntime) -> Result<(), Fail> {
+    let marks = marks(rt.alloc())?;
+    are_refused(&rt, rt.alloc(), &marks)?;
     Ok(())
 }
