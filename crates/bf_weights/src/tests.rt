@@ -6,6 +6,7 @@ use bf_cands::candidates;
 use bf_graph::Graph;
 use bf_reach::Reach;
 use std::alloc::{AllocError, Global};
+use std::process::Abort;
 use std::test::Fail;
 
 fn all_below(places: &[u32], end: u32) -> bool
@@ -51,49 +52,74 @@ fn agreed(
     Ok(found)
 }
 
+/// Asserts the weights of a graph whose first commit is good and whose last is bad.
+fn has_weights(
+    rt: &impl Abort,
+    alloc: Global,
+    parents: &[&[u32]],
+    first_parent: bool,
+    wanted: &[u32],
+) -> Result<(), AllocError> {
+    let graph = graph_of(alloc, parents)?;
+    let bad = graph.len().saturating_sub(1);
+    let found = agreed(alloc, &graph, bad, &[0], first_parent)?;
+    assert_eq!(rt; found.as_slice(), wanted);
+    Ok(())
+}
+
 #[test]
 fn a_diamond(rt: HostRuntime) -> Result<(), Fail> {
-    let graph = graph_of(rt.alloc(), &[&[], &[0], &[0], &[1, 2]])?;
-    let all = agreed(rt.alloc(), &graph, 3, &[0], false)?;
-    assert_eq!(rt; all.as_slice(), [0, 1, 1, 3].as_slice());
-    let first = agreed(rt.alloc(), &graph, 3, &[0], true)?;
-    assert_eq!(rt; first.as_slice(), [0, 1, 0, 2].as_slice());
+    let parents: [&[u32]; 4] = [&[], &[0], &[0], &[1, 2]];
+    has_weights(&rt, rt.alloc(), &parents, false, &[0, 1, 1, 3])?;
+    has_weights(&rt, rt.alloc(), &parents, true, &[0, 1, 0, 2])?;
     Ok(())
 }
 
 #[test]
 fn crossed_and_repeated_parents(rt: HostRuntime) -> Result<(), Fail> {
-    let crossed = graph_of(rt.alloc(), &[&[], &[0], &[0], &[1, 2], &[2, 1], &[3, 4]])?;
-    let found = agreed(rt.alloc(), &crossed, 5, &[0], false)?;
-    assert_eq!(rt; found.as_slice(), [0, 1, 1, 3, 3, 5].as_slice());
-    let repeated = graph_of(rt.alloc(), &[&[], &[0], &[1, 1], &[2, 2, 2]])?;
-    let found = agreed(rt.alloc(), &repeated, 3, &[0], false)?;
-    assert_eq!(rt; found.as_slice(), [0, 1, 2, 3].as_slice());
+    let crossed: [&[u32]; 6] = [&[], &[0], &[0], &[1, 2], &[2, 1], &[3, 4]];
+    has_weights(&rt, rt.alloc(), &crossed, false, &[0, 1, 1, 3, 3, 5])?;
+    let repeated: [&[u32]; 4] = [&[], &[0], &[1, 1], &[2, 2, 2]];
+    has_weights(&rt, rt.alloc(), &repeated, false, &[0, 1, 2, 3])?;
     Ok(())
+}
+
+/// Adds six hundred children of the root, and their merge.
+fn add_children(graph: &mut Graph, children: &mut Vec<u32>) -> Result<(), AllocError> {
+    for place in 1..601 {
+        add(graph, &[0])?;
+        children.push(place)?;
+    }
+    add(graph, children.as_slice())
+}
+
+fn wide_merge(alloc: Global) -> Result<Graph, AllocError> {
+    let mut graph = graph_of(alloc, &[&[]])?;
+    add_children(&mut graph, &mut Vec::new(alloc))?;
+    Ok(graph)
 }
 
 #[test]
 fn a_merge_of_six_hundred(rt: HostRuntime) -> Result<(), Fail> {
-    let mut graph = graph_of(rt.alloc(), &[&[]])?;
-    let mut branches = Vec::new(rt.alloc());
-    for place in 1..601 {
-        add(&mut graph, &[0])?;
-        branches.push(place)?;
-    }
-    add(&mut graph, branches.as_slice())?;
+    let graph = wide_merge(rt.alloc())?;
     let found = agreed(rt.alloc(), &graph, 601, &[0], false)?;
     assert_eq!(rt; found.get(600).copied(), Some(1));
     assert_eq!(rt; found.get(601).copied(), Some(601));
     Ok(())
 }
 
-/// A graph of merges, one parent of each some places back.
-fn merges(alloc: Global, halved: bool) -> Result<Graph, AllocError> {
-    let mut graph = graph_of(alloc, &[&[], &[0]])?;
+/// Adds merges, one parent of each some places back.
+fn add_merges(graph: &mut Graph, halved: bool) -> Result<(), AllocError> {
     for place in 2u32..1_100 {
         let back = if halved { place / 2 } else { place % 3 };
-        add(&mut graph, &[place - 1, place.saturating_sub(back + 1)])?;
+        add(graph, &[place - 1, place.saturating_sub(back + 1)])?;
     }
+    Ok(())
+}
+
+fn merges(alloc: Global, halved: bool) -> Result<Graph, AllocError> {
+    let mut graph = graph_of(alloc, &[&[], &[0]])?;
+    add_merges(&mut graph, halved)?;
     Ok(graph)
 }
 
