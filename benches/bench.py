@@ -57,6 +57,8 @@ TOP = os.path.dirname(os.path.dirname(os.path.abspath(__file__)))
 HAS_GIT = shutil.which("git") is not None
 MAIN, OLD = "refs/heads/main", "refs/heads/old"
 NOTHING_TO_ASK = ["simulate", MAIN, MAIN, ""]
+# a name that means no commit is refused once the stream is read
+NOTHING_BUT_IMPORT = ["next", "no-commit"]
 
 
 class Missing(Exception):
@@ -132,17 +134,17 @@ def import_(bench, commits, files, megabytes):
     for make, size in ((streams.generated, commits), (streams.folder, files), (streams.contents, megabytes)):
         label = f"{make.__name__} {size}"
         count = bench.write(make, size)
-        ours = least(lambda: bench.ask(*NOTHING_TO_ASK))
+        ours = least(lambda: bench.ask(*NOTHING_BUT_IMPORT))
         plain = least(lambda: measure(["sha1sum"], bench.stream))
         print(f"{label}: {count} bytes; farmdawn {ours}; sha1sum of the stream {plain.processor:.2f} s")
         bench.beside_git(label, ours)
     bench.write(streams.mark_far, commits // 2)
-    one_mark = bench.ask(*NOTHING_TO_ASK)
+    one_mark = bench.ask(*NOTHING_BUT_IMPORT)
     bench.write(streams.generated, commits // 2)
-    without = bench.ask(*NOTHING_TO_ASK)
+    without = bench.ask(*NOTHING_BUT_IMPORT)
     print(f"mark 536870911: farmdawn {one_mark}; without it {without}")
     bench.write(streams.generated, 100001)
-    answer = bench.ask(*NOTHING_TO_ASK).output.decode().strip()
+    answer = bench.ask(*NOTHING_BUT_IMPORT).output.decode().strip()
     print(f"100001 commits: {answer}")
     return one_mark.peak < without.peak + 10240 and answer == "too large: commits"
 

@@ -4,8 +4,6 @@
 mod ending;
 mod plan;
 mod run;
-#[cfg(test)]
-mod tests;
 mod turn;
 
 pub use ending::Ending;

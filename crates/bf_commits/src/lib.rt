@@ -8,6 +8,3 @@ mod subject;
 pub use body::commit_name;
 pub use edits::edits_of;
 pub use subject::into_subject;
-
-#[cfg(test)]
-mod tests;

@@ -17,8 +17,3 @@ mod trees;
 pub use edits::Edit;
 pub use entries::FileEntry;
 pub use trees::{Forest, ForestFault};
-
-#[cfg(test)]
-mod tests;
-#[cfg(test)]
-mod tests_plain;

@@ -13,6 +13,3 @@ pub use cuts::{has_word, is_text, text_after};
 pub use heads::{FirstLine, first_line, is_ref};
 pub use idents::ident_of;
 pub use parts::{DataLine, colon_number, data_line, encoding_of, mark_of};
-
-#[cfg(test)]
-mod tests;

@@ -17,6 +17,3 @@ pub use list::List;
 pub use memory::{MemSink, MemSource, PlainSink, PlainSource};
 pub use real::{StdSink, StdSource};
 pub use text::{decimal, put_decimal};
-
-#[cfg(test)]
-mod tests;

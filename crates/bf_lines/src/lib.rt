@@ -13,6 +13,3 @@ mod window;
 
 pub use cursor::Cursor;
 pub use window::Window;
-
-#[cfg(test)]
-mod tests;

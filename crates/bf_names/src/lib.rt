@@ -14,6 +14,3 @@ mod walk;
 pub use fault::NameFault;
 pub use name::resolve;
 pub use range::resolve_range;
-
-#[cfg(test)]
-mod tests;

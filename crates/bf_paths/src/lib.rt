@@ -7,6 +7,3 @@ mod spelling;
 
 pub use parts::{Path, PathFault};
 pub use spelling::{quote, read_path, round_trip};
-
-#[cfg(test)]
-mod tests;

@@ -9,6 +9,3 @@ mod words;
 
 pub use line::{LogFault, LogLine, LogLines, LogWord, Revs};
 pub use read::read_log;
-
-#[cfg(test)]
-mod tests;

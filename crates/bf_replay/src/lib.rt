@@ -8,6 +8,3 @@ mod start;
 
 pub use fault::ReplayFault;
 pub use fold::{Replayed, replay};
-
-#[cfg(test)]
-mod tests;

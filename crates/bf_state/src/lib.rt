@@ -11,6 +11,3 @@ pub use bf_reach::true_places;
 pub use ranked::Ranked;
 pub use state::State;
 pub use weighed::Weighed;
-
-#[cfg(test)]
-mod tests;

@@ -14,8 +14,3 @@ pub use bf_grammar::{
 };
 pub use bf_lines::Window;
 pub use reader::Reader;
-
-#[cfg(test)]
-mod tests;
-#[cfg(test)]
-mod tests_refusals;

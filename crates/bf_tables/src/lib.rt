@@ -11,6 +11,3 @@ mod refs;
 pub use marks::Marks;
 pub use names::Names;
 pub use refs::Refs;
-
-#[cfg(test)]
-mod tests;

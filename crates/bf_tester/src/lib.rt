@@ -11,8 +11,6 @@ mod process;
 mod script;
 mod stop;
 mod tester;
-#[cfg(test)]
-mod tests;
 mod words;
 
 pub use answer::{Answer, TestReply};

@@ -16,6 +16,3 @@ mod weighing;
 
 pub use plain::weights_plain;
 pub use weighing::weights;
-
-#[cfg(test)]
-mod tests;

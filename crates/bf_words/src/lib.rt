@@ -16,6 +16,3 @@ pub use options::{Choice, Form, OptionRow};
 pub use request::{Request, WordFault, read_words};
 pub use role::Role;
 pub use verb::Verb;
-
-#[cfg(test)]
-mod tests;

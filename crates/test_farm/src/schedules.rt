@@ -119,13 +119,27 @@ fn is_claimed(claims: &[Claim], place: u32) -> bool {
     claims.iter().any(|claim| claim.place == place)
 }
 
-/// The same path once more.
-fn twin(path: &Path) -> Result<Path, AllocError>
-    ensures { IfOk result (λ twin. twin.state.len ≡ path.now.state.len) }
+/// The same path once more, which goes on with a mark.
+fn branch(path: &Path, mark: Mark, place: u32) -> Result<Path, AllocError>
+    requires { place < path.now.state.len }
+    ensures { IfOk result (λ branch. branch.state.len ≡ path.now.state.len) }
 {
-    Ok(Path {
+    let mut branch = Path {
         state: path.state.try_clone()?,
         depth: path.depth,
+    };
+    follow(&mut branch, mark, place)?;
+    Ok(branch)
+}
+
+/// A path that asks for a place, as an open one.
+fn opened(reach: &Reach, path: &mut Path, place: u32) -> Result<Open, AllocError>
+    requires { length reach.now ≡ path.old.state.len }
+{
+    Ok(Open {
+        left: path.state.weigh(reach)?.mask.count(),
+        depth: path.depth,
+        place,
     })
 }
 
@@ -148,40 +162,41 @@ fn better(good: Option<Open>, bad: Option<Open>) -> Option<Open> {
 fn best_from(
     reach: &Reach,
     core: &Core,
-    mut path: Path,
+    path: &mut Path,
     guesses: usize,
 ) -> Result<Option<Open>, AllocError>
-    requires reach { length reach.now ≡ path.state.len }
-    requires table { length core.now.table ≡ path.state.len }
+    requires reach { length reach.now ≡ path.old.state.len }
+    requires table { length core.now.table ≡ path.old.state.len }
 {
-    let Some(place) = settle(reach, core.table(), &mut path)? else {
+    let Some(place) = settle(reach, core.table(), path)? else {
         return Ok(None);
     };
     if !is_claimed(core.claims(), place) {
-        return Ok(Some(Open {
-            left: path.state.weigh(reach)?.mask.count(),
-            depth: path.depth,
-            place,
-        }));
+        return Ok(Some(opened(reach, path, place)?));
     }
     if guesses == 0 {
         return Ok(None);
     }
-    let mut other = twin(&path)?;
-    follow(&mut path, Mark::Good, place)?;
-    follow(&mut other, Mark::Bad, place)?;
+    let bad = best_from(
+        reach,
+        core,
+        &mut branch(path, Mark::Bad, place)?,
+        guesses - 1,
+    )?;
+    follow(path, Mark::Good, place)?;
     let good = best_from(reach, core, path, guesses - 1)?;
-    let bad = best_from(reach, core, other, guesses - 1)?;
     Ok(better(good, bad))
 }
 
 /// The place of the best open path.
 fn best_place(rt: &impl Abort, reach: &Reach, core: &Core) -> Result<Option<u32>, AllocError> {
-    let state = core.state().try_clone()?;
-    assert_eq!(rt; state.len(), reach.len());
-    assert_eq!(rt; state.len(), core.table().len());
-    let path = Path { state, depth: 0 };
-    let best = best_from(reach, core, path, core.claims().len())?;
+    assert_eq!(rt; core.state().len(), reach.len());
+    assert_eq!(rt; core.state().len(), core.table().len());
+    let mut path = Path {
+        state: core.state().try_clone()?,
+        depth: 0,
+    };
+    let best = best_from(reach, core, &mut path, core.claims().len())?;
     Ok(best.map(|open| open.place))
 }
 

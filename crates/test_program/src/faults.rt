@@ -3,12 +3,12 @@ ghost use Rattle.std.specs.Prelude.{◌<◌};
 
 use crate::imports::EXPORT;
 use crate::line::{EIGHT, FOUND};
-use crate::program::{run, test, words_of};
+use crate::program::{run, test};
 use bf_io::{Bytes, MemSink, MemSource, PlainSink};
 use bf_program::Status;
 use bf_tester::{ScriptTester, Tester};
 use std::alloc::{AllocError, Global};
-use std::process::{Processes, SystemProcess};
+use std::process::{Abort, Processes, SystemProcess};
 use std::sync::Wait;
 use std::test::Fail;
 use std::thread::Threads;
@@ -63,14 +63,18 @@ where
     Ok((status, out.into_bytes()))
 }
 
+/// Asserts that a stream that ends behind so many bytes is answered, and alike where it comes byte by byte.
+fn are_alike(rt: &impl Abort, len: usize, whole: &(Status, Bytes), split: &(Status, Bytes)) {
+    assert!(rt; [0, 7, 8].contains(&whole.0.number()), "{len} bytes");
+    assert_eq!(rt; whole.0, split.0, "{len} bytes");
+    assert_eq!(rt; whole.1.as_slice(), split.1.as_slice(), "{len} bytes");
+}
+
 #[test]
 fn streams_end_anywhere(rt: HostRuntime) -> Result<(), Fail> {
     for len in 0..EXPORT.len() + 1 {
-        let (status, text) = cut(&rt, len, 65_536)?;
-        assert!(rt; [0, 7, 8].contains(&status.number()), "{len} bytes");
-        let (other, same) = cut(&rt, len, 1)?;
-        assert_eq!(rt; status, other, "{len} bytes");
-        assert_eq!(rt; text.as_slice(), same.as_slice(), "{len} bytes");
+        let whole = cut(&rt, len, 65_536)?;
+        are_alike(&rt, len, &whole, &cut(&rt, len, 1)?);
     }
     Ok(())
 }
@@ -91,11 +95,9 @@ fn answers_are_flushed(rt: HostRuntime) -> Result<(), Fail> {
 #[test]
 fn legs_go_out(rt: HostRuntime) -> Result<(), Fail> {
     let alloc = rt.alloc();
-    let words = words_of(alloc, &LEGS)?;
     let mut tester = ScriptTester::new(alloc, b"ggggbbbb", Vec::new(alloc), None)?;
     let mut out = MemSink::new(alloc, 65_536, [2].to_vec(alloc)?);
-    let stream = Bytes::from_slice(alloc, EIGHT)?;
-    let status = test(&rt, words.as_slice(), stream, &mut tester, &mut out);
+    let status = test(&rt, &LEGS, EIGHT, &mut tester, &mut out)?;
     assert_eq!(rt; status, Status::WriteFault);
     assert!(rt; tester.answer(0).is_some() && tester.answer(1).is_none());
     assert!(rt; FOUND.starts_with(out.bytes()) && out.bytes().len() > 300);

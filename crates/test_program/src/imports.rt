@@ -6,6 +6,7 @@ use bf_import::{History, ImportFault, Limits, import};
 use bf_io::{Bytes, MemSource, put_decimal};
 use bf_oid::{Mode, oid_hex};
 use std::alloc::{AllocError, Global};
+use std::process::Abort;
 use std::test::Fail;
 
 // Imports a stream that comes in pieces.
@@ -31,8 +32,8 @@ fn mode_text(mode: Mode) -> &'static [u8] {
     }
 }
 
-// The name of a commit, that of its tree, the places of its parents and its subject; then its files.
-fn put_commit(out: &mut Bytes, history: &History, place: u32) -> Result<(), AllocError>
+// The name of a commit, that of its tree, the places of its parents and its subject.
+fn put_head(out: &mut Bytes, history: &History, place: u32) -> Result<(), AllocError>
     requires { place < length history.now.parents }
 {
     let mut name = [0; 40];
@@ -51,31 +52,48 @@ fn put_commit(out: &mut Bytes, history: &History, place: u32) -> Result<(), Allo
     }
     out.push(b' ')?;
     out.append(history.subjects()[place as usize].as_slice())?;
-    out.push(b'\n')?;
+    out.push(b'\n')
+}
+
+fn put_file(out: &mut Bytes, mode: Mode, path: &[u8]) -> Result<(), AllocError> {
+    out.append(b"  ")?;
+    out.append(mode_text(mode))?;
+    out.push(b' ')?;
+    out.append(path)?;
+    out.push(b'\n')
+}
+
+// The head of a commit; then its files.
+fn put_commit(out: &mut Bytes, history: &History, place: u32) -> Result<(), AllocError>
+    requires { place < length history.now.parents }
+{
+    put_head(out, history, place)?;
     for file in &history.files(place)? {
-        out.append(b"  ")?;
-        out.append(mode_text(file.mode))?;
-        out.push(b' ')?;
-        out.append(file.path.to_bytes()?.as_slice())?;
-        out.push(b'\n')?;
+        put_file(out, file.mode, file.path.to_bytes()?.as_slice())?;
     }
     Ok(())
 }
 
-// All commits by place, and the refs with their places.
-fn described(alloc: Global, history: &History) -> Result<Bytes, AllocError> {
-    let mut out = Bytes::new(alloc);
-    for place in 0..history.len() {
-        put_commit(&mut out, history, place)?;
-    }
+// The refs with their places.
+fn put_refs(out: &mut Bytes, history: &History) -> Result<(), AllocError> {
     let refs = history.refs();
     for index in 0..refs.len() {
         let (name, place) = refs.at(index);
         out.append(name.as_slice())?;
         out.push(b' ')?;
-        put_decimal(&mut out, u64::from(place))?;
+        put_decimal(out, u64::from(place))?;
         out.push(b'\n')?;
     }
+    Ok(())
+}
+
+// All commits by place, and the refs.
+fn described(alloc: Global, history: &History) -> Result<Bytes, AllocError> {
+    let mut out = Bytes::new(alloc);
+    for place in 0..history.len() {
+        put_commit(&mut out, history, place)?;
+    }
+    put_refs(&mut out, history)?;
     Ok(out)
 }
 
@@ -91,13 +109,26 @@ fn loaded(alloc: Global, stream: &[u8], piece: usize) -> Result<Bytes, ImportFau
     Ok(described(alloc, &history)?)
 }
 
+// Asserts what a stream loads that comes in pieces.
+fn loads(
+    rt: &impl Abort,
+    alloc: Global,
+    row: &(&str, &[u8], &[u8]),
+    piece: usize,
+) -> Result<(), ImportFault>
+    requires { 0 < piece }
+{
+    let (name, stream, text) = *row;
+    let found = loaded(alloc, stream, piece)?;
+    assert_eq!(rt; found.as_slice(), text, "{name} by {piece} bytes");
+    Ok(())
+}
+
 #[test]
 fn streams_load_the_histories_of_git(rt: HostRuntime) -> Result<(), Fail> {
-    for &(name, stream, text) in loaded_streams() {
-        let whole = loaded(rt.alloc(), stream, 65_536)?;
-        assert_eq!(rt; whole.as_slice(), text, "{name}");
-        let split = loaded(rt.alloc(), stream, 1)?;
-        assert_eq!(rt; split.as_slice(), text, "{name}, byte by byte");
+    for row in loaded_streams() {
+        loads(&rt, rt.alloc(), row, 65_536)?;
+        loads(&rt, rt.alloc(), row, 1)?;
     }
     Ok(())
 }

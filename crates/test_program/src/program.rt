@@ -54,16 +54,18 @@ where
 /// The status of the program over a stream that comes whole, and no files, with a tester.
 pub(crate) fn test<R, T: Tester, K: Sink>(
     rt: &R,
-    words: &[Word],
-    stream: Bytes,
+    words: &[&[u8]],
+    stream: &[u8],
     tester: &mut T,
     out: &mut K,
-) -> Status
+) -> Result<Status, AllocError>
 where
     R: Threads + Wait + Processes<Started = SystemProcess> + Eprint + Sync + Alloc<A = Global>,
     requires fresh { T.answers tester.old ≡ [] }
     requires whole { T.is_split tester.old ≡ false }
 {
-    let mut stream = MemSource::new(stream, 65_536, Vec::new(rt.alloc()));
-    over_no_files(rt, words, &mut stream, tester, out)
+    let words = words_of(rt.alloc(), words)?;
+    let bytes = Bytes::from_slice(rt.alloc(), stream)?;
+    let mut stream = MemSource::new(bytes, 65_536, Vec::new(rt.alloc()));
+    Ok(over_no_files(rt, words.as_slice(), &mut stream, tester, out))
 }

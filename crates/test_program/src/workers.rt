@@ -1,11 +1,11 @@
 //! Runs that test commits by several workers: tests that fail, tests that overlap, a real command, and large histories.
 use crate::line::{EIGHT, FOUND, THREE};
-use crate::program::{run, test, words_of};
+use crate::program::{run, test};
 use bf_io::{Bytes, MemSource, PlainSink};
 use bf_program::Status;
 use bf_tester::{FailRule, Gate, ProcessTester, ScriptTester, Side};
 use std::alloc::{AllocError, Global};
-use std::process::{Processes, SystemProcess};
+use std::process::{Abort, Processes, SystemProcess};
 use std::sync::{Arc, Wait};
 use std::test::Fail;
 use std::thread::Threads;
@@ -25,12 +25,25 @@ where
         b"--",
         b"t",
     ];
-    let words = words_of(alloc, &line)?;
     let mut tester = ScriptTester::new(alloc, b"ggggbbbb", [rule].to_vec(alloc)?, None)?;
     let mut out = PlainSink::new(alloc);
-    let stream = Bytes::from_slice(alloc, EIGHT)?;
-    let status = test(rt, words.as_slice(), stream, &mut tester, &mut out);
+    let status = test(rt, &line, EIGHT, &mut tester, &mut out)?;
     Ok((status, out.into_bytes()))
+}
+
+/// Asserts that a run found the first bad commit.
+fn has_found(rt: &impl Abort, place: u32, ran: &(Status, Bytes)) {
+    assert_eq!(rt; ran.0, Status::Done, "place {place}");
+    assert_eq!(rt; ran.1.as_slice(), FOUND, "place {place}");
+}
+
+/// Asserts how a run ends where all tests of a place fail.
+fn has_no_test_of(rt: &impl Abort, place: u32, ran: &(Status, Bytes)) {
+    if [3, 4, 5].contains(&place) {
+        assert_eq!(rt; ran.0, Status::TestFault { place });
+    } else {
+        has_found(rt, place, ran);
+    }
 }
 
 // Where the tests of one place fail by the workers alone, the calling thread tests it. Where all of them fail, the run
@@ -40,23 +53,9 @@ fn each_place_fails(rt: HostRuntime) -> Result<(), Fail> {
     for workers in [b"1", b"2"] {
         for place in 0..8 {
             let side = Side::Splits;
-            let (status, text) = ruled(&rt, workers, FailRule { place, side })?;
-            assert_eq!(rt;
-                (status, text.as_slice()),
-                (Status::Done, FOUND),
-                "place {place}"
-            );
+            has_found(&rt, place, &ruled(&rt, workers, FailRule { place, side })?);
             let side = Side::All;
-            let (status, text) = ruled(&rt, workers, FailRule { place, side })?;
-            if [3, 4, 5].contains(&place) {
-                assert_eq!(rt; status, Status::TestFault { place });
-            } else {
-                assert_eq!(rt;
-                    (status, text.as_slice()),
-                    (Status::Done, FOUND),
-                    "place {place}"
-                );
-            }
+            has_no_test_of(&rt, place, &ruled(&rt, workers, FailRule { place, side })?);
         }
     }
     Ok(())
@@ -97,6 +96,16 @@ fn is_alone(line: &[u8]) -> bool {
             && line.ends_with(b"771edca49728d8c78d5b371976ec2debc7c92b35"))
 }
 
+/// Asserts that the workers alone test, and that one of them posts the third commit.
+fn workers_post(rt: &impl Abort, text: &[u8]) {
+    let mut is_posted = false;
+    for line in text.split(|byte| *byte == b'\n') {
+        assert!(rt; !is_alone(line));
+        is_posted = is_posted || is_post(line);
+    }
+    assert!(rt; is_posted);
+}
+
 // The first of all tests ends only after a second one has begun.
 #[test]
 fn tests_overlap(rt: HostRuntime) -> Result<(), Fail> {
@@ -111,20 +120,13 @@ fn tests_overlap(rt: HostRuntime) -> Result<(), Fail> {
         b"--",
         b"t",
     ];
-    let words = words_of(alloc, &line)?;
     let gate = Some(Arc::new(alloc, Gate::new())?);
     let mut tester = ScriptTester::new(alloc, b"ggggbbbb", Vec::new(alloc), gate)?;
     let mut out = PlainSink::new(alloc);
-    let stream = Bytes::from_slice(alloc, EIGHT)?;
-    let status = test(&rt, words.as_slice(), stream, &mut tester, &mut out);
+    let status = test(&rt, &line, EIGHT, &mut tester, &mut out)?;
     assert_eq!(rt; status, Status::Done);
     assert!(rt; out.bytes().starts_with(FOUND));
-    let mut is_posted = false;
-    for line in out.bytes().split(|byte| *byte == b'\n') {
-        assert!(rt; !is_alone(line));
-        is_posted = is_posted || is_post(line);
-    }
-    assert!(rt; is_posted);
+    workers_post(&rt, out.bytes());
     Ok(())
 }
 
@@ -135,11 +137,9 @@ const SECOND_IS_BAD: &[u8] = b"f570778fec974dd2b05ee862e235ff38a61118d3 is the f
 fn a_command_tests_commits(rt: HostRuntime) -> Result<(), Fail> {
     let alloc = rt.alloc();
     let line: [&[u8]; 7] = [b"run", b"main", b"main~2", b"--", b"sh", b"-c", b"exit 1"];
-    let words = words_of(alloc, &line)?;
     let mut tester = ProcessTester::new(alloc).silent();
     let mut out = PlainSink::new(alloc);
-    let stream = Bytes::from_slice(alloc, THREE)?;
-    let status = test(&rt, words.as_slice(), stream, &mut tester, &mut out);
+    let status = test(&rt, &line, THREE, &mut tester, &mut out)?;
     assert_eq!(rt; status, Status::Done);
     assert!(rt; out.bytes().ends_with(SECOND_IS_BAD));
     Ok(())
@@ -160,9 +160,14 @@ where
 #[test]
 fn large_histories_are_searched(rt: HostRuntime) -> Result<(), Fail> {
     let one = sampled(&rt, &[b"sample", b"1", b"4000"])?;
+    assert!(rt; one.as_slice().starts_with(b"commits 4000\n"));
     let many = sampled(&rt, &[b"sample", b"--workers", b"8", b"1", b"4000"])?;
     assert_eq!(rt; one.as_slice(), many.as_slice());
-    assert!(rt; one.as_slice().starts_with(b"commits 4000\n"));
+    Ok(())
+}
+
+#[test]
+fn a_larger_history_is_searched(rt: HostRuntime) -> Result<(), Fail> {
     let most = sampled(&rt, &[b"sample", b"1", b"20000"])?;
     assert!(rt; most.as_slice().starts_with(b"commits 20000\n"));
     Ok(())

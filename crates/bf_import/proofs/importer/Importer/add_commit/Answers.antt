@@ -13,12 +13,12 @@ invariant_of-self c =
 pub returns-clause-history : goal.returns-clause-history
 returns-clause-history c =
     subst (λ (i : Importing). Means (λ _. c.commit.new.self.history) c.commit.result
-    (joined i.limits i.loading.history (commit_from i.loading.history c.args.first c.args.parents.now c.args.edits.now c.args.header.now))) c.self.view_is
+    (joined i.limits i.loading.history (commit_from i.loading.history c.args.first c.args.parents.now c.args.edits.now c.args.header))) c.self.view_is
     c.commit.ensures.history
 
 pub returns-clause-place : goal.returns-clause-place
 returns-clause-place c =
     subst (λ (i : Importing). IfOk c.commit.result
     (λ (place : ℕ). place ≡ place_of_commit i.loading.history
-    (commit_from i.loading.history c.args.first c.args.parents.now c.args.edits.now c.args.header.now))) c.self.view_is
+    (commit_from i.loading.history c.args.first c.args.parents.now c.args.edits.now c.args.header))) c.self.view_is
     c.commit.ensures.place
