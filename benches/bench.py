@@ -58,7 +58,7 @@ HAS_GIT = shutil.which("git") is not None
 MAIN, OLD = "refs/heads/main", "refs/heads/old"
 NOTHING_TO_ASK = ["simulate", MAIN, MAIN, ""]
 # a name that means no commit is refused once the stream is read
-NOTHING_BUT_IMPORT = ["next", "no-commit"]
+NOTHING_BUT_IMPORT = ["next", "no-commit", OLD]
 
 
 class Missing(Exception):
@@ -135,6 +135,7 @@ def import_(bench, commits, files, megabytes):
         label = f"{make.__name__} {size}"
         count = bench.write(make, size)
         ours = least(lambda: bench.ask(*NOTHING_BUT_IMPORT))
+        assert ours.output == b"name refused at word 1: unknown\n", ours.output
         plain = least(lambda: measure(["sha1sum"], bench.stream))
         print(f"{label}: {count} bytes; farmdawn {ours}; sha1sum of the stream {plain.processor:.2f} s")
         bench.beside_git(label, ours)
