@@ -6,7 +6,7 @@ ghost use Rattle.bf_commits.specs.Naming.{Adds, IsLength, body_length, commit_na
 
 use bf_grammar::Header;
 use bf_io::Bytes;
-use bf_oid::{Kind, ObjectHasher, Oid, oid_hex};
+use bf_oid::{Kind, ObjectHasher, Oid};
 use std::alloc::AllocError;
 
 /// The name that git gives the commit of this tree with these parents, which are places of `names` and
@@ -100,14 +100,17 @@ fn author_of(header: &Header) -> &[u8]
     }
 }
 
-/// Adds a word and a name in 40 hexadecimal digits.
+/// Adds a word of at most eight bytes and a name in 40 hexadecimal digits, as one piece.
 fn add_name(hasher: &mut ObjectHasher, word: &[u8], name: Oid)
+    requires { length word.now ≤ 8 }
     ensures name { Adds hasher.old hasher.new (word.now ++ encode_lower name.0) }
     ensures length { length (encode_lower name.0) ≡ 40 }
 {
-    let mut digits = [0; 40];
-    oid_hex(name, &mut digits);
-    add(hasher, word, &digits);
+    let mut line = [0; 48];
+    let end = word.len() + 2 * name.0.len();
+    line[..word.len()].copy_from_slice(word);
+    hex::encode_to_slice(name.0.as_slice(), &mut line[word.len()..end]).unwrap();
+    hasher.update(&line[..end]);
 }
 
 /// Adds a word and a text.

@@ -8,10 +8,10 @@
 //! list; `Prim.search` finds most of the laws, and std has the laws of the order of texts.
 ghost use Rattle.std.specs.Prelude.{◌≡◌, ◌==◌, ◌↔◌, [], ◌∷◌, ◌++◌, length, refl, Some, IsTrue, IfOk, OnOk, OnErr};
 ghost use Rattle.std.specs.Ordering.{nat_cmp};
-ghost use Rattle.std.specs.Cmp.Lexicographic.{pointwise, slice_cmp, nat_list_cmp_total, texts_ties, texts_po};
-ghost use Rattle.std.specs.Cmp.Rules.{comparing, hashing};
+ghost use Rattle.std.specs.Cmp.Lexicographic.{pointwise, slice_cmp, nat_list_cmp_total, bytes_decides, texts_ties, texts_po};
+ghost use Rattle.std.specs.Cmp.Rules.{comparing};
 ghost use Rattle.std.specs.Hash as fed;
-ghost use Rattle.std.proofs.Common.{rules};
+ghost use Rattle.std.proofs.Common.{ap, rules};
 
 use std::alloc::{AllocError, Global};
 use std::cmp::Ordering;
@@ -167,13 +167,17 @@ impl PartialOrd for Bytes {
     }
 }
 
+/// Bytes are hashed by their length and all at once, since the `Hash` of a slice takes byte by byte.
 impl Hash for Bytes {
-    ghost hash_input = { fed.slice fed.u8 };
+    ghost hash_input = { λ bytes. fed.usize (length bytes) ++ bytes ∷ [] };
 
-    ghost respects_eq = { Prim.search (hashing, rules) };
+    ghost respects_eq = { λ a b same.
+        ap (λ bytes. fed.usize (length bytes) ++ bytes ∷ []) ((bytes_decides a b).0 same) };
 
     fn hash<H: Hasher>(&self, state: &mut H) {
-        self.items.as_slice().hash(state);
+        let bytes = self.items.as_slice();
+        state.write_usize(bytes.len());
+        state.write(bytes);
     }
 }
 

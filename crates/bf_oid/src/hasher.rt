@@ -1,5 +1,5 @@
 //! The name of an object, from its whole body or from pieces of it. No body is kept or copied.
-ghost use Rattle.std.specs.Prelude.{◌≡◌, ℕ, List, [], ◌++◌, length};
+ghost use Rattle.std.specs.Prelude.{◌≡◌, ℕ, List, [], ◌++◌, codes, length};
 ghost use Rattle.bf_oid.specs.declared.object.Kind.{Kind};
 ghost use Rattle.bf_oid.specs.Object.{kind_text, name_of};
 
@@ -13,13 +13,14 @@ pub struct ObjectHasher {
     sha: Sha1,
 }
 
+/// The text of a kind, and the space behind it.
 fn kind_word(kind: Kind) -> &'static [u8]
-    ensures { result.now ≡ kind_text kind }
+    ensures { result.now ≡ kind_text kind ++ codes " " }
 {
     match kind {
-        Kind::Blob => b"blob",
-        Kind::Tree => b"tree",
-        Kind::Commit => b"commit",
+        Kind::Blob => b"blob ",
+        Kind::Tree => b"tree ",
+        Kind::Commit => b"commit ",
     }
 }
 
@@ -33,7 +34,6 @@ impl ObjectHasher {
     {
         let mut sha = Sha1::new();
         sha.update(kind_word(kind));
-        sha.update(b" ");
         sha.update(Buffer::new().format(length).as_bytes());
         sha.update(b"\0");
         ObjectHasher { sha }
