@@ -7,6 +7,3 @@ mod marks;
 
 pub use bases::merge_bases;
 pub use checks::check;
-
-#[cfg(test)]
-mod tests;

@@ -7,6 +7,3 @@ mod numbers;
 mod writing;
 
 pub use writing::generate;
-
-#[cfg(test)]
-mod tests;

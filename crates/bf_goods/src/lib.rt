@@ -4,6 +4,3 @@
 mod goods;
 
 pub use goods::Goods;
-
-#[cfg(test)]
-mod tests;

@@ -8,6 +8,3 @@ mod text;
 pub use hasher::{ObjectHasher, object_name};
 pub use object::{Kind, Mode, Oid};
 pub use text::{oid_from_hex, oid_hex};
-
-#[cfg(test)]
-mod tests;

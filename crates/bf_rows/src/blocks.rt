@@ -83,22 +83,3 @@ impl Blocks {
         words::count_vector(self.words.as_slice(), LANES * row as usize) as u32
     }
 }
-
-#[cfg(test)]
-mod tests {
-    use super::*;
-    use std::test::Fail;
-
-    #[test]
-    fn rows_are_counted_after_unions(rt: HostRuntime) -> Result<(), Fail> {
-        let mut blocks = Blocks::new(rt.alloc(), 3)?;
-        blocks.set(0, 511);
-        blocks.set(2, 0);
-        blocks.or_row(2, 0);
-        assert_eq!(rt; blocks.count(2), 2);
-        assert_eq!(rt; blocks.count(1), 0);
-        blocks.clear();
-        assert_eq!(rt; blocks.count(2), 0);
-        Ok(())
-    }
-}

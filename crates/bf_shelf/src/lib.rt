@@ -11,6 +11,3 @@ mod shelf;
 pub use memory::{MemShelf, PlainShelf};
 pub use real::DirShelf;
 pub use shelf::{LoadFault, Shelf, ShelfFile};
-
-#[cfg(test)]
-mod tests;

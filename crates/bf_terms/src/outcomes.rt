@@ -43,23 +43,3 @@ pub fn outcome_of_letter(letter: u8) -> Option<Outcome>
         _ => None,
     }
 }
-
-#[cfg(test)]
-mod tests {
-    use super::*;
-
-    #[test]
-    fn statuses_and_their_verdicts(rt: HostRuntime) {
-        assert_eq!(rt; verdict_of(Outcome::Exit(0)), Verdict::Mark(Mark::Good));
-        assert_eq!(rt; verdict_of(Outcome::Exit(124)), Verdict::Mark(Mark::Bad));
-        assert_eq!(rt; verdict_of(Outcome::Exit(125)), Verdict::Mark(Mark::Skip));
-        assert_eq!(rt; verdict_of(Outcome::Exit(126)), Verdict::Abort);
-        assert_eq!(rt;
-            verdict_of(lenient(Outcome::Exit(127))),
-            Verdict::Mark(Mark::Bad)
-        );
-        assert_eq!(rt; verdict_of(lenient(Outcome::Killed)), Verdict::Abort);
-        assert_eq!(rt; outcome_of_letter(b'a'), Some(Outcome::Exit(128)));
-        assert_eq!(rt; outcome_of_letter(b'x'), None);
-    }
-}

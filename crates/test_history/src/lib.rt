@@ -1,5 +1,5 @@
-//! Tests of histories: paths, trees, tables, commits, their names, and logs that are replayed. They stand apart from the crates
-//! that they test, since a crate is proved once more with tests of its own.
+//! Tests of histories: paths, trees, tables, commits, their names, and logs that are replayed. They stand apart
+//! from the crates that they test, since a crate is proved once more with tests of its own.
 #![tactic(auto)]
 
 #[cfg(test)]

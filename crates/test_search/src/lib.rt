@@ -5,9 +5,23 @@
 #[cfg(test)]
 mod alone;
 #[cfg(test)]
+mod bases;
+#[cfg(test)]
+mod choice;
+#[cfg(test)]
+mod goods;
+#[cfg(test)]
+mod graph;
+#[cfg(test)]
 mod log;
 #[cfg(test)]
+mod reach;
+#[cfg(test)]
+mod rows;
+#[cfg(test)]
 mod state;
+#[cfg(test)]
+mod terms;
 #[cfg(test)]
 mod tester;
 #[cfg(test)]

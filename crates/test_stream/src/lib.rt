@@ -9,9 +9,15 @@ mod io;
 #[cfg(test)]
 mod lines;
 #[cfg(test)]
+mod made;
+#[cfg(test)]
+mod oid;
+#[cfg(test)]
 mod paths;
 #[cfg(test)]
 mod reading;
+#[cfg(test)]
+mod shelf;
 #[cfg(test)]
 mod stream;
 #[cfg(test)]

@@ -1,5 +1,5 @@
-//! Streams from outside.
-use crate::generate;
+//! Streams that numbers give.
+use bf_gen::generate;
 use bf_io::{MemSink, PlainSink, SinkFault};
 use std::test::Fail;
 

@@ -1,5 +1,5 @@
 //! Names that git prints, and the texts of names.
-use crate::*;
+use bf_oid::{Kind, ObjectHasher, object_name, oid_from_hex, oid_hex};
 
 #[test]
 fn names_are_those_of_git(rt: HostRuntime) {

@@ -1,5 +1,5 @@
 //! Lists of good places.
-use crate::Goods;
+use bf_goods::Goods;
 use std::alloc::AllocError;
 use std::process::Abort;
 use std::test::Fail;
