@@ -1,9 +1,10 @@
 //! How a search begins.
-ghost use Rattle.std.specs.Prelude.{◌≡◌, ◌<◌, length, All, IfOk};
+ghost use Rattle.std.specs.Prelude.{◌≡◌, ◌<◌, [], ◌∷◌, length, is_some, All, IfOk};
 ghost use Rattle.std.specs.Option.{ForSome};
 ghost use Rattle.bf_guesses.specs.Ends.{HasEnds};
 ghost use Rattle.bf_output.specs.Beginning as beginning;
 ghost use Rattle.bf_output.specs.Beginning.{begun_by_words};
+ghost use Rattle.bf_search.specs.declared.entries.Entry.TheVariants.{Start};
 ghost use Rattle.bf_program.specs.Files.{given_of};
 ghost use Rattle.bf_program.specs.Lines.{begun_by_line, begun_with_line};
 ghost use Rattle.bf_program.specs.Steps.{IsStep};
@@ -27,13 +28,70 @@ use bf_words::Request;
 use std::alloc::{AllocError, Global};
 
 /// A search that has begun: its state, with the terms, and its entries.
-#[derive(Drop)]
 pub(crate) struct Beginning {
     pub state: State,
     /// Which ends the log that stands already makes known.
     pub known: Known,
     /// The entries that follow it.
     pub entries: Vec<Entry>,
+}
+
+/// Written out, so that it is proved once: what is derived is proved anew on each way out of each function
+/// that has a beginning.
+impl Drop for Beginning {
+    fn drop(self) {
+        let Beginning {
+            state: _,
+            known: _,
+            entries: _,
+        } = self;
+    }
+}
+
+impl Beginning {
+    /// The state, the ends that the log makes known, and the entries that follow it.
+    pub(crate) fn into_parts(self) -> (State, Known, Vec<Entry>)
+        ensures { result ≡ (self.state, self.known, self.entries) }
+    {
+        let Beginning {
+            state,
+            known,
+            entries,
+        } = self;
+        (state, known, entries)
+    }
+}
+
+/// The terms that words give, or else those of git.
+fn terms_or_standard(alloc: Global, request: &Request) -> Result<Terms, AllocError>
+    ensures { let sides = beginning.sides_or_standard request.now.terms in
+        IfOk result (λ terms. terms ≡ sides) }
+{
+    match &request.terms {
+        Some(terms) => terms.try_clone(),
+        None => Terms::standard(alloc),
+    }
+}
+
+/// The entry that begins the log of a search between ends, alone.
+fn start_alone(
+    alloc: Global,
+    request: &Request,
+    bad: Option<u32>,
+    state: &State,
+) -> Result<Vec<Entry>, AllocError>
+    ensures { let request = request.now in
+        let start = Start request.first_parent (is_some request.terms) bad state.now.search.goods in
+        IfOk result (λ entries. entries.items ≡ start ∷ []) }
+{
+    let mut entries = Vec::new(alloc);
+    entries.push(Entry::Start {
+        first_parent: request.first_parent,
+        terms_given: request.terms.is_some(),
+        bad,
+        goods: state.goods.to_places()?,
+    })?;
+    Ok(entries)
 }
 
 /// A search between ends. Of equal good places the first is kept.
@@ -50,18 +108,9 @@ pub(crate) fn between_ends(
     ensures len { IfOk result (λ first. first.state.len ≡ len) }
     ensures places { IfOk result AreWithin }
 {
-    let terms = match &request.terms {
-        Some(terms) => terms.try_clone()?,
-        None => Terms::standard(alloc)?,
-    };
+    let terms = terms_or_standard(alloc, request)?;
     let state = State::new(alloc, len, terms, false, request.first_parent, bad, goods)?;
-    let mut entries = Vec::new(alloc);
-    entries.push(Entry::Start {
-        first_parent: request.first_parent,
-        terms_given: request.terms.is_some(),
-        bad,
-        goods: state.goods.to_places()?,
-    })?;
+    let entries = start_alone(alloc, request, bad, &state)?;
     Ok(Beginning {
         state,
         known: Known::nothing(alloc),

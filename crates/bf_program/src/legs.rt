@@ -50,11 +50,7 @@ fn begin_running(line: Line<'_>, history: &History, first: Beginning) -> Result<
 {
     // What the length tells is needed: the places of the search are places of the history.
     let _places = first.state.len();
-    let Beginning {
-        state,
-        known,
-        entries,
-    } = first;
+    let (state, known, entries) = first.into_parts();
     let mut telling = Telling::new(line.alloc, known, line.request.trace);
     telling.add_entries(history, &state, entries.as_slice())?;
     let standing = Standing::first(line.alloc, history, state)?;

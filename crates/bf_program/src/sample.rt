@@ -1,9 +1,11 @@
 //! The command `sample`.
-ghost use Rattle.std.specs.Prelude.{◌≡◌, ◌<◌, ◌++◌, length, count_by, codes, All, IfOk, OnOk};
+ghost use Rattle.std.specs.Prelude.{◌≡◌, ◌<◌, [], ◌++◌, length, count_by, codes, All, IfOk, OnOk};
 ghost use Rattle.std.specs.Option.{ForSome};
+ghost use Rattle.bf_alone.specs.Within.{IsEndingWithin};
 ghost use Rattle.bf_output.specs.Sample as sample;
-ghost use Rattle.bf_program.specs.Answers.{IsWholeAnswer};
+ghost use Rattle.bf_program.specs.Answers.{IsWhole, IsWholeAnswer};
 ghost use Rattle.bf_program.specs.Lines.{sampled_from};
+ghost use Rattle.bf_program.specs.Telling.{summary_of};
 ghost use Rattle.bf_program.specs.Tellings.{begun_of, IsBegun, Says};
 
 use crate::answer::Answer;
@@ -12,6 +14,8 @@ use crate::tell::{commits_of, sides_of, status_of, write_end};
 use bf_alone::{Ran, run_plan};
 use bf_import::History;
 use bf_io::{Bytes, put_decimal};
+use bf_log::{Commits, Sides};
+use bf_output::Status;
 use bf_reach::Reach;
 use bf_search::{Entry, Outcome};
 use bf_words::Request;
@@ -99,6 +103,48 @@ fn put_number_line(out: &mut Bytes, what: &[u8], number: u64) -> Result<(), Allo
     out.append(b"\n")
 }
 
+/// Adds the summary of a run.
+fn write_summary(
+    count: u32,
+    commits: Commits<'_>,
+    sides: Sides<'_>,
+    ran: &Ran,
+    text: &mut Bytes,
+) -> Result<(), AllocError>
+    requires { IsEndingWithin (length commits.names.now) ran.now.end }
+    ensures { let summary = summary_of count commits.entry sides.entry ran.now in
+        OnOk result (text.new ≡ text.old ++ summary) }
+{
+    put_number_line(text, b"commits", u64::from(count))?;
+    put_number_line(text, b"marks", marks_in(ran.entries.as_slice()))?;
+    write_end(commits, sides, &ran.end, text)
+}
+
+/// Runs a search to its end over the plan of the sample, adds the summary to a text, and gives the status.
+fn write_sampled(
+    request: &Request,
+    history: &History,
+    reach: &Reach,
+    first: &mut Beginning,
+    text: &mut Bytes,
+) -> Result<Status, AllocError>
+    requires reach { reach.now ≡ history.now.parents }
+    requires len { first.old.state.len ≡ length history.now.parents }
+    requires text { text.old ≡ [] }
+    ensures status { let told = sampled_from request.now history.now (begun_of first.old) in
+        IfOk result (λ status. status ≡ told.status) }
+    ensures text { let told = sampled_from request.now history.now (begun_of first.old) in
+        OnOk result (text.new ≡ told.text) }
+    ensures whole { IfOk result IsWhole }
+{
+    let alloc = text.allocator();
+    let plan = plan_of_sample(alloc, request.count)?;
+    let ran = run_plan(alloc, reach, &mut first.state, plan.as_slice())?;
+    let sides = sides_of(&first.state.terms);
+    write_summary(request.count, commits_of(history), sides, &ran, text)?;
+    Ok(status_of(&ran.end))
+}
+
 /// The summary of a search that has begun, over the plan of the sample.
 fn run(
     alloc: Global,
@@ -112,15 +158,8 @@ fn run(
     ensures tells { IfOk result (Says (sampled_from request.now history.now (begun_of first))) }
     ensures whole { IfOk result IsWholeAnswer }
 {
-    let Beginning { mut state, .. } = first;
-    let plan = plan_of_sample(alloc, request.count)?;
-    let Ran { entries, end } = run_plan(alloc, reach, &mut state, plan.as_slice())?;
+    let mut first = first;
     let mut text = Bytes::new(alloc);
-    put_number_line(&mut text, b"commits", u64::from(request.count))?;
-    put_number_line(&mut text, b"marks", marks_in(entries.as_slice()))?;
-    write_end(commits_of(history), sides_of(&state.terms), &end, &mut text)?;
-    Ok(Answer {
-        status: status_of(&end),
-        text,
-    })
+    let status = write_sampled(request, history, reach, &mut first, &mut text)?;
+    Ok(Answer { status, text })
 }

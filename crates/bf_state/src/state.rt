@@ -27,7 +27,6 @@ use std::marker::Model;
 ///
 /// The places are below `len`, the good ones stand in the order in which they were marked, each once,
 /// and `skips` has a truth value for each commit. Contracts see the search with `len` and the terms.
-#[derive(Drop)]
 pub struct State {
     /// The number of commits.
     pub len: u32,
@@ -49,6 +48,25 @@ pub struct State {
     pub expected: Option<u32>,
     /// Whether the last good or bad mark said that the place that was asked is bad.
     pub bad_asked: bool,
+}
+
+/// Written out, so that it is proved once: what is derived is proved anew on each way out of each function
+/// that has a state.
+impl Drop for State {
+    fn drop(self) {
+        let State {
+            len: _,
+            terms: _,
+            terms_open: _,
+            first_parent: _,
+            bad: _,
+            goods: _,
+            skips: _,
+            checked: _,
+            expected: _,
+            bad_asked: _,
+        } = self;
+    }
 }
 
 impl Model for State {
