@@ -33,6 +33,8 @@ pub(crate) fn take_mark(
         mut entries,
     } = before;
     let mark = read_mark(setting.alloc, &mut state, line, term)?;
+    // What the length tells is needed: the places of the search are places of the history.
+    let _places = state.len();
     let place = place_named(setting, line, rev)?;
     let warned = state.take(setting.reach, mark, place)?;
     close_terms(&mut state, mark);

@@ -1,5 +1,5 @@
-use Rattle.std.proofs.Common.{◌∙◌, ap, subst, length, sym}
-use Rattle.bf_state.specs.Session.{Session, IsSearchBelow}
+use Rattle.std.proofs.Common.{◌∙◌, ap, length, sym}
+use Rattle.bf_state.specs.Session.{Session}
 use Rattle.bf_state.proofs.Within.{warned_in_session}
 use Rattle.bf_replay.proofs.Folding.{marked_within, below_same}
 use Rattle.bf_replay.proofs.mark.take_mark.Goals as goal
@@ -12,5 +12,5 @@ returns-clause-within c =
     (rw (c.as_slice.ensures.value, c.in_ok-warned.ensures.warned)
     (below_same c.read_mark.new.state.len (length c.args.setting.history.now.parents) _ len
     (warned_in_session c.args.setting.reach.now c.read_mark.new.state (ap length c.requires.reach ∙ sym len)
-    (subst (λ (s : Session). IsSearchBelow s.len s.search) c.state.view_is c.state.invariant))))
+    c.len-places.ensures.below)))
     c.in_ok-place.ensures.within c.in_ok-push_marked.ensures
