@@ -28,38 +28,13 @@ use bf_words::Request;
 use std::alloc::{AllocError, Global};
 
 /// A search that has begun: its state, with the terms, and its entries.
+#[derive(Drop)]
 pub(crate) struct Beginning {
     pub state: State,
     /// Which ends the log that stands already makes known.
     pub known: Known,
     /// The entries that follow it.
     pub entries: Vec<Entry>,
-}
-
-/// Written out, so that it is proved once: what is derived is proved anew on each way out of each function
-/// that has a beginning.
-impl Drop for Beginning {
-    fn drop(self) {
-        let Beginning {
-            state: _,
-            known: _,
-            entries: _,
-        } = self;
-    }
-}
-
-impl Beginning {
-    /// The state, the ends that the log makes known, and the entries that follow it.
-    pub(crate) fn into_parts(self) -> (State, Known, Vec<Entry>)
-        ensures { result ≡ (self.state, self.known, self.entries) }
-    {
-        let Beginning {
-            state,
-            known,
-            entries,
-        } = self;
-        (state, known, entries)
-    }
 }
 
 /// The terms that words give, or else those of git.

@@ -50,7 +50,11 @@ fn begin_running(line: Line<'_>, history: &History, first: Beginning) -> Result<
 {
     // What the length tells is needed: the places of the search are places of the history.
     let _places = first.state.len();
-    let (state, known, entries) = first.into_parts();
+    let Beginning {
+        state,
+        known,
+        entries,
+    } = first;
     let mut telling = Telling::new(line.alloc, known, line.request.trace);
     telling.add_entries(history, &state, entries.as_slice())?;
     let standing = Standing::first(line.alloc, history, state)?;
