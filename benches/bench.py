@@ -29,8 +29,8 @@ bench_stream, bench_forest or bench_farm where these are named below, else farmd
 proved build left, which is made where there is none; FARMDAWN may name another farmdawn.
 
 Ratios say how many times as fast as git a program is; times are of processors, where nothing else is said, and memory is
-the greatest that the program alone had. Imports below five seconds are run five times, and the least counts. The status is 1
-where something is not as it must be.
+the greatest that the program alone had. Imports below five seconds are run five times, in turns with git, and the least
+counts. The status is 1 where something is not as it must be.
 """
 import argparse
 import os
@@ -116,11 +116,13 @@ class Bench:
         repository.empty(folder)
         return measure(["git", "-C", folder, "fast-import", "--quiet", "--depth=0"], self.stream), folder
 
-    def beside_git(self, label, ours):
-        """Prints what git takes to import the stream, beside what a program took."""
+    def beside_git(self, label, run):
+        """Prints what a program takes beside what git takes to import the stream. They take turns, for what else is done on a
+        machine, or on the one that lends it, lasts for seconds, and what is done sooner would meet all of it or none."""
         if HAS_GIT:
-            theirs = least(lambda: self.git_import()[0])
-            print(f"{label}: git fast-import {theirs}; {ratio(theirs.processor, ours.processor)}")
+            turns = [(run(), self.git_import()[0]) for _ in range(5)]
+            ours, theirs = (min(costs, key=lambda cost: cost.processor) for costs in zip(*turns))
+            print(f"{label}: in turns, {self.name} {ours}, git fast-import {theirs}; {ratio(theirs.processor, ours.processor)}")
 
 
 def needs_git():
@@ -135,13 +137,14 @@ def import_(bench, commits, files, megabytes):
     for make, size in ((streams.generated, commits), (streams.folder, files), (streams.contents, megabytes)):
         label = f"{make.__name__} {size}"
         count = bench.write(make, size)
-        ours = least(lambda: bench.ask(*NOTHING_BUT_IMPORT))
+        run = lambda: least(lambda: bench.ask(*NOTHING_BUT_IMPORT))
+        ours = run()
         if ours.output != NO_COMMIT:
             print(f"{label}: {bench.name} says {ours.output.decode(errors='replace').strip()}")
             return False
         plain = least(lambda: measure(["sha1sum"], bench.stream))
         print(f"{label}: {count} bytes; farmdawn {ours}; sha1sum of the stream {plain.processor:.2f} s")
-        bench.beside_git(label, ours)
+        bench.beside_git(label, run)
     bench.write(streams.mark_far, commits // 2)
     one_mark = bench.ask(*NOTHING_BUT_IMPORT)
     bench.write(streams.generated, commits // 2)
