@@ -116,11 +116,14 @@ class Bench:
         repository.empty(folder)
         return measure(["git", "-C", folder, "fast-import", "--quiet", "--depth=0"], self.stream), folder
 
-    def beside_git(self, label, run):
+    def beside_git(self, label, cost):
         """Prints what a program takes beside what git takes to import the stream. They take turns, for what else is done on a
-        machine, or on the one that lends it, lasts for seconds, and what is done sooner would meet all of it or none."""
+        machine, or on the one that lends it, lasts for seconds, and what is done sooner would meet all of it or none. Where git
+        takes five seconds of a processor, there is one turn."""
         if HAS_GIT:
-            turns = [(run(), self.git_import()[0]) for _ in range(5)]
+            turns = [(cost(), self.git_import()[0])]
+            while len(turns) < 5 and turns[-1][1].processor < 5:
+                turns.append((cost(), self.git_import()[0]))
             ours, theirs = (min(costs, key=lambda cost: cost.processor) for costs in zip(*turns))
             print(f"{label}: in turns, {self.name} {ours}, git fast-import {theirs}; {ratio(theirs.processor, ours.processor)}")
 
@@ -137,14 +140,16 @@ def import_(bench, commits, files, megabytes):
     for make, size in ((streams.generated, commits), (streams.folder, files), (streams.contents, megabytes)):
         label = f"{make.__name__} {size}"
         count = bench.write(make, size)
-        run = lambda: least(lambda: bench.ask(*NOTHING_BUT_IMPORT))
-        ours = run()
+        def cost():
+            return least(lambda: bench.ask(*NOTHING_BUT_IMPORT))
+
+        ours = cost()
         if ours.output != NO_COMMIT:
             print(f"{label}: {bench.name} says {ours.output.decode(errors='replace').strip()}")
             return False
         plain = least(lambda: measure(["sha1sum"], bench.stream))
         print(f"{label}: {count} bytes; farmdawn {ours}; sha1sum of the stream {plain.processor:.2f} s")
-        bench.beside_git(label, run)
+        bench.beside_git(label, cost)
     bench.write(streams.mark_far, commits // 2)
     one_mark = bench.ask(*NOTHING_BUT_IMPORT)
     bench.write(streams.generated, commits // 2)
