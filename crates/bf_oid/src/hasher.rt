@@ -14,7 +14,7 @@ pub struct ObjectHasher {
 }
 
 /// The text of a kind, and the space behind it.
-fn kind_word(kind: Kind) -> &'static [u8]
+fn kind_with_space(kind: Kind) -> &'static [u8]
     ensures { result.now ≡ kind_text kind ++ codes " " }
 {
     match kind {
@@ -33,7 +33,7 @@ impl ObjectHasher {
         ensures { Hashes result kind length [] }
     {
         let mut sha = Sha1::new();
-        sha.update(kind_word(kind));
+        sha.update(kind_with_space(kind));
         sha.update(Buffer::new().format(length).as_bytes());
         sha.update(b"\0");
         ObjectHasher { sha }
