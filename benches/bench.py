@@ -6,6 +6,8 @@ Usage: benches/bench.py SUBJECT [SIZE ..] [--quick] [--program FILE]
   import    COMMITS FILES MEGABYTES     short commits, a folder, contents, beside git fast-import; one mark of nine digits
   stream    MEGABYTES COMMANDS          MB/s of contents and of short commands by bench_stream, beside cat and git fast-import
   forest    DIRECTORIES SUBDIRECTORIES FILES EDITS    single edits of a tree by bench_forest, beside git fast-import
+  entries   FILES ENTRIES ..            imports whose trees have so many entries together, of so many files each; one above
+                                        40,000,000 is too many
   weights   COMMITS ..                  all weights of three shapes of history by bench_weights, beside git rev-list
                                         --bisect-all
   search    COMMITS ..                  the asks of whole searches, beside git rev-list --bisect; 1,000 skips in a row
@@ -117,15 +119,17 @@ class Bench:
         return measure(["git", "-C", folder, "fast-import", "--quiet", "--depth=0"], self.stream), folder
 
     def beside_git(self, label, cost):
-        """Prints what a program takes beside what git takes to import the stream. They take turns, for what else is done on a
-        machine, or on the one that lends it, lasts for seconds, and what is done sooner would meet all of it or none. Where git
-        takes five seconds of a processor, there is one turn."""
-        if HAS_GIT:
-            turns = [(cost(), self.git_import()[0])]
-            while len(turns) < 5 and turns[-1][1].processor < 5:
-                turns.append((cost(), self.git_import()[0]))
-            ours, theirs = (min(costs, key=lambda cost: cost.processor) for costs in zip(*turns))
-            print(f"{label}: in turns, {self.name} {ours}, git fast-import {theirs}; {ratio(theirs.processor, ours.processor)}")
+        """Prints what a program takes beside what git takes to import the stream, and gives git's repository. They take turns,
+        for what else is done on a machine, or on the one that lends it, lasts for seconds, and what is done sooner would meet all
+        of it or none. Where git takes five seconds of a processor, there is one turn."""
+        ours, theirs, folder = [], [], None
+        while len(ours) < 5 and all(cost.processor < 5 for cost in theirs):
+            ours.append(cost())
+            imported, folder = self.git_import()
+            theirs.append(imported)
+        ours, theirs = (min(costs, key=lambda cost: cost.processor) for costs in (ours, theirs))
+        print(f"{label}: in turns, {self.name} {ours}, git fast-import {theirs}; {ratio(theirs.processor, ours.processor)}")
+        return folder
 
 
 def needs_git():
@@ -149,7 +153,8 @@ def import_(bench, commits, files, megabytes):
             return False
         plain = least(lambda: measure(["sha1sum"], bench.stream))
         print(f"{label}: {count} bytes; farmdawn {ours}; sha1sum of the stream {plain.processor:.2f} s")
-        bench.beside_git(label, cost)
+        if HAS_GIT:
+            bench.beside_git(label, cost)
     bench.write(streams.mark_far, commits // 2)
     one_mark = bench.ask(*NOTHING_BUT_IMPORT)
     bench.write(streams.generated, commits // 2)
@@ -187,10 +192,20 @@ def forest(bench, *shape):
     if not HAS_GIT:
         return True
     bench.write(streams.forest, *shape)
-    theirs, folder = bench.git_import()
-    due = f"{shape[3]} edits: {git(folder, 'rev-parse', 'main^{tree}')}\n"
-    print(f"{' '.join(map(str, shape))}: git fast-import {theirs}; {ratio(theirs.processor, ours.processor)}")
-    return ours.output.decode() == due
+    words = [str(count) for count in shape]
+    folder = bench.beside_git(" ".join(words), lambda: bench.ask(*words))
+    return ours.output.decode() == f"{shape[3]} edits: {git(folder, 'rev-parse', 'main^{tree}')}\n"
+
+
+def entries(bench, files, *counts):
+    right = True
+    for count in counts:
+        bench.write(streams.pool, files, count)
+        ours = bench.ask(*NOTHING_BUT_IMPORT)
+        due = NO_COMMIT if count <= 40000000 else b"too large: entries\n"
+        print(f"{count} entries: farmdawn {ours}, {ours.output.decode(errors='replace').strip()}", flush=True)
+        right &= ours.output == due and ours.peak < 400 << 10
+    return right
 
 
 def farm(bench, *sizes):
@@ -468,6 +483,7 @@ SUBJECTS = {
     "import": Subject(import_, (100000, 10000, 500), (5000, 500, 20)),
     "stream": Subject(stream, (300, 1000000), (20, 50000), "bench_stream"),
     "forest": Subject(forest, (40, 50, 25, 20000), (10, 10, 10, 1000), "bench_forest"),
+    "entries": Subject(entries, (550, 39000000, 40000000, 40000001), (550, 550000), is_list=True),
     "weights": Subject(weights, (20000, 100000), (2000,), "bench_weights", is_list=True),
     "search": Subject(search, (20000, 100000), (3000,), is_list=True),
     "workers": Subject(workers, (100000,), (5000,)),

@@ -76,6 +76,17 @@ def folder(out, files, edits=1000):
         commit(out, place, [place - 1], [inline(b"folder/file%d" % (place * 7919 % files), b"%d\n" % place)])
 
 
+def pool(out, files, entries):
+    """Commits whose trees have so many entries together, no two trees alike: each of so many files, and the last one of those
+    that are left."""
+    commits, left = divmod(entries, files)
+    for place in range(commits):
+        changed = [place % files] if place else range(files)
+        commit(out, place, before(place), [named(b"f%d" % file, place + 1) for file in changed])
+    if left:
+        commit(out, commits, before(commits), [b"deleteall\n", *(named(b"f%d" % file, commits + 1) for file in range(left))])
+
+
 def contents(out, megabytes):
     """Commits of one inline file of 50 KB each."""
     noise = random.Random(1).randbytes(1 << 20)

@@ -17,12 +17,23 @@ use Rattle.bf_output.specs.Simulate.{plan_of, run_over}
 -- the statuses with which a search over a plan ends
 abbrev pub EndsSearch : Status → Type 0
 EndsSearch status.Done = Unit {0}
+EndsSearch (status.Usage word) = ⊥
 EndsSearch status.OnlySkipped = Unit {0}
 EndsSearch status.MergeBaseBad = Unit {0}
 EndsSearch status.GoodNotAncestor = Unit {0}
 EndsSearch status.BothSides = Unit {0}
 EndsSearch status.Aborted = Unit {0}
-EndsSearch other = ⊥
+EndsSearch (status.StreamRefused line refusal) = ⊥
+EndsSearch (status.NameRefused word fault) = ⊥
+EndsSearch (status.TooLarge what) = ⊥
+EndsSearch (status.LogRefused line) = ⊥
+EndsSearch (status.TestFault place) = ⊥
+EndsSearch status.ReadFault = ⊥
+EndsSearch status.WriteFault = ⊥
+EndsSearch status.ShelfFault = ⊥
+EndsSearch status.NoMemory = ⊥
+EndsSearch status.NoFile = ⊥
+EndsSearch status.Waiting = ⊥
 
 -- what the shelf gives for the word of --replay
 abbrev pub file_given : Request → List (List ℕ) → List ShelfFile → FileGiven

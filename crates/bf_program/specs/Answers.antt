@@ -64,12 +64,24 @@ IsComplete met result =
 
 -- an answer that no device cut short, and no test
 abbrev pub IsWhole : Status → Type 0
+IsWhole status.Done = Unit {0}
+IsWhole (status.Usage word) = Unit {0}
+IsWhole status.OnlySkipped = Unit {0}
+IsWhole status.MergeBaseBad = Unit {0}
+IsWhole status.GoodNotAncestor = Unit {0}
+IsWhole status.BothSides = Unit {0}
+IsWhole status.Aborted = Unit {0}
+IsWhole (status.StreamRefused line refusal) = Unit {0}
+IsWhole (status.NameRefused word fault) = Unit {0}
+IsWhole (status.TooLarge what) = Unit {0}
+IsWhole (status.LogRefused line) = Unit {0}
+IsWhole (status.TestFault place) = ⊥
 IsWhole status.ReadFault = ⊥
 IsWhole status.WriteFault = ⊥
 IsWhole status.ShelfFault = ⊥
 IsWhole status.NoMemory = ⊥
-IsWhole (status.TestFault place) = ⊥
-IsWhole other = Unit {0}
+IsWhole status.NoFile = Unit {0}
+IsWhole status.Waiting = Unit {0}
 
 -- ---- the tests
 
