@@ -20,19 +20,22 @@ struct Row {
     text: &'static [u8],
 }
 
-// Logs that lead to a state.
-static GOING_ON: [Row; 8] = [
-    Row {
-        words: &[b"simulate", b"--replay", b"part.log", b"ggggbbbb"],
-        name: b"part.log",
-        file: b"# bad: [38d7eeaa2c641133c0a59de3e3515352366303d6] c7
+// The log of a search after two tests.
+const PART: &[u8] = b"# bad: [38d7eeaa2c641133c0a59de3e3515352366303d6] c7
 # good: [56b29d9c130e2ec4b506a48d4fe5a18d92d8d1e3] c0
 git bisect start '38d7eeaa2c641133c0a59de3e3515352366303d6' '56b29d9c130e2ec4b506a48d4fe5a18d92d8d1e3'
 # good: [771edca49728d8c78d5b371976ec2debc7c92b35] c3
 git bisect good 771edca49728d8c78d5b371976ec2debc7c92b35
 # bad: [3dff7cbfbc1ec2409d1dc7dba41ba991437e56aa] c5
 git bisect bad 3dff7cbfbc1ec2409d1dc7dba41ba991437e56aa
-",
+";
+
+// Logs that lead to a state.
+static GOING_ON: [Row; 8] = [
+    Row {
+        words: &[b"simulate", b"--replay", b"part.log", b"ggggbbbb"],
+        name: b"part.log",
+        file: PART,
         status: 0,
         text: b"# bad: [271bb9a08b2d5aa03871aa65fdadc01c488fa408] c4
 git bisect bad 271bb9a08b2d5aa03871aa65fdadc01c488fa408
@@ -43,14 +46,7 @@ git bisect bad 271bb9a08b2d5aa03871aa65fdadc01c488fa408
     Row {
         words: &[b"replay", b"--replay", b"part.log"],
         name: b"part.log",
-        file: b"# bad: [38d7eeaa2c641133c0a59de3e3515352366303d6] c7
-# good: [56b29d9c130e2ec4b506a48d4fe5a18d92d8d1e3] c0
-git bisect start '38d7eeaa2c641133c0a59de3e3515352366303d6' '56b29d9c130e2ec4b506a48d4fe5a18d92d8d1e3'
-# good: [771edca49728d8c78d5b371976ec2debc7c92b35] c3
-git bisect good 771edca49728d8c78d5b371976ec2debc7c92b35
-# bad: [3dff7cbfbc1ec2409d1dc7dba41ba991437e56aa] c5
-git bisect bad 3dff7cbfbc1ec2409d1dc7dba41ba991437e56aa
-",
+        file: PART,
         status: 0,
         text: b"# bad: [38d7eeaa2c641133c0a59de3e3515352366303d6] c7
 # good: [56b29d9c130e2ec4b506a48d4fe5a18d92d8d1e3] c0
@@ -148,14 +144,7 @@ git bisect good 771edca49728d8c78d5b371976ec2debc7c92b35
             b"ggggbbbb",
         ],
         name: b"part.log",
-        file: b"# bad: [38d7eeaa2c641133c0a59de3e3515352366303d6] c7
-# good: [56b29d9c130e2ec4b506a48d4fe5a18d92d8d1e3] c0
-git bisect start '38d7eeaa2c641133c0a59de3e3515352366303d6' '56b29d9c130e2ec4b506a48d4fe5a18d92d8d1e3'
-# good: [771edca49728d8c78d5b371976ec2debc7c92b35] c3
-git bisect good 771edca49728d8c78d5b371976ec2debc7c92b35
-# bad: [3dff7cbfbc1ec2409d1dc7dba41ba991437e56aa] c5
-git bisect bad 3dff7cbfbc1ec2409d1dc7dba41ba991437e56aa
-",
+        file: PART,
         status: 2,
         text: b"# skip: [271bb9a08b2d5aa03871aa65fdadc01c488fa408] c4
 git bisect skip 271bb9a08b2d5aa03871aa65fdadc01c488fa408
