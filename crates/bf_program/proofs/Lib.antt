@@ -11,4 +11,5 @@ mod Printing
 mod Refusing
 mod Running
 mod Skipping
+mod Untested
 mod Using

@@ -85,6 +85,31 @@ IsWhole status.Waiting = Unit {0}
 
 -- ---- the tests
 
+-- the statuses that are answered before a search begins: those of refusals
+abbrev pub IsBeforeSearch : Status → Type 0
+IsBeforeSearch status.Done = ⊥
+IsBeforeSearch (status.Usage word) = Unit {0}
+IsBeforeSearch status.OnlySkipped = ⊥
+IsBeforeSearch status.MergeBaseBad = ⊥
+IsBeforeSearch status.GoodNotAncestor = ⊥
+IsBeforeSearch status.BothSides = ⊥
+IsBeforeSearch status.Aborted = ⊥
+IsBeforeSearch (status.StreamRefused line refusal) = Unit {0}
+IsBeforeSearch (status.NameRefused word fault) = Unit {0}
+IsBeforeSearch (status.TooLarge what) = Unit {0}
+IsBeforeSearch (status.LogRefused line) = Unit {0}
+IsBeforeSearch (status.TestFault place) = ⊥
+IsBeforeSearch status.ReadFault = Unit {0}
+IsBeforeSearch status.WriteFault = ⊥
+IsBeforeSearch status.ShelfFault = Unit {0}
+IsBeforeSearch status.NoMemory = ⊥
+IsBeforeSearch status.NoFile = Unit {0}
+IsBeforeSearch status.Waiting = ⊥
+
+-- with such a status the tester is as it was
+abbrev pub IsUntestedIfRefused : TesterMet → Status → Type 0
+IsUntestedIfRefused tester result = IsBeforeSearch result → tester.after ≡ tester.before
+
 -- the words ask for tests, the count of faults of the tester rose, and its latest failed test is that of the place
 pub record IsFailedTest (asks : Bool) (before : ℕ) (after : Tested) (place : ℕ) : Type 0 where
   pub asked : IsTrue asks

@@ -1,5 +1,5 @@
 -- What a call meets of its devices, before it and after it.
-use Rattle.std.specs.Prelude.{◌≡◌, ℕ, List, Option}
+use Rattle.std.specs.Prelude.{◌≡◌, ℕ, Bool, false, List, Option}
 use Rattle.bf_farm.specs.Reports.{manner_by}
 use Rattle.bf_io.specs.Causes.{Rose}
 use Rattle.bf_io.specs.declared.device.Sink as sinks
@@ -21,6 +21,10 @@ HasFailed counts = Rose counts.before counts.now
 -- a device that did not fail, or a tester none of whose tests failed
 abbrev pub HasNotFailed : Counts → Type 0
 HasNotFailed counts = HasFailed counts → ⊥
+
+-- a device that nothing asks for is left as it was
+abbrev pub IsLeftUnless : {D : Type 0} → Bool → D → D → Type 0
+IsLeftUnless is_asked before after = is_asked ≡ false → after ≡ before
 
 -- ---- each device, by the ghost members of its type
 

@@ -1,13 +1,16 @@
 -- What a line of words asks for.
 use Rattle.std.specs.Borrow.{Bor}
-use Rattle.std.specs.Prelude.{◌≡◌, ℕ, Bool, List, Option, Some, is_some, Result, length}
+use Rattle.std.specs.Prelude.{◌≡◌, ℕ, Bool, List, ◌++◌, codes, count_by, Option, Some, is_some, Result, length}
+use Rattle.bf_alone.specs.declared.run.Ran.{Ran}
 use Rattle.bf_history.specs.Meanings.{History}
+use Rattle.bf_log.specs.declared.label.Commits.{Commits}
+use Rattle.bf_log.specs.declared.label.Sides.{Sides}
 use Rattle.bf_output.specs.Beginning.{Begun, begun_by, begun_with_skips}
 use Rattle.bf_output.specs.Gen.{made_stream}
 use Rattle.bf_output.specs.Next.{asked_once, next_told}
 use Rattle.bf_output.specs.Output.{IsOutputOf, IsOver, IsOverBytes, IsOverFile, IsOverStream, IsSearchedFrom, IsUsedIf, given_to, is_run}
 use Rattle.bf_output.specs.Refusals.{waiting}
-use Rattle.bf_output.specs.Sample.{plan_of_sample, summed_up}
+use Rattle.bf_output.specs.Sample.{is_mark, number_line, plan_of_sample, summed_up}
 use Rattle.bf_output.specs.Simulate.{plan_of, run_over}
 use Rattle.bf_output.specs.Tested.{IsUsed}
 use Rattle.bf_output.specs.Told.{Told}
@@ -21,6 +24,7 @@ use Rattle.bf_program.specs.Answers.{HasTestCause, IsCaused}
 use Rattle.bf_program.specs.Devices.{TesterMet}
 use Rattle.bf_program.specs.Files.{file_given}
 use Rattle.bf_program.specs.Searching.{AllTold, verb_of}
+use Rattle.bf_program.specs.Telling.{answer_lines_of}
 use Rattle.bf_program.specs.declared.answer.Answer.{Answer}
 use Rattle.bf_program.specs.declared.file.LogFile.{LogFile}
 use Rattle.bf_program.specs.declared.line.Line.{Line}
@@ -93,6 +97,13 @@ asked_in history first = asked_once history first (ask history.parents first.sea
 abbrev pub sampled_from : Request → History → Begun → Told
 sampled_from request history first =
     summed_up request history first (run_over history first (plan_of_sample request.count))
+
+-- its text, by the labels of commits and sides
+abbrev pub summary_of : ℕ → Commits → Sides → Ran → List ℕ
+summary_of count commits sides run =
+    number_line (codes "commits") count
+    ++ number_line (codes "marks") (count_by is_mark run.entries)
+    ++ answer_lines_of commits sides run.end
 
 -- ---- the tests
 

@@ -1,9 +1,8 @@
 -- The text of a search while it is tested.
-use Rattle.std.specs.Prelude.{◌≡◌, ℕ, Bool, true, false, List, [], ◌++◌, codes, count_by, Option, Some, None}
+use Rattle.std.specs.Prelude.{◌≡◌, ℕ, Bool, true, false, List, [], ◌++◌, Option, Some, None}
 use Rattle.std.specs.Option.{option_map, unwrap_or}
 use Rattle.bf_alone.specs.Rest.{ending_of}
 use Rattle.bf_alone.specs.declared.ending.Ending.{Ending as End}
-use Rattle.bf_alone.specs.declared.run.Ran.{Ran}
 use Rattle.bf_farm.specs.declared.report.Report.{Report}
 use Rattle.bf_history.specs.Meanings.{History}
 use Rattle.bf_log.specs.Labels as labels
@@ -12,7 +11,6 @@ use Rattle.bf_log.specs.declared.label.Commits.{Commits}
 use Rattle.bf_log.specs.declared.label.Sides.{Sides}
 use Rattle.bf_logs.specs.Written.{known_after_all}
 use Rattle.bf_output.specs.Beginning.{commits_of}
-use Rattle.bf_output.specs.Sample.{is_mark, number_line}
 use Rattle.bf_output.specs.Tested.{lines_at_end}
 use Rattle.bf_search.specs.Farm.{end_of}
 use Rattle.bf_search.specs.declared.entries.Entry.{Entry}
@@ -69,13 +67,6 @@ AddsLegEvents history report before after =
 -- the lines of the end of a run
 abbrev pub answer_lines_of : Commits → Sides → End → List ℕ
 answer_lines_of commits sides end = texts.answer_lines (labels.commits_of commits) (labels.sides_of sides) (ending_of end)
-
--- the summary of a run over the plan of the sample
-abbrev pub summary_of : ℕ → Commits → Sides → Ran → List ℕ
-summary_of count commits sides run =
-    number_line (codes "commits") count
-    ++ number_line (codes "marks") (count_by is_mark run.entries)
-    ++ answer_lines_of commits sides run.end
 
 -- the lines of the end of a run, or of a test that failed
 abbrev pub end_lines_of : Commits → Sides → Ending → List ℕ

@@ -6,7 +6,6 @@ ghost use Rattle.bf_program.specs.declared.answer.Stop.TheVariants as stops;
 use bf_io::Bytes;
 use bf_output::Status;
 use std::alloc::{AllocError, AllocFailed};
-use thiserror::Error;
 
 /// A status, and the text that is written with it.
 #[derive(Drop)]
@@ -16,16 +15,13 @@ pub(crate) struct Answer {
 }
 
 /// Why there is no answer.
-#[derive(Clone, Copy, Debug, PartialEq, Eq, Error)]
+#[derive(Clone, Copy, Debug, PartialEq, Eq)]
 pub(crate) enum Fault {
     /// The stream could not be read.
-    #[error("the stream could not be read")]
     Read,
     /// The file of a log could not be read.
-    #[error("the file could not be read")]
     Shelf,
     /// Memory ran out.
-    #[error("out of memory")]
     NoMemory,
 }
 

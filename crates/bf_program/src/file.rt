@@ -6,12 +6,14 @@ ghost use Rattle.bf_output.specs.Logs as logs;
 ghost use Rattle.bf_output.specs.Logs.{replayed_by};
 ghost use Rattle.bf_reading.specs.Reading as reading;
 ghost use Rattle.bf_replay.specs.Meaning.{replayed_of, AreWithin as AreEntriesWithin, HasLength};
+ghost use Rattle.bf_program.specs.Devices.{IsLeftUnless};
 ghost use Rattle.bf_program.specs.Files.{file_given, given_of, IsFileOf};
 ghost use Rattle.bf_program.specs.Steps.{IsStep};
 
 use crate::answer::{Fault, Stop};
 use crate::named::word_at;
-use crate::refusals::{log_refusal, no_file, too_long};
+use crate::refusals::{log_refusal, no_file, too_large};
+use bf_grammar::Limit;
 use bf_import::History;
 use bf_io::{Bytes, Word};
 use bf_reach::Reach;
@@ -70,6 +72,7 @@ pub(crate) fn load_file<F: Shelf>(
     ensures file { IfOk result (IsFileOf (F.files shelf.old) words.now replay) }
     ensures cause { FailsOnlyAt Fault.Shelf (F.faults shelf.old) (F.faults shelf.new) result }
     ensures asked { IsErrOf result Fault.Shelf → IsTrue (is_some replay) }
+    ensures unloaded { IsLeftUnless (is_some replay) shelf.old shelf.new }
     ensures no_read { IsErrOf result Fault.Read → ⊥ }
 {
     let Some(index) = replay else {
@@ -102,7 +105,7 @@ fn text_of(alloc: Global, file: &LogFile) -> Result<&[u8], Stop>
     match file {
         LogFile::Text(text) => Ok(text.as_slice()),
         LogFile::Missing => Err(Stop::Refused(no_file(alloc)?)),
-        LogFile::TooLong => Err(Stop::Refused(too_long(alloc)?)),
+        LogFile::TooLong => Err(Stop::Refused(too_large(alloc, Limit::Log)?)),
     }
 }
 

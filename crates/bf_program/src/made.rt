@@ -5,7 +5,7 @@ ghost use Rattle.bf_program.specs.Answers.{IsWholeAnswer};
 ghost use Rattle.bf_program.specs.Tellings.{Says};
 
 use crate::answer::Answer;
-use bf_io::{Bytes, PlainSink};
+use bf_io::{Bytes, PlainSink, SinkFault};
 use bf_output::Status;
 use bf_words::Request;
 use std::alloc::{AllocError, Global};
@@ -17,7 +17,7 @@ pub(crate) fn made_stream(alloc: Global, request: &Request) -> Result<Bytes, All
     let mut made = PlainSink::new(alloc);
     match bf_gen::generate(alloc, request.number, request.count, &mut made) {
         Ok(()) => Ok(made.into_bytes()),
-        Err(_) => Err(AllocError),
+        Err(SinkFault::Failed | SinkFault::NoMemory) => Err(AllocError),
     }
 }
 

@@ -1,7 +1,7 @@
 //! The command `next`.
-ghost use Rattle.std.specs.Prelude.{◌≡◌, ◌++◌, [], length, IfOk, OnOk};
+ghost use Rattle.std.specs.Prelude.{◌≡◌, ◌++◌, length, IfOk, OnOk};
 ghost use Rattle.bf_output.specs.Next.{asked_entries};
-ghost use Rattle.bf_program.specs.Answers.{IsWhole, IsWholeAnswer};
+ghost use Rattle.bf_program.specs.Answers.{IsWholeAnswer};
 ghost use Rattle.bf_program.specs.Steps.{IsStep};
 ghost use Rattle.bf_program.specs.Lines.{asked_in, next_of_line};
 ghost use Rattle.bf_program.specs.Tellings.{begun_of, told_of, AreWithin, Says};
@@ -15,7 +15,6 @@ use crate::tell::{commits_of, sides_of, status_of_ask};
 use bf_import::History;
 use bf_io::Bytes;
 use bf_log::{write_ask, write_more};
-use bf_output::Status;
 use bf_reach::Reach;
 use bf_search::{Ask, Entry, Step};
 use std::alloc::{AllocError, Global};
@@ -32,8 +31,8 @@ pub(crate) fn next(
     ensures whole { IfOk result IsWholeAnswer }
 {
     let reach = Reach::build(alloc, history.graph())?;
-    let first = begin(alloc, line, file, history, &reach)?;
-    Ok(ask_once(alloc, history, &reach, first)?)
+    let mut first = begin(alloc, line, file, history, &reach)?;
+    Ok(ask_once(alloc, history, &reach, &mut first)?)
 }
 
 /// Adds the entries of an ask: the skipped merge bases that it passes over, and its end.
@@ -66,36 +65,13 @@ fn ask_once(
     alloc: Global,
     history: &History,
     reach: &Reach,
-    first: Beginning,
-) -> Result<Answer, AllocError>
-    requires reach { reach.now ≡ history.now.parents }
-    requires len { first.state.len ≡ length history.now.parents }
-    requires places { AreWithin first }
-    ensures tells { IfOk result (Says (asked_in history.now (begun_of first))) }
-    ensures whole { IfOk result IsWholeAnswer }
-{
-    let mut first = first;
-    let mut text = Bytes::new(alloc);
-    let status = write_asked(history, reach, &mut first, &mut text)?;
-    Ok(Answer { status, text })
-}
-
-/// Asks once, adds the lines of what is asked to a text, and gives the status.
-fn write_asked(
-    history: &History,
-    reach: &Reach,
     first: &mut Beginning,
-    text: &mut Bytes,
-) -> Result<Status, AllocError>
+) -> Result<Answer, AllocError>
     requires reach { reach.now ≡ history.now.parents }
     requires len { first.old.state.len ≡ length history.now.parents }
     requires places { AreWithin first.old }
-    requires text { text.old ≡ [] }
-    ensures status { let told = asked_in history.now (begun_of first.old) in
-        IfOk result (λ status. status ≡ told.status) }
-    ensures text { let told = asked_in history.now (begun_of first.old) in
-        OnOk result (text.new ≡ told.text) }
-    ensures whole { IfOk result IsWhole }
+    ensures tells { IfOk result (Says (asked_in history.now (begun_of first.old))) }
+    ensures whole { IfOk result IsWholeAnswer }
 {
     // What the length tells is needed: the places of the search are places of the history.
     let _places = first.state.len();
@@ -104,13 +80,17 @@ fn write_asked(
     push_asked(&mut first.entries, &step)?;
     let commits = commits_of(history);
     let sides = sides_of(&first.state.terms);
+    let mut text = Bytes::new(alloc);
     write_more(
         &mut first.known,
         commits,
         sides,
         first.entries.as_slice(),
-        text,
+        &mut text,
     )?;
-    write_ask(commits, sides, &step.ask, text)?;
-    Ok(status_of_ask(&step.ask))
+    write_ask(commits, sides, &step.ask, &mut text)?;
+    Ok(Answer {
+        status: status_of_ask(&step.ask),
+        text,
+    })
 }

@@ -2,6 +2,7 @@
 ghost use Rattle.std.specs.Prelude.{is_some, IfOk, IsErrOf, IsTrue};
 ghost use Rattle.bf_io.specs.Causes.{FailsOnlyAt};
 ghost use Rattle.bf_output.specs.Output.{reads_stream};
+ghost use Rattle.bf_program.specs.Devices.{IsLeftUnless};
 ghost use Rattle.bf_program.specs.Lines.{TellsOutput, TellsHistory, TellsFile, TellsMade, TellsStream};
 ghost use Rattle.bf_program.specs.Searching.{IsSound};
 
@@ -30,8 +31,10 @@ pub(crate) fn prepare<S: Source, F: Shelf>(
     ensures sound { IfOk result (IsSound line.entry.request.now) }
     ensures reads { IsErrOf result Fault.Read → IsTrue (reads_stream line.entry.request.now.verb) }
     ensures cause { FailsOnlyAt Fault.Read (S.faults stream.old) (S.faults stream.new) result }
+    ensures unread { IsLeftUnless (reads_stream line.entry.request.now.verb) stream.old stream.new }
     ensures asks { IsErrOf result Fault.Shelf → IsTrue (is_some line.entry.request.now.replay) }
     ensures file { FailsOnlyAt Fault.Shelf (F.faults shelf.old) (F.faults shelf.new) result }
+    ensures unloaded { IsLeftUnless (is_some line.entry.request.now.replay) shelf.old shelf.new }
 {
     match line.request.verb {
         Verb::Simulate | Verb::Run | Verb::Next | Verb::Replay => {
@@ -49,6 +52,7 @@ fn prepare_made<F: Shelf>(line: Line<'_>, shelf: &mut F) -> Result<Ready, Fault>
     ensures no_read { IsErrOf result Fault.Read → ⊥ }
     ensures asks { IsErrOf result Fault.Shelf → IsTrue (is_some line.entry.request.now.replay) }
     ensures file { FailsOnlyAt Fault.Shelf (F.faults shelf.old) (F.faults shelf.new) result }
+    ensures unloaded { IsLeftUnless (is_some line.entry.request.now.replay) shelf.old shelf.new }
 {
     let mut made = PlainSource::new(made_stream(line.alloc, line.request)?);
     prepare_stream(line, &mut made, shelf)
@@ -65,6 +69,7 @@ fn prepare_stream<S: Source, F: Shelf>(
     ensures cause { FailsOnlyAt Fault.Read (S.faults stream.old) (S.faults stream.new) result }
     ensures asks { IsErrOf result Fault.Shelf → IsTrue (is_some line.entry.request.now.replay) }
     ensures file { FailsOnlyAt Fault.Shelf (F.faults shelf.old) (F.faults shelf.new) result }
+    ensures unloaded { IsLeftUnless (is_some line.entry.request.now.replay) shelf.old shelf.new }
 {
     match import(line.alloc, stream, Limits::standard()) {
         Ok(history) => prepare_over(line, history, shelf),
@@ -79,6 +84,7 @@ fn prepare_over<F: Shelf>(line: Line<'_>, history: History, shelf: &mut F) -> Re
     ensures no_read { IsErrOf result Fault.Read → ⊥ }
     ensures asks { IsErrOf result Fault.Shelf → IsTrue (is_some line.entry.request.now.replay) }
     ensures file { FailsOnlyAt Fault.Shelf (F.faults shelf.old) (F.faults shelf.new) result }
+    ensures unloaded { IsLeftUnless (is_some line.entry.request.now.replay) shelf.old shelf.new }
 {
     let file = load_file(line.words, line.request.replay, shelf)?;
     prepare_command(line, lent(&file), history)

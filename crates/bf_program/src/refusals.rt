@@ -26,11 +26,11 @@ pub(crate) fn refusal(alloc: Global, fault: ImportFault) -> Result<Answer, Fault
 {
     match fault {
         ImportFault::Stream(fault) => refusal_of_stream(alloc, fault),
-        ImportFault::BadFrom { line } => refused_at(alloc, line, StreamKind::BadFrom),
-        ImportFault::BadMark { line } => refused_at(alloc, line, StreamKind::BadMark),
-        ImportFault::BadPath { line } => refused_at(alloc, line, StreamKind::BadPath),
-        ImportFault::Unsupported { line } => refused_at(alloc, line, StreamKind::Unsupported),
-        ImportFault::TooLarge { what } => too_large(alloc, what),
+        ImportFault::BadFrom { line } => Ok(refused_at(alloc, line, StreamKind::BadFrom)?),
+        ImportFault::BadMark { line } => Ok(refused_at(alloc, line, StreamKind::BadMark)?),
+        ImportFault::BadPath { line } => Ok(refused_at(alloc, line, StreamKind::BadPath)?),
+        ImportFault::Unsupported { line } => Ok(refused_at(alloc, line, StreamKind::Unsupported)?),
+        ImportFault::TooLarge { what } => Ok(too_large(alloc, what)?),
         ImportFault::NoMemory => Err(Fault::NoMemory),
     }
 }
@@ -42,22 +42,20 @@ fn refusal_of_stream(alloc: Global, fault: StreamFault) -> Result<Answer, Fault>
     ensures no_shelf { IsErrOf result Fault.Shelf → ⊥ }
 {
     match fault {
-        StreamFault::Syntax { line } => refused_at(alloc, line, StreamKind::Syntax),
-        StreamFault::Unsupported { line } => refused_at(alloc, line, StreamKind::Unsupported),
-        StreamFault::Truncated { line } => refused_at(alloc, line, StreamKind::Truncated),
-        StreamFault::NoDone { line } => refused_at(alloc, line, StreamKind::NoDone),
+        StreamFault::Syntax { line } => Ok(refused_at(alloc, line, StreamKind::Syntax)?),
+        StreamFault::Unsupported { line } => Ok(refused_at(alloc, line, StreamKind::Unsupported)?),
+        StreamFault::Truncated { line } => Ok(refused_at(alloc, line, StreamKind::Truncated)?),
+        StreamFault::NoDone { line } => Ok(refused_at(alloc, line, StreamKind::NoDone)?),
         StreamFault::Read => Err(Fault::Read),
-        StreamFault::TooLarge { what } => too_large(alloc, what),
+        StreamFault::TooLarge { what } => Ok(too_large(alloc, what)?),
         StreamFault::NoMemory => Err(Fault::NoMemory),
     }
 }
 
 #[tactic(auto, unfolding(bf_output::specs::Refusals::refused_at))]
-fn refused_at(alloc: Global, line: u64, kind: StreamKind) -> Result<Answer, Fault>
+fn refused_at(alloc: Global, line: u64, kind: StreamKind) -> Result<Answer, AllocError>
     ensures tells { IfOk result (Says (refusals.refused_at line kind)) }
     ensures whole { IfOk result IsWholeAnswer }
-    ensures no_read { IsErrOf result Fault.Read → ⊥ }
-    ensures no_shelf { IsErrOf result Fault.Shelf → ⊥ }
 {
     let mut text = Bytes::from_slice(alloc, b"stream refused at line ")?;
     put_decimal(&mut text, line)?;
@@ -70,12 +68,11 @@ fn refused_at(alloc: Global, line: u64, kind: StreamKind) -> Result<Answer, Faul
     })
 }
 
+/// The answer where a limit was passed.
 #[tactic(auto, unfolding(bf_output::specs::Refusals::too_large))]
-fn too_large(alloc: Global, what: Limit) -> Result<Answer, Fault>
+pub(crate) fn too_large(alloc: Global, what: Limit) -> Result<Answer, AllocError>
     ensures tells { IfOk result (Says (refusals.too_large what)) }
     ensures whole { IfOk result IsWholeAnswer }
-    ensures no_read { IsErrOf result Fault.Read → ⊥ }
-    ensures no_shelf { IsErrOf result Fault.Shelf → ⊥ }
 {
     let mut text = Bytes::from_slice(alloc, b"too large: ")?;
     text.append(word_of_limit(what))?;
@@ -126,18 +123,6 @@ pub(crate) fn no_file(alloc: Global) -> Result<Answer, AllocError>
     Ok(Answer {
         status: Status::NoFile,
         text: Bytes::from_slice(alloc, b"no such file\n")?,
-    })
-}
-
-/// The answer where the file of a log is longer than a log may be.
-#[tactic(auto, unfolding(bf_output::specs::Refusals::too_large))]
-pub(crate) fn too_long(alloc: Global) -> Result<Answer, AllocError>
-    ensures tells { IfOk result (Says (refusals.too_large Limit.Log)) }
-    ensures whole { IfOk result IsWholeAnswer }
-{
-    Ok(Answer {
-        status: Status::TooLarge { what: Limit::Log },
-        text: Bytes::from_slice(alloc, b"too large: log\n")?,
     })
 }
 

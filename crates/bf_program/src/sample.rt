@@ -1,11 +1,10 @@
 //! The command `sample`.
-ghost use Rattle.std.specs.Prelude.{◌≡◌, ◌<◌, [], ◌++◌, length, count_by, codes, All, IfOk, OnOk};
+ghost use Rattle.std.specs.Prelude.{◌≡◌, ◌<◌, ◌++◌, length, count_by, All, IfOk, OnOk};
 ghost use Rattle.std.specs.Option.{ForSome};
 ghost use Rattle.bf_alone.specs.Within.{IsEndingWithin};
 ghost use Rattle.bf_output.specs.Sample as sample;
-ghost use Rattle.bf_program.specs.Answers.{IsWhole, IsWholeAnswer};
-ghost use Rattle.bf_program.specs.Lines.{sampled_from};
-ghost use Rattle.bf_program.specs.Telling.{summary_of};
+ghost use Rattle.bf_program.specs.Answers.{IsWholeAnswer};
+ghost use Rattle.bf_program.specs.Lines.{sampled_from, summary_of};
 ghost use Rattle.bf_program.specs.Tellings.{begun_of, IsBegun, Says};
 
 use crate::answer::Answer;
@@ -15,7 +14,6 @@ use bf_alone::{Ran, run_plan};
 use bf_import::History;
 use bf_io::{Bytes, put_decimal};
 use bf_log::{Commits, Sides};
-use bf_output::Status;
 use bf_reach::Reach;
 use bf_search::{Entry, Outcome};
 use bf_words::Request;
@@ -32,8 +30,8 @@ pub(crate) fn sample(
     ensures whole { IfOk result IsWholeAnswer }
 {
     let reach = Reach::build(alloc, history.graph())?;
-    let first = whole_search(alloc, request, history.len())?;
-    run(alloc, request, history, &reach, first)
+    let mut first = whole_search(alloc, request, history.len())?;
+    run(alloc, request, history, &reach, &mut first)
 }
 
 /// The last place, where there is one.
@@ -120,46 +118,26 @@ fn write_summary(
     write_end(commits, sides, &ran.end, text)
 }
 
-/// Runs a search to its end over the plan of the sample, adds the summary to a text, and gives the status.
-fn write_sampled(
-    request: &Request,
-    history: &History,
-    reach: &Reach,
-    first: &mut Beginning,
-    text: &mut Bytes,
-) -> Result<Status, AllocError>
-    requires reach { reach.now ≡ history.now.parents }
-    requires len { first.old.state.len ≡ length history.now.parents }
-    requires text { text.old ≡ [] }
-    ensures status { let told = sampled_from request.now history.now (begun_of first.old) in
-        IfOk result (λ status. status ≡ told.status) }
-    ensures text { let told = sampled_from request.now history.now (begun_of first.old) in
-        OnOk result (text.new ≡ told.text) }
-    ensures whole { IfOk result IsWhole }
-{
-    let alloc = text.allocator();
-    let plan = plan_of_sample(alloc, request.count)?;
-    let ran = run_plan(alloc, reach, &mut first.state, plan.as_slice())?;
-    let sides = sides_of(&first.state.terms);
-    write_summary(request.count, commits_of(history), sides, &ran, text)?;
-    Ok(status_of(&ran.end))
-}
-
-/// The summary of a search that has begun, over the plan of the sample.
+/// Runs a search that has begun to its end over the plan of the sample, and gives the summary.
 fn run(
     alloc: Global,
     request: &Request,
     history: &History,
     reach: &Reach,
-    first: Beginning,
+    first: &mut Beginning,
 ) -> Result<Answer, AllocError>
     requires reach { reach.now ≡ history.now.parents }
-    requires len { first.state.len ≡ length history.now.parents }
-    ensures tells { IfOk result (Says (sampled_from request.now history.now (begun_of first))) }
+    requires len { first.old.state.len ≡ length history.now.parents }
+    ensures tells { IfOk result (Says (sampled_from request.now history.now (begun_of first.old))) }
     ensures whole { IfOk result IsWholeAnswer }
 {
-    let mut first = first;
+    let plan = plan_of_sample(alloc, request.count)?;
+    let ran = run_plan(alloc, reach, &mut first.state, plan.as_slice())?;
+    let sides = sides_of(&first.state.terms);
     let mut text = Bytes::new(alloc);
-    let status = write_sampled(request, history, reach, &mut first, &mut text)?;
-    Ok(Answer { status, text })
+    write_summary(request.count, commits_of(history), sides, &ran, &mut text)?;
+    Ok(Answer {
+        status: status_of(&ran.end),
+        text,
+    })
 }

@@ -1,5 +1,5 @@
 //! The text of a run: its log and its answer.
-ghost use Rattle.std.specs.Prelude.{◌≡◌, ◌<◌, ◌++◌, length, All, IfOk, OnOk};
+ghost use Rattle.std.specs.Prelude.{◌≡◌, ◌<◌, ◌++◌, length, All, OnOk};
 ghost use Rattle.bf_alone.specs.Rest.{ending_of};
 ghost use Rattle.bf_alone.specs.Within.{IsEndingWithin};
 ghost use Rattle.bf_log.specs.Labels as labels;

@@ -1,9 +1,11 @@
 //! The top call.
 ghost use Rattle.std.specs.Prelude.{◌≡◌, ◌≢◌, ℕ, [], false, IfOk};
 ghost use Rattle.bf_io.specs.Causes.{Rose};
+ghost use Rattle.bf_output.specs.Output.{asks_file, reads};
 ghost use Rattle.bf_output.specs.Tested.{tested_by};
-ghost use Rattle.bf_program.specs.Answers.{Answers, HasTestCauseBy, IsComplete, IsUsedBy};
-ghost use Rattle.bf_program.specs.Devices.{met, met_shelf, met_sink, met_source, met_tester};
+ghost use Rattle.bf_words.specs.Words.{request};
+ghost use Rattle.bf_program.specs.Answers.{Answers, HasTestCauseBy, IsComplete, IsUntestedIfRefused, IsUsedBy};
+ghost use Rattle.bf_program.specs.Devices.{IsLeftUnless, met, met_shelf, met_sink, met_source, met_tester};
 ghost use Rattle.bf_program.specs.Lines.{HasTestCauseIn, IsUsedIn};
 ghost use Rattle.bf_program.specs.Printing.{PrintsLog};
 ghost use Rattle.bf_program.specs.Searching.{IsSound, ConcludesLine, IsRefused};
@@ -30,7 +32,8 @@ use std::alloc::Global;
 /// stream rose, `ShelfFault` only where that of the shelf did, `WriteFault` only where that of the sink did, and
 /// `TestFault` only in `run` where that of the tester did. Want of memory may be answered at any point. After
 /// `WriteFault` and `NoMemory` the sink gained some front of the text that was due. Only `run` uses the tester: it
-/// takes the command, and tests what the search asks for.
+/// takes the command, and tests what the search asks for; a refusal leaves the tester alone. The stream is read only
+/// by the commands that ask for it, and the shelf is asked only for the file of `--replay`.
 ///
 /// Where no count of faults rose, the status and the text are those of the definition, or memory ran out.
 ///
@@ -61,6 +64,9 @@ pub fn bisect_main<R: Host, S: Source, F: Shelf, T: Tester, K: Sink>(
     ensures write { result ≡ Status.WriteFault → Rose (K.faults out.old) (K.faults out.new) }
     ensures test { HasTestCauseBy words.now (met_tester T.Tester tester.old tester.new) result }
     ensures used { IsUsedBy words.now (met_tester T.Tester tester.old tester.new) }
+    ensures unread { IsLeftUnless (reads (request words.now)) stream.old stream.new }
+    ensures unloaded { IsLeftUnless (asks_file (request words.now)) shelf.old shelf.new }
+    ensures untested { IsUntestedIfRefused (met_tester T.Tester tester.old tester.new) result }
     ensures is_split { T.is_split tester.new ≡ false }
 {
     match read_words(alloc, words) {
@@ -111,6 +117,7 @@ fn conclude<R: Host, T: Tester, K: Sink>(
     ensures test { HasTestCauseIn line.entry (met_tester T.Tester tester.old tester.new) result }
     ensures write { result ≡ Status.WriteFault → Rose (K.faults out.old) (K.faults out.new) }
     ensures used { IsUsedIn line.entry (met_tester T.Tester tester.old tester.new) }
+    ensures untested { IsUntestedIfRefused (met_tester T.Tester tester.old tester.new) result }
     ensures is_split { T.is_split tester.new ≡ false }
 {
     match ready {

@@ -23,11 +23,12 @@ const HELP: &[u8] = b"\
 farmdawn simulate [OPTION..] BAD GOOD.. PLAN < STREAM
 farmdawn run [OPTION..] BAD GOOD.. -- COMMAND.. < STREAM
 farmdawn next [OPTION..] BAD GOOD.. < STREAM
-farmdawn simulate|next [OPTION..] --replay FILE [PLAN] < STREAM
+farmdawn simulate [OPTION..] --replay FILE PLAN < STREAM
 farmdawn run [OPTION..] --replay FILE -- COMMAND.. < STREAM
+farmdawn next [OPTION..] --replay FILE < STREAM
 farmdawn replay --replay FILE < STREAM
 farmdawn gen NUMBER COUNT
-farmdawn sample NUMBER COUNT
+farmdawn sample [--workers N] NUMBER COUNT
 
 simulate searches the history of a git fast-import stream for the first bad commit, as git bisect
 does, and prints the log and the answer. No test is run: PLAN says how each would end. run tests
@@ -45,8 +46,8 @@ gives, and sample searches such a stream and prints a summary.
   --skip REV        a commit, or a range A..B, that is not to be tested; any number of times
   --lenient-exit    take the statuses 126 and 127 of a test as bad
   --replay FILE     go on from the log in a file, as git bisect log prints it
-  --workers N       test up to N commits at once, 1 to 64; what is printed is the same for every N
-  --leg K           write the lines so far after every K marks; what is printed is the same
+  --workers N       test up to N commits at once, 1 to 64; log and answer are the same for every N
+  --leg K           write the lines so far after every K marks; log and answer are the same
   --trace           print behind the answer what the workers did: claim, post and give
 
 The status is 0 where the first bad commit was found or the command did what it was asked, 1 where
@@ -54,8 +55,8 @@ a word is wrong, 2 where only skipped commits are left, 3 where a merge base is 
 commit is no ancestor of the bad one, 5 where one commit is both, 6 where a test aborts the search,
 7 to 9 where the stream or a name is refused or a limit is passed, 10 where a log is refused, 11
 where a test cannot be made, 12 where the stream cannot be read, 13 where the output cannot be
-written, 14 where the file of a log cannot be read, 15 where memory runs out, 16 where it is
-missing, and 17 where an end is not known.
+written, 14 where the file of a log cannot be read, 15 where memory runs out, 16 where there is no
+such file, and 17 where an end is not known.
 ";
 
 const VERSION: &[u8] = b"farmdawn 0.1.0\n";

@@ -88,6 +88,7 @@ fn answers_are_flushed(rt: HostRuntime) -> Result<(), Fail> {
     let status = run(&rt, &[], &mut stream, &mut out)?;
     assert_eq!(rt; status, Status::WriteFault);
     assert_eq!(rt; out.bytes(), b"usage fault at word 0\n".as_slice());
+    assert_eq!(rt; stream.calls(), 0);
     Ok(())
 }
 

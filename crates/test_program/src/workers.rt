@@ -132,11 +132,13 @@ fn tests_overlap(rt: HostRuntime) -> Result<(), Fail> {
 
 const SECOND_IS_BAD: &[u8] = b"f570778fec974dd2b05ee862e235ff38a61118d3 is the first bad commit\n";
 
+const IS_ANOTHER: &[u8] = b"test \"$0\" != f570778fec974dd2b05ee862e235ff38a61118d3";
+
 // The command gets the name as its last word, and its status is the outcome.
 #[test]
 fn a_command_tests_commits(rt: HostRuntime) -> Result<(), Fail> {
     let alloc = rt.alloc();
-    let line: [&[u8]; 7] = [b"run", b"main", b"main~2", b"--", b"sh", b"-c", b"exit 1"];
+    let line: [&[u8]; 7] = [b"run", b"main", b"main~2", b"--", b"sh", b"-c", IS_ANOTHER];
     let mut tester = ProcessTester::new(alloc).silent();
     let mut out = PlainSink::new(alloc);
     let status = test(&rt, &line, THREE, &mut tester, &mut out)?;

@@ -1,5 +1,5 @@
-use Rattle.std.proofs.Common.{ℕ, Result, sym, subst}
-use Rattle.bf_output.specs.Output.{IsUsedFor, tests}
+use Rattle.std.proofs.Common.{ℕ, Result, ap, sym, subst, ◌∙◌}
+use Rattle.bf_output.specs.Output.{IsUsedFor, asks_file, reads, tests}
 use Rattle.bf_output.specs.Tested.{tested_by}
 use Rattle.bf_words.specs.declared.request.Request.{Request}
 use Rattle.bf_program.specs.Answers.{IsFailedTest}
@@ -61,6 +61,12 @@ returns-in-Ok-clause-used g c =
     let before = tested_by g.T.Tester c.args.tester.now in
     let after = tested_by g.T.Tester c.conclude.new.tester in
     subst (λ (r : Result Request ℕ). IsUsedFor r c.args.words.now before after) (sym c.in-Ok.ensures) c.conclude.ensures.used
+
+pub returns-in-Ok-clause-unread : goal.returns-in-Ok-clause-unread
+returns-in-Ok-clause-unread g c = λ e. c.prepare-ready.ensures.unread (ap reads (sym c.in-Ok.ensures) ∙ e)
+
+pub returns-in-Ok-clause-unloaded : goal.returns-in-Ok-clause-unloaded
+returns-in-Ok-clause-unloaded g c = λ e. c.prepare-ready.ensures.unloaded (ap asks_file (sym c.in-Ok.ensures) ∙ e)
 
 pub returns-in-Err-clause-answers : goal.returns-in-Err-clause-answers
 returns-in-Err-clause-answers g c =

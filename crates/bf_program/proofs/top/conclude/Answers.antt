@@ -2,7 +2,9 @@ use Rattle.bf_output.specs.Tested.{tested_by}
 use Rattle.bf_program.specs.declared.ready.Ready.TheVariants.{Told, Search}
 use Rattle.bf_program.proofs.Concluding.{concluded_answer, concluded_search, concludes, if_ok, sound_answer, sound_search, whole_no_test, whole_own}
 use Rattle.bf_program.proofs.Concluding.{whole_write}
+use Rattle.bf_program.proofs.Untested.{search_began}
 use Rattle.bf_program.proofs.Using.{unused}
+use Rattle.bf_program.specs.Tellings.{begun_of}
 use Rattle.bf_program.proofs.top.conclude.Goals as goal
 
 pub returns-in-Ok-Search-clause-told : goal.returns-in-Ok-Search-clause-told
@@ -14,6 +16,13 @@ returns-in-Ok-Search-clause-told g c =
     (sound_search c.args.line.request.now c.args.ready c.in-Ok-Search.field-0 c.in-Ok-Search.started c.in-Ok-Search.is c.in-Ok-Search.field-0-is
     c.requires.sound)
     c.search.ensures.told)
+
+pub returns-in-Ok-Search-clause-untested : goal.returns-in-Ok-Search-clause-untested
+returns-in-Ok-Search-clause-untested g c = λ refused.
+    let line = c.args.line in
+    let started = c.in-Ok-Search.started in
+    absurd (search_began line.request.now.verb line.request.now line.words.now (tested_by g.T.Tester c.search.new.tester) started.history
+    (begun_of started.first) _ _ c.search.result c.search.ensures.told refused)
 
 pub returns-in-Ok-Told-clause-told : goal.returns-in-Ok-Told-clause-told
 returns-in-Ok-Told-clause-told g c =

@@ -3,7 +3,7 @@ use Rattle.bf_state.specs.Session.{IsSearchBelow}
 use Rattle.bf_output.specs.Next.{asked_entries}
 use Rattle.bf_program.specs.declared.begin.Beginning.{Beginning}
 use Rattle.bf_program.proofs.Asking.{asked_within, ask_below}
-use Rattle.bf_program.proofs.next.write_asked.Goals as goal
+use Rattle.bf_program.proofs.next.ask_once.Goals as goal
 
 pub write_more-requires-clause-places : goal.write_more-requires-clause-places
 write_more-requires-clause-places c =
