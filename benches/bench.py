@@ -144,10 +144,11 @@ def import_(bench, commits, files, megabytes):
     for make, size in ((streams.generated, commits), (streams.folder, files), (streams.contents, megabytes)):
         label = f"{make.__name__} {size}"
         count = bench.write(make, size)
-        def cost():
-            return least(lambda: bench.ask(*NOTHING_BUT_IMPORT))
 
-        ours = cost()
+        def cost():
+            return bench.ask(*NOTHING_BUT_IMPORT)
+
+        ours = least(cost)
         if ours.output != NO_COMMIT:
             print(f"{label}: {bench.name} says {ours.output.decode(errors='replace').strip()}")
             return False
