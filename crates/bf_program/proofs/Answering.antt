@@ -1,10 +1,10 @@
 -- From an answer and what was written of it to what the program answers.
-use Rattle.std.proofs.Common.{◌≡◌, ◌≢◌, ℕ, Bool, List, Option, Result, Ok, Err, IfOk, IsErrOf, IsTrue, is_some, ◌⊎◌, inl, inr, refl, subst, sym, ◌∙◌}
+use Rattle.std.proofs.Common.{◌≡◌, ◌≢◌, ℕ, Bool, List, Option, Result, Ok, Err, IfOk, IsErrOf, IsTrue, is_some, ◌⊎◌, inl, inr, refl, ap, subst, sym, ◌∙◌}
 use Rattle.bf_io.specs.Told.{Appends, AppendsFront}
 use Rattle.bf_io.proofs.Told.{AppendsFront-all}
 use Rattle.bf_output.specs.declared.status.Status.{Status}
 use Rattle.bf_output.specs.declared.status.Status.TheVariants as status
-use Rattle.bf_output.specs.Output.{IsOutput, IsOutputFor, IsOutputOf, asks_file, given_to, reads, reads_stream}
+use Rattle.bf_output.specs.Output.{IsOutput, IsOutputFor, IsOutputOf, asks_file, given_to, is_run, reads, reads_stream, tests}
 use Rattle.bf_output.specs.Refusals.{usage}
 use Rattle.bf_output.specs.Tested.{Tested}
 use Rattle.bf_output.specs.Told.{Told}
@@ -16,9 +16,9 @@ use Rattle.bf_words.specs.Words as asked
 use Rattle.bf_program.specs.declared.answer.Fault.{Fault}
 use Rattle.bf_program.specs.declared.answer.Fault.TheVariants.{Read, Shelf, NoMemory}
 use Rattle.bf_program.specs.declared.ready.Ready.{Ready}
-use Rattle.bf_program.specs.Answers.{OutputOf, IsUnread, IsUnloaded, IsDue, Answers, IsWhole, HasCause}
+use Rattle.bf_program.specs.Answers.{OutputOf, IsUnread, IsUnloaded, IsDue, Answers, IsWhole, HasCause, HasTestCause}
 use Rattle.bf_program.specs.Devices.{Met, HasFailed, given_in}
-use Rattle.bf_program.specs.Searching.{AllTold, Tells, Concludes, IsConcluded, IsRefused}
+use Rattle.bf_program.specs.Searching.{AllTold, Tells, Concludes, IsCausedTold, IsConcluded, IsRefused}
 
 -- a whole answer has its cause
 pub whole_cause : (asks : Bool) (before : ℕ) (after : Tested) (s : Status) → IsWhole s → HasCause asks before after s
@@ -27,15 +27,19 @@ whole_cause asks before after other w = w
 
 -- ---- what was written
 
+-- the status of a test fault alone has a cause in the tests
+other_cause : (met : Met) (s : Status) → ((place : ℕ) → s ≢ status.TestFault place) → HasTestCause (tests (asked.request met.words)) met.tester s
+other_cause met s other = λ place e. absurd (other place e)
+
 -- the whole text of an output
 written_whole : (met : Met) (text : List ℕ) (s : Status) → s ≢ status.ReadFault → s ≢ status.ShelfFault → OutputOf met s text
     → Appends met.sink.before met.sink.after text → Answers met s
 written_whole met text status.ReadFault r f o a = absurd (r refl)
 written_whole met text status.ShelfFault r f o a = absurd (f refl)
 written_whole met text status.WriteFault r f o a =
-    (text, inl (status.WriteFault, o), AppendsFront-all met.sink.before met.sink.after text a)
+    (text, inl (status.WriteFault, o, other_cause met status.WriteFault (λ place e. cc e)), AppendsFront-all met.sink.before met.sink.after text a)
 written_whole met text status.NoMemory r f o a =
-    inr (text, inl (status.NoMemory, o), AppendsFront-all met.sink.before met.sink.after text a)
+    inr (text, inl (status.NoMemory, o, other_cause met status.NoMemory (λ place e. cc e)), AppendsFront-all met.sink.before met.sink.after text a)
 written_whole met text other r f o a = (text, o, a)
 
 -- a front of a text that was due
@@ -44,13 +48,18 @@ cut_answer : (met : Met) (text : List ℕ) (result : Status) → IsDue met text 
 cut_answer met text result due (inl e) front = subst (Answers met) (sym e) (text, due, front)
 cut_answer met text result due (inr e) front = subst (Answers met) (sym e) (inr (text, due, front))
 
+-- an output of the words, of a failed test only where one failed
+abbrev IsOutputIn : Met → Told → Type 0
+IsOutputIn met told = IsOutput (given_in met) met.source.left told × HasTestCause (tests (asked.request met.words)) met.tester told.status
+
 -- an output was written, or a front of it, or nothing
 written_output : (met : Met) (result : Status) → result ≢ status.ReadFault → result ≢ status.ShelfFault
-    → IsConcluded (λ told. IsOutput (given_in met) met.source.left told) met.sink.before met.sink.after result → Answers met result
+    → IsConcluded (IsOutputIn met) met.sink.before met.sink.after result → Answers met result
 written_output met result r f (inl (told, is, inl (e, all))) =
     subst (Answers met) (sym e)
-    (written_whole met told.text told.status (λ k. r (e ∙ k)) (λ k. f (e ∙ k)) is all)
-written_output met result r f (inl (told, is, inr (cut, front))) = cut_answer met told.text result (inl (told.status, is)) cut front
+    (written_whole met told.text told.status (λ k. r (e ∙ k)) (λ k. f (e ∙ k)) is.0 all)
+written_output met result r f (inl (told, is, inr (cut, front))) =
+    cut_answer met told.text result (inl (told.status, is.0, is.1)) cut front
 written_output met result r f (inr (e, kept)) = subst (Answers met) (sym e) (inl kept)
 
 mapped : (Is Other : Told → Type 0) (before after : Option (List ℕ)) (result : Status) → ((told : Told) → Is told → Other told)
@@ -75,11 +84,15 @@ module _ (met : Met) (request : Request) (result : Status) (read : asked.request
       (λ tested told. IsOutputOf request.verb request (given_to met.words met.shelf.files tested) met.source.left told))
       → (IsErrOf ready Read → IsUnread met) → (IsErrOf ready Shelf → IsUnloaded met)
       → IfOk ready (λ _. (result ≢ status.ReadFault) × (result ≢ status.ShelfFault))
-      → Concludes request met.words met.tester.after ready met.sink.before met.sink.after result → Answers met result
+      → Concludes request met.words met.tester ready met.sink.before met.sink.after result → Answers met result
   answered (Ok ready) output no_read no_file own told =
       written_output met result own.0 own.1
-      (mapped (Tells request met.words met.tester.after ready) (λ t. IsOutput (given_in met) met.source.left t) met.sink.before met.sink.after result
-      (λ t is. is_output t (output met.tester.after t is)) told)
+      (mapped (IsCausedTold (is_run request.verb) met.tester (Tells request met.words met.tester.after ready)) (IsOutputIn met) met.sink.before
+      met.sink.after result
+      (λ t is. (
+        is_output t (output met.tester.after t is.0),
+        subst (λ (r : Result Request ℕ). HasTestCause (tests r) met.tester t.status) (sym read) is.1,
+      )) told)
   answered (Err Read) output is_unread no_file own (inl (e, a)) = subst (Answers met) (sym e) (is_unread refl, a)
   answered (Err Read) output is_unread no_file own (inr (e, front)) = cut_answer met _ result (inr (inl (is_unread refl, refl))) e front
   answered (Err Shelf) output no_read is_unloaded own (inl (e, a)) = subst (Answers met) (sym e) (is_unloaded refl, a)
@@ -88,12 +101,19 @@ module _ (met : Met) (request : Request) (result : Status) (read : asked.request
 
 -- ---- the words are refused
 
+usage_status : (told : Told) (word : ℕ) → told ≡ usage word → told.status ≡ status.Usage word
+unfolding usage
+usage_status told word same = ap (λ (t : Told). t.status) same
+
 pub refused_words : (met : Met) (fault : WordFault) (word : ℕ) (result : Status) → fault ≡ At word → asked.request met.words ≡ Err word
     → result ≢ status.ReadFault → result ≢ status.ShelfFault → IsRefused fault met.sink.before met.sink.after result → Answers met result
 refused_words met fault word result is read r f refused =
     written_output met result r f
-    (mapped (λ told. told ≡ usage word) (λ t. IsOutput (given_in met) met.source.left t) met.sink.before met.sink.after result
-    (λ t same. subst (λ (q : Result Request ℕ). IsOutputFor q (given_in met) met.source.left t) (sym read) same)
+    (mapped (λ told. told ≡ usage word) (IsOutputIn met) met.sink.before met.sink.after result
+    (λ t same. (
+      subst (λ (q : Result Request ℕ). IsOutputFor q (given_in met) met.source.left t) (sym read) same,
+      other_cause met t.status (λ place e. cc (sym (usage_status t word same) ∙ e)),
+    ))
     (subst (λ (x : WordFault). IsRefused x met.sink.before met.sink.after result) is refused))
 
 pub refused_any : (met : Met) (fault : WordFault) (result : Status) → asked.IsRead (asked.request met.words) (Err fault)

@@ -18,7 +18,7 @@ use Rattle.bf_words.specs.declared.request.Request.{Request}
 use Rattle.bf_words.specs.declared.verb.Verb.{Verb}
 use Rattle.bf_words.specs.declared.verb.Verb.TheVariants.{Simulate, Run as RunVerb}
 use Rattle.bf_output.specs.Beginning.{Begun, commits_of, log_on}
-use Rattle.bf_output.specs.Output.{IsSearched}
+use Rattle.bf_output.specs.Output.{IsSearched, is_run}
 use Rattle.bf_output.specs.Simulate.{cut_short, plan_of, run_over}
 use Rattle.bf_output.specs.Tested.{Tested, IsFrontIfTold, run_on, is_test_fault}
 use Rattle.bf_output.specs.declared.status.Status.{Status}
@@ -27,8 +27,9 @@ use Rattle.bf_output.proofs.Runs.{simulated_run}
 use Rattle.bf_output.specs.Told.{Told}
 use Rattle.bf_program.proofs.Answering.{whole_cause}
 use Rattle.bf_program.proofs.Running.{nothing_cut}
-use Rattle.bf_program.specs.Answers.{IsWhole, HasCause, IsFailedTest}
-use Rattle.bf_program.specs.Searching.{IsCutIn, IsToldSoFar, IsSearchSoFar, IsSearchCut, IsConcluded, IsSound, Concludes, Tells, verb_of}
+use Rattle.bf_program.specs.Answers.{IsWhole, HasCause, HasTestCause, IsCaused, IsFailedTest}
+use Rattle.bf_program.specs.Devices.{TesterMet}
+use Rattle.bf_program.specs.Searching.{IsCutIn, IsToldSoFar, IsSearchSoFar, IsSearchCut, IsCausedTold, IsConcluded, IsSound, Concludes, Tells, verb_of}
 use Rattle.bf_program.specs.Tellings.{begun_of, told_of}
 use Rattle.bf_program.specs.Writes.{IsWritten}
 use Rattle.bf_program.specs.declared.answer.Answer.{Answer}
@@ -86,6 +87,7 @@ planned_cut started request words plan tested before after cut told =
     record {
       told = cut_short history first whole;
       is = inr refl;
+      cut = refl;
       front = log_goes_on history first run whole before after
           (subst (λ (o : Option (List Outcome)). IsFrontIfTold o history first run) told cut.planned).begins cut.front;
     }
@@ -110,25 +112,39 @@ tested_cut started request words plan tested before after cut same =
         planned = subst (λ (o : Option (List Outcome)). IsFrontIfTold o history first (run_on history first cut.table)) (sym same) cut.planned;
         tells = refl;
       });
+      cut = refl;
       front = cut.front;
     }
 
 -- ---- what was written
 
-pub concluded : (verb : Verb) (started : Started) (request : Request) (words : List (List ℕ)) (tested : Tested) (before mid after : Option (List ℕ))
-    (answer : Answer) (result : Status)
-    → IsSearchSoFar verb started request words tested before mid answer → IsWritten mid after answer.text answer.status result
-    → IsConcluded (IsSearched verb request words tested started.history (begun_of started.first)) before after result
-concluded verb started request words tested before mid after answer result is (inl (same, all)) =
-    inl (_, is.tells, inl (same, Appends-trans before mid after is.written answer.text is.gained all))
-concluded verb started request words tested before mid after answer result is (inr (cut, front)) =
-    inl (_, is.tells, inr (cut, AppendsFront-second before mid after is.written answer.text is.gained front))
+-- what has its cause tells of a failed test only where one failed
+test_cause : (asks : Bool) (tester : TesterMet) (s : Status) → HasCause asks tester.before.faults tester.after s → HasTestCause asks tester s
+test_cause asks tester s cause = λ place e. subst (HasCause asks tester.before.faults tester.after) e cause
 
-pub concluded_cut : (verb : Verb) (started : Started) (request : Request) (words : List (List ℕ)) (tested : Tested) (before after : Option (List ℕ))
-    (result : Status)
-    → IsSearchCut verb started request words tested before after → (result ≡ status.WriteFault) ⊎ (result ≡ status.NoMemory)
-    → IsConcluded (IsSearched verb request words tested started.history (begun_of started.first)) before after result
-concluded_cut verb started request words tested before after result is cut = inl (is.told, is.is, inr (cut, is.front))
+whole_test_cause : (asks : Bool) (tester : TesterMet) (s : Status) → IsWhole s → HasTestCause asks tester s
+whole_test_cause asks tester s whole = λ place e. absurd (subst IsWhole e whole)
+
+pub concluded : (verb : Verb) (started : Started) (request : Request) (words : List (List ℕ)) (asks : Bool) (tester : TesterMet)
+    (before mid after : Option (List ℕ)) (answer : Answer) (result : Status)
+    → IsSearchSoFar verb started request words tester.after before mid answer → IsCaused asks tester answer
+    → IsWritten mid after answer.text answer.status result
+    → IsConcluded (IsCausedTold asks tester (IsSearched verb request words tester.after started.history (begun_of started.first))) before after result
+concluded verb started request words asks tester before mid after answer result is cause (inl (same, all)) =
+    inl (_, (is.tells, test_cause asks tester answer.status cause), inl (same, Appends-trans before mid after is.written answer.text is.gained all))
+concluded verb started request words asks tester before mid after answer result is cause (inr (cut, front)) =
+    inl (
+      _,
+      (is.tells, test_cause asks tester answer.status cause),
+      inr (cut, AppendsFront-second before mid after is.written answer.text is.gained front),
+    )
+
+pub concluded_cut : (verb : Verb) (started : Started) (request : Request) (words : List (List ℕ)) (asks : Bool) (tester : TesterMet)
+    (before after : Option (List ℕ)) (result : Status)
+    → IsSearchCut verb started request words tester.after before after → (result ≡ status.WriteFault) ⊎ (result ≡ status.NoMemory)
+    → IsConcluded (IsCausedTold asks tester (IsSearched verb request words tester.after started.history (begun_of started.first))) before after result
+concluded_cut verb started request words asks tester before after result is cut =
+    inl (is.told, (is.is, λ place e. cc (sym is.cut ∙ e)), inr (cut, is.front))
 
 -- ---- of a result
 
@@ -213,16 +229,25 @@ write_written asks old new s first before after cause le (inr rose) = rose_since
 -- ---- what was ready
 
 -- a search was concluded as its command has it
-pub concluded_search : (request : Request) (words : List (List ℕ)) (tested : Tested) (started : Started) (before after : Option (List ℕ)) (result : Status)
+pub concluded_search : (request : Request) (words : List (List ℕ)) (tester : TesterMet) (started : Started) (before after : Option (List ℕ))
+    (result : Status)
     → verb_of started.means ≡ request.verb
-    → IsConcluded (IsSearched request.verb request words tested started.history (begun_of started.first)) before after result
-    → IsConcluded (Tells request words tested (Search started)) before after result
-concluded_search request words tested started before after result verb is =
-    subst (λ (v : Verb). IsConcluded (IsSearched v request words tested started.history (begun_of started.first)) before after result) (sym verb) is
+    → IsConcluded (IsCausedTold (is_run request.verb) tester
+    (IsSearched request.verb request words tester.after started.history (begun_of started.first))) before after result
+    → IsConcluded (IsCausedTold (is_run request.verb) tester (Tells request words tester.after (Search started))) before after result
+concluded_search request words tester started before after result verb is =
+    subst
+    (λ (v : Verb).
+    IsConcluded (IsCausedTold (is_run request.verb) tester (IsSearched v request words tester.after started.history (begun_of started.first))) before
+    after result)
+    (sym verb) is
 
-pub concluded_answer : (request : Request) (words : List (List ℕ)) (tested : Tested) (answer : Answer) (before after : Option (List ℕ)) (result : Status)
-    → IsWritten before after answer.text answer.status result → IsConcluded (Tells request words tested (ToldAnswer answer)) before after result
-concluded_answer request words tested answer before after result written = inl (told_of answer, refl, written)
+pub concluded_answer : (request : Request) (words : List (List ℕ)) (tester : TesterMet) (answer : Answer) (before after : Option (List ℕ))
+    (result : Status)
+    → IsWhole answer.status → IsWritten before after answer.text answer.status result
+    → IsConcluded (IsCausedTold (is_run request.verb) tester (Tells request words tester.after (ToldAnswer answer))) before after result
+concluded_answer request words tester answer before after result whole written =
+    inl (told_of answer, (refl, whole_test_cause (is_run request.verb) tester answer.status whole), written)
 
 -- a whole answer that was written ends neither with a fault of a source or shelf, nor with that of a test
 pub whole_own : (before after : Option (List ℕ)) (text : List ℕ) (s result : Status) → IsWhole s → IsWritten before after text s result
@@ -262,12 +287,13 @@ pub sound_answer : (request : Request) (ready : Result Ready Fault) (found : Rea
 sound_answer request ready found answer is of sound =
     subst (IsSound request) of (subst (λ (r : Result Ready Fault). IfOk r (IsSound request)) is sound)
 
-pub concludes : (request : Request) (words : List (List ℕ)) (tested : Tested) (ready : Result Ready Fault) (found matched : Ready)
+pub concludes : (request : Request) (words : List (List ℕ)) (tester : TesterMet) (ready : Result Ready Fault) (found matched : Ready)
     (before after : Option (List ℕ)) (result : Status)
-    → ready ≡ Ok found → found ≡ matched → IsConcluded (Tells request words tested matched) before after result
-    → Concludes request words tested ready before after result
-concludes request words tested ready found matched before after result is of told =
-    subst (λ (r : Result Ready Fault). Concludes request words tested r before after result) (sym (is ∙ ap (λ (r : Ready). Ok r) of)) told
+    → ready ≡ Ok found → found ≡ matched
+    → IsConcluded (IsCausedTold (is_run request.verb) tester (Tells request words tester.after matched)) before after result
+    → Concludes request words tester ready before after result
+concludes request words tester ready found matched before after result is of told =
+    subst (λ (r : Result Ready Fault). Concludes request words tester r before after result) (sym (is ∙ ap (λ (r : Ready). Ok r) of)) told
 
 pub if_ok : {T E : Type 0} (P : Type 0) (result : Result T E) → P → IfOk result (λ t. P)
 if_ok P (Ok t) p = p

@@ -17,7 +17,8 @@ use Rattle.bf_output.specs.Told.{Told}
 use Rattle.bf_output.specs.Traces.{traced_if}
 use Rattle.bf_output.specs.declared.status.Status.{Status}
 use Rattle.bf_program.specs.Answers.{IsBeforeSearch}
-use Rattle.bf_program.specs.Searching.{IsConcluded}
+use Rattle.bf_program.specs.Devices.{TesterMet}
+use Rattle.bf_program.specs.Searching.{IsCausedTold, IsConcluded}
 
 of_ask : (a : Ask) → IsBeforeSearch (status_of_ask a) → ⊥
 of_ask ask.WaitBoth before = before
@@ -69,11 +70,13 @@ of_search Replay request words tested history first told is before = is
 of_search Gen request words tested history first told is before = is
 of_search Sample request words tested history first told is before = is
 
-pub search_began : (verb : Verb) (request : Request) (words : List (List ℕ)) (tested : Tested) (history : History) (first : Begun)
+pub search_began : (verb : Verb) (request : Request) (words : List (List ℕ)) (asks : Bool) (tester : TesterMet) (history : History) (first : Begun)
     (before after : Option (List ℕ)) (result : Status)
-    → IsConcluded (IsSearched verb request words tested history first) before after result → IsBeforeSearch result → ⊥
-search_began verb request words tested history first before after result (inl (told, is, inl (e, all))) refused =
-    of_search verb request words tested history first told is (subst IsBeforeSearch e refused)
-search_began verb request words tested history first before after result (inl (told, is, inr (inl e, front))) refused = subst IsBeforeSearch e refused
-search_began verb request words tested history first before after result (inl (told, is, inr (inr e, front))) refused = subst IsBeforeSearch e refused
-search_began verb request words tested history first before after result (inr (e, kept)) refused = subst IsBeforeSearch e refused
+    → IsConcluded (IsCausedTold asks tester (IsSearched verb request words tester.after history first)) before after result → IsBeforeSearch result → ⊥
+search_began verb request words asks tester history first before after result (inl (told, is, inl (e, all))) refused =
+    of_search verb request words tester.after history first told is.0 (subst IsBeforeSearch e refused)
+search_began verb request words asks tester history first before after result (inl (told, is, inr (inl e, front))) refused =
+    subst IsBeforeSearch e refused
+search_began verb request words asks tester history first before after result (inl (told, is, inr (inr e, front))) refused =
+    subst IsBeforeSearch e refused
+search_began verb request words asks tester history first before after result (inr (e, kept)) refused = subst IsBeforeSearch e refused

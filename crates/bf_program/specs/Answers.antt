@@ -23,10 +23,22 @@ IsUnread met = IsTrue (reads (request met.words)) × HasFailed met.source.faults
 abbrev pub IsUnloaded : Met → Type 0
 IsUnloaded met = IsTrue (asks_file (request met.words)) × HasFailed met.shelf.faults
 
--- a text that the program may have been writing; that of a fault where the source or the shelf failed
+-- the words ask for tests, the count of faults of the tester rose, and its latest failed test is that of the place
+pub record IsFailedTest (asks : Bool) (before : ℕ) (after : Tested) (place : ℕ) : Type 0 where
+  pub asked : IsTrue asks
+  pub rose : Rose before after.faults
+  pub failed : after.failed ≡ Some place
+
+-- a test fault is answered only for a failed test
+abbrev pub HasTestCause : Bool → TesterMet → Status → Type 0
+HasTestCause asks tester result =
+    (place : ℕ) → result ≡ status.TestFault place → IsFailedTest asks tester.before.faults tester.after place
+
+-- a text that the program may have been writing: that of a failed test where one failed, and that of a fault where the source or
+-- the shelf failed
 abbrev pub IsDue : Met → List ℕ → Type 0
 IsDue met text =
-    ((status : Status) × OutputOf met status text)
+    ((status : Status) × OutputOf met status text × HasTestCause (tests (request met.words)) met.tester status)
     ⊎ ((IsUnread met × (text ≡ read_fault.text)) ⊎ (IsUnloaded met × (text ≡ file_fault.text)))
 
 -- the sink gained exactly the text of the definition, with its status
@@ -109,17 +121,6 @@ IsBeforeSearch status.Waiting = ⊥
 -- with such a status the tester is as it was
 abbrev pub IsUntestedIfRefused : TesterMet → Status → Type 0
 IsUntestedIfRefused tester result = IsBeforeSearch result → tester.after ≡ tester.before
-
--- the words ask for tests, the count of faults of the tester rose, and its latest failed test is that of the place
-pub record IsFailedTest (asks : Bool) (before : ℕ) (after : Tested) (place : ℕ) : Type 0 where
-  pub asked : IsTrue asks
-  pub rose : Rose before after.faults
-  pub failed : after.failed ≡ Some place
-
--- a test fault is answered only for a failed test
-abbrev pub HasTestCause : Bool → TesterMet → Status → Type 0
-HasTestCause asks tester result =
-    (place : ℕ) → result ≡ status.TestFault place → IsFailedTest asks tester.before.faults tester.after place
 
 abbrev pub HasTestCauseBy : List (List ℕ) → TesterMet → Status → Type 0
 HasTestCauseBy words tester result = HasTestCause (tests (request words)) tester result

@@ -9,13 +9,13 @@ use Rattle.bf_io.specs.Told.{Keeps, Appends, AppendsFront}
 use Rattle.bf_log.specs.Trace.{leg_line}
 use Rattle.bf_logs.specs.Written.{known_after_all}
 use Rattle.bf_output.specs.Beginning.{Begun, commits_of, log_on}
-use Rattle.bf_output.specs.Output.{IsSearched}
+use Rattle.bf_output.specs.Output.{IsSearched, is_run}
 use Rattle.bf_output.specs.Refusals.{file_fault, read_fault, usage}
 use Rattle.bf_output.specs.Tested.{Tested, IsTested, IsFrontIfTold, run_on, status_at_end, lines_at_end}
 use Rattle.bf_output.specs.Told.{Told, told_by}
 use Rattle.bf_output.specs.Traces.{course_of, whole_leg}
 use Rattle.bf_output.specs.declared.status.Status.{Status}
-use Rattle.bf_output.specs.declared.status.Status.TheVariants.{ReadFault, ShelfFault, NoMemory as OutOfMemory}
+use Rattle.bf_output.specs.declared.status.Status.TheVariants.{ReadFault, WriteFault, ShelfFault, NoMemory as OutOfMemory}
 use Rattle.bf_runs.specs.Courses.{stand_of}
 use Rattle.bf_runs.specs.declared.case.Search.{Search as Searched}
 use Rattle.bf_runs.specs.Legs.{IsBetween, IsReady}
@@ -32,7 +32,7 @@ use Rattle.bf_words.specs.declared.request.WordFault.TheVariants.{At}
 use Rattle.bf_words.specs.declared.request.WordFault.TheVariants as words
 use Rattle.bf_words.specs.declared.verb.Verb.{Verb}
 use Rattle.bf_words.specs.declared.verb.Verb.TheVariants.{Simulate, Run as RunVerb}
-use Rattle.bf_program.specs.Answers.{IsWhole, IsWholeAnswer, HasCause}
+use Rattle.bf_program.specs.Answers.{IsWhole, IsWholeAnswer, HasCause, HasTestCause}
 use Rattle.bf_program.specs.Devices.{SinkMet, TesterMet}
 use Rattle.bf_program.specs.Steps.{IsStep}
 use Rattle.bf_program.specs.Tellings.{begun_of, told_of, AreWithin, Says}
@@ -207,6 +207,7 @@ pub record IsSearchCut (verb : Verb) (started : Started) (request : Request) (wo
     (before after : Option (List ℕ)) : Type 0 where
   pub told : Told
   pub is : IsSearched verb request words tested started.history (begun_of started.first) told
+  pub cut : told.status ≡ WriteFault
   pub front : AppendsFront before after told.text
 
 -- a run that was cut short: a front of the log on what was known was written
@@ -259,24 +260,30 @@ IsConcluded IsTold before after result =
     ((told : Told) × IsTold told × IsWritten before after told.text told.status result)
     ⊎ ((result ≡ OutOfMemory) × Keeps before after)
 
+-- it may be told, and a failed test is told only where one failed
+abbrev pub IsCausedTold : Bool → TesterMet → (Told → Type 0) → Told → Type 0
+IsCausedTold asks tester IsTold told = IsTold told × HasTestCause asks tester told.status
+
 -- what the command of a line tells of its search was written, or a front of it; or memory ran out before all
-abbrev pub ConcludesSearch : Line → Started → Tested → SinkMet → Status → Type 0
-ConcludesSearch line started tested sink result =
+abbrev pub ConcludesSearch : Line → Started → TesterMet → SinkMet → Status → Type 0
+ConcludesSearch line started tester sink result =
     IsConcluded
-    (IsSearched line.request.now.verb line.request.now line.words.now tested started.history (begun_of started.first))
+    (IsCausedTold (is_run line.request.now.verb) tester
+    (IsSearched line.request.now.verb line.request.now line.words.now tester.after started.history (begun_of started.first)))
     sink.before sink.after result
 
 -- what is told before the tests or by them was written, or the line of what stood in its way
-abbrev pub Concludes : Request → List (List ℕ) → Tested → Result Ready Fault → Option (List ℕ) → Option (List ℕ) → Status → Type 0
-Concludes request words tested (Ok ready) before after result = IsConcluded (Tells request words tested ready) before after result
-Concludes request words tested (Err Read) before after result = IsWritten before after read_fault.text ReadFault result
-Concludes request words tested (Err Shelf) before after result = IsWritten before after file_fault.text ShelfFault result
-Concludes request words tested (Err NoMemory) before after result = (result ≡ OutOfMemory) × Keeps before after
+abbrev pub Concludes : Request → List (List ℕ) → TesterMet → Result Ready Fault → Option (List ℕ) → Option (List ℕ) → Status → Type 0
+Concludes request words tester (Ok ready) before after result =
+    IsConcluded (IsCausedTold (is_run request.verb) tester (Tells request words tester.after ready)) before after result
+Concludes request words tester (Err Read) before after result = IsWritten before after read_fault.text ReadFault result
+Concludes request words tester (Err Shelf) before after result = IsWritten before after file_fault.text ShelfFault result
+Concludes request words tester (Err NoMemory) before after result = (result ≡ OutOfMemory) × Keeps before after
 
 -- the same of a line
-abbrev pub ConcludesLine : Line → Tested → Result Ready Fault → SinkMet → Status → Type 0
-ConcludesLine line tested ready sink result =
-    Concludes line.request.now line.words.now tested ready sink.before sink.after result
+abbrev pub ConcludesLine : Line → TesterMet → Result Ready Fault → SinkMet → Status → Type 0
+ConcludesLine line tester ready sink result =
+    Concludes line.request.now line.words.now tester ready sink.before sink.after result
 
 -- the refusal of the words was written, or memory ran out
 abbrev pub IsRefused : WordFault → Option (List ℕ) → Option (List ℕ) → Status → Type 0

@@ -43,7 +43,7 @@ pub(crate) fn search<R: Host, T: Tester, K: Sink>(
     requires asked { verb_of started.means ≡ line.request.now.verb }
     requires fresh { T.answers tester.old ≡ [] }
     requires is_split { T.is_split tester.old ≡ false }
-    ensures told { ConcludesSearch line.entry started (tested_by T.Tester tester.new)
+    ensures told { ConcludesSearch line.entry started (met_tester T.Tester tester.old tester.new)
         (met_sink K.Sink out.old out.new) result }
     ensures test { HasTestCauseIn line.entry (met_tester T.Tester tester.old tester.new) result }
     ensures write { result ≡ Status.WriteFault → Rose (K.faults out.old) (K.faults out.new) }

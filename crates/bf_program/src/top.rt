@@ -2,7 +2,6 @@
 ghost use Rattle.std.specs.Prelude.{◌≡◌, ◌≢◌, ℕ, [], false, IfOk};
 ghost use Rattle.bf_io.specs.Causes.{Rose};
 ghost use Rattle.bf_output.specs.Output.{asks_file, reads};
-ghost use Rattle.bf_output.specs.Tested.{tested_by};
 ghost use Rattle.bf_words.specs.Words.{request};
 ghost use Rattle.bf_program.specs.Answers.{Answers, HasTestCauseBy, IsComplete, IsUntestedIfRefused, IsUsedBy};
 ghost use Rattle.bf_program.specs.Devices.{IsLeftUnless, met, met_shelf, met_sink, met_source, met_tester};
@@ -111,7 +110,7 @@ fn conclude<R: Host, T: Tester, K: Sink>(
     requires sound { IfOk ready (IsSound line.request.now) }
     requires fresh { T.answers tester.old ≡ [] }
     requires is_split { T.is_split tester.old ≡ false }
-    ensures told { ConcludesLine line.entry (tested_by T.Tester tester.new) ready
+    ensures told { ConcludesLine line.entry (met_tester T.Tester tester.old tester.new) ready
         (met_sink K.Sink out.old out.new) result }
     ensures own { IfOk ready (λ _. (result ≢ Status.ReadFault) × (result ≢ Status.ShelfFault)) }
     ensures test { HasTestCauseIn line.entry (met_tester T.Tester tester.old tester.new) result }
