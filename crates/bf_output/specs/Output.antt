@@ -20,7 +20,7 @@ use Rattle.bf_output.specs.Refusals.{usage, refusal}
 use Rattle.bf_output.specs.Replay.{replay_told}
 use Rattle.bf_output.specs.Sample.{sampled}
 use Rattle.bf_output.specs.Simulate.{IsSimulated}
-use Rattle.bf_output.specs.Tested.{Tested, IsTested, IsTestCut, IsUsed}
+use Rattle.bf_output.specs.Tested.{Tested, IsTested, IsTestCut, IsTestLost, IsUsed}
 use Rattle.bf_output.specs.Told.{Told, told_by}
 
 -- what the program is given beside its stream: its words, the files of its shelf, and what its tester shows
@@ -38,7 +38,8 @@ given_to words files tested = record { words = words; files = files; tested = te
 abbrev pub IsSearched : Verb → Request → List (List ℕ) → Tested → History → Begun → Told → Type 0
 IsSearched Simulate request words tested history first told = IsSimulated request words history first told
 IsSearched Run request words tested history first told =
-    IsTested request tested history first told ⊎ IsTestCut tested.plan history first told
+    IsTested request tested history first told
+    ⊎ (IsTestCut request tested history first told ⊎ IsTestLost tested.plan history first told)
 IsSearched Next request words tested history first told = ⊥
 IsSearched Replay request words tested history first told = ⊥
 IsSearched Gen request words tested history first told = ⊥

@@ -77,9 +77,13 @@ abbrev pub IsRunTold : Bool → Request → List Outcome → History → Begun �
 IsRunTold false request plan history first told = told ≡ ran history first (run_over history first plan)
 IsRunTold true request plan history first told = IsTracedRun request plan history first told
 
--- a run that was cut short after a leg: its log was due
+-- a run that a write cut short after a leg: its log was due
 abbrev pub cut_short : History → Begun → Run → Told
 cut_short history first run = record { status = status.WriteFault; text = log_on history first run.entries }
+
+-- and one that want of memory cut short
+abbrev pub out_of_memory : History → Begun → Run → Told
+out_of_memory history first run = record { status = status.NoMemory; text = log_on history first run.entries }
 
 abbrev pub IsSimulated : Request → List (List ℕ) → History → Begun → Told → Type 0
 IsSimulated request words history first told =

@@ -1,8 +1,9 @@
 -- A search whose commits are tested: what it answers by the answers that a tester gave.
-use Rattle.std.specs.Prelude.{◌≡◌, ℕ, Bool, true, false, ◌||◌, List, [], ◌++◌, drop, Option, Some, None, IfSome, ◌⊎◌}
+use Rattle.std.specs.Prelude.{◌≡◌, ℕ, ◌≤◌, Bool, true, false, ◌||◌, List, [], ◌++◌, drop, map, Option, Some, None, IfSome, ◌⊎◌}
+use Rattle.bf_farm.specs.Answering.{pair_of}
 use Rattle.bf_history.specs.Meanings.{History}
 use Rattle.bf_log.specs.Trace.{failed_test_line}
-use Rattle.bf_runs.specs.Legs.{Legs, IsOver}
+use Rattle.bf_runs.specs.Legs.{Legs, IsKnown, IsOver}
 use Rattle.bf_search.specs.declared.outcomes.Outcome.{Outcome}
 use Rattle.bf_search.specs.Outcomes.{outcomes_of_table}
 use Rattle.bf_search.specs.Run.{End, Answered, Leg, Open, Aborted, Run, one_at_a_time}
@@ -15,7 +16,7 @@ use Rattle.bf_words.specs.declared.request.Request.{Request}
 use Rattle.bf_output.specs.declared.status.Status.{Status}
 use Rattle.bf_output.specs.declared.status.Status.TheVariants as status
 use Rattle.bf_output.specs.Beginning.{Begun, commits_of, log_on}
-use Rattle.bf_output.specs.Simulate.{run_over, status_of_end, cut_short}
+use Rattle.bf_output.specs.Simulate.{run_over, status_of_end, cut_short, out_of_memory}
 use Rattle.bf_output.specs.Told.{Told}
 use Rattle.bf_output.specs.Traces.{course_of, traced_if}
 
@@ -83,11 +84,24 @@ pub record IsTested (request : Request) (tested : Tested) (history : History) (f
   pub planned : IsFrontIfTold tested.plan history first (run_on history first table)
   pub tells : told ≡ traced_if request.trace history legs (told_of_run history first (run_on history first table))
 
--- A search that was cut short after a leg: the log of a run on some outcomes was due and, where outcomes are told, on these.
-pub record IsTestCut (told : Option (List Outcome)) (history : History) (first : Begun) (cut : Told) : Type 0 where
+-- the answers are the first that a run used, in its order
+pub record AreFirstUsed (answers : List Answer) (run : Run) : Type 0 where
+  pub rest : List (ℕ × Outcome)
+  pub begins : run.used ≡ map pair_of answers ++ rest
+
+-- A search that a write cut short after a leg: the log of the run on what its tester answered was due.
+pub record IsTestCut (request : Request) (tested : Tested) (history : History) (first : Begun) (cut : Told) : Type 0 where
+  pub table : List (Option Outcome)
+  pub known : IsKnown history.names tested.plan tested.answers table
+  pub planned : IsFrontIfTold tested.plan history first (run_on history first table)
+  pub alone : request.workers ≤ 1 → AreFirstUsed tested.answers (run_on history first table)
+  pub tells : cut ≡ cut_short history first (run_on history first table)
+
+-- One that want of memory cut short: the log of a run on some outcomes was due and, where outcomes are told, on these.
+pub record IsTestLost (told : Option (List Outcome)) (history : History) (first : Begun) (lost : Told) : Type 0 where
   pub table : List (Option Outcome)
   pub planned : IsFrontIfTold told history first (run_on history first table)
-  pub tells : cut ≡ cut_short history first (run_on history first table)
+  pub tells : lost ≡ out_of_memory history first (run_on history first table)
 
 -- ---- the tester itself
 

@@ -37,16 +37,18 @@ written_whole : (met : Met) (text : List ℕ) (s : Status) → s ≢ status.Read
 written_whole met text status.ReadFault r f o a = absurd (r refl)
 written_whole met text status.ShelfFault r f o a = absurd (f refl)
 written_whole met text status.WriteFault r f o a =
-    (text, inl (status.WriteFault, o, other_cause met status.WriteFault (λ place e. cc e)), AppendsFront-all met.sink.before met.sink.after text a)
+    (text, inl (status.WriteFault, o, other_cause met status.WriteFault (λ place e. cc e), λ e. cc e), AppendsFront-all met.sink.before met.sink.after text a)
 written_whole met text status.NoMemory r f o a =
-    inr (text, inl (status.NoMemory, o, other_cause met status.NoMemory (λ place e. cc e)), AppendsFront-all met.sink.before met.sink.after text a)
+    inr (text, inl (status.NoMemory, o, other_cause met status.NoMemory (λ place e. cc e), λ e. e), AppendsFront-all met.sink.before met.sink.after text a)
 written_whole met text other r f o a = (text, o, a)
 
 -- a front of a text that was due
-cut_answer : (met : Met) (text : List ℕ) (result : Status) → IsDue met text → (result ≡ status.WriteFault) ⊎ (result ≡ status.NoMemory)
+cut_answer : (met : Met) (text : List ℕ) (result : Status) → IsDue met result text → (result ≡ status.WriteFault) ⊎ (result ≡ status.NoMemory)
     → AppendsFront met.sink.before met.sink.after text → Answers met result
-cut_answer met text result due (inl e) front = subst (Answers met) (sym e) (text, due, front)
-cut_answer met text result due (inr e) front = subst (Answers met) (sym e) (inr (text, due, front))
+cut_answer met text result due (inl e) front =
+    subst (Answers met) (sym e) (text, subst (λ (s : Status). IsDue met s text) e due, front)
+cut_answer met text result due (inr e) front =
+    subst (Answers met) (sym e) (inr (text, subst (λ (s : Status). IsDue met s text) e due, front))
 
 -- an output of the words, of a failed test only where one failed
 abbrev IsOutputIn : Met → Told → Type 0
@@ -55,16 +57,16 @@ IsOutputIn met told = IsOutput (given_in met) met.source.left told × HasTestCau
 -- an output was written, or a front of it, or nothing
 written_output : (met : Met) (result : Status) → result ≢ status.ReadFault → result ≢ status.ShelfFault
     → IsConcluded (IsOutputIn met) met.sink.before met.sink.after result → Answers met result
-written_output met result r f (inl (told, is, inl (e, all))) =
+written_output met result r f (inl (told, is, lost, inl (e, all))) =
     subst (Answers met) (sym e)
     (written_whole met told.text told.status (λ k. r (e ∙ k)) (λ k. f (e ∙ k)) is.0 all)
-written_output met result r f (inl (told, is, inr (cut, front))) =
-    cut_answer met told.text result (inl (told.status, is.0, is.1)) cut front
+written_output met result r f (inl (told, is, lost, inr (cut, front))) =
+    cut_answer met told.text result (inl (told.status, is.0, is.1, lost)) cut front
 written_output met result r f (inr (e, kept)) = subst (Answers met) (sym e) (inl kept)
 
 mapped : (Is Other : Told → Type 0) (before after : Option (List ℕ)) (result : Status) → ((told : Told) → Is told → Other told)
     → IsConcluded Is before after result → IsConcluded Other before after result
-mapped Is Other before after result h (inl (told, is, written)) = inl (told, h told is, written)
+mapped Is Other before after result h (inl (told, is, lost, written)) = inl (told, h told is, lost, written)
 mapped Is Other before after result h (inr rest) = inr rest
 
 -- ---- the words ask for something

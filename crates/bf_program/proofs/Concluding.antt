@@ -5,6 +5,8 @@ use Rattle.std.proofs.lemmas.List.{append_assoc}
 use Rattle.bf_history.specs.Meanings.{History}
 use Rattle.bf_farm.proofs.Asked.{rose_since}
 use Rattle.bf_io.specs.Causes.{Rose}
+use Rattle.bf_io.specs.declared.device.SinkFault.{SinkFault}
+use Rattle.bf_io.specs.declared.device.SinkFault.TheVariants as writes
 use Rattle.bf_io.specs.Told.{AppendsFront}
 use Rattle.bf_io.proofs.Told.{Appends-trans, AppendsFront-first, AppendsFront-second}
 use Rattle.bf_logs.specs.Written.{known_after_all}
@@ -19,17 +21,16 @@ use Rattle.bf_words.specs.declared.verb.Verb.{Verb}
 use Rattle.bf_words.specs.declared.verb.Verb.TheVariants.{Simulate, Run as RunVerb}
 use Rattle.bf_output.specs.Beginning.{Begun, commits_of, log_on}
 use Rattle.bf_output.specs.Output.{IsSearched, is_run}
-use Rattle.bf_output.specs.Simulate.{cut_short, plan_of, run_over}
+use Rattle.bf_output.specs.Simulate.{cut_short, out_of_memory, plan_of, run_over}
 use Rattle.bf_output.specs.Tested.{Tested, IsFrontIfTold, run_on, is_test_fault}
 use Rattle.bf_output.specs.declared.status.Status.{Status}
 use Rattle.bf_output.specs.declared.status.Status.TheVariants as status
 use Rattle.bf_output.proofs.Runs.{simulated_run}
 use Rattle.bf_output.specs.Told.{Told}
 use Rattle.bf_program.proofs.Answering.{whole_cause}
-use Rattle.bf_program.proofs.Running.{nothing_cut}
-use Rattle.bf_program.specs.Answers.{IsWhole, HasCause, HasTestCause, IsCaused, IsFailedTest}
+use Rattle.bf_program.specs.Answers.{IsWhole, HasCause, HasTestCause, IsCaused, IsFailedTest, IsLostAs}
 use Rattle.bf_program.specs.Devices.{TesterMet}
-use Rattle.bf_program.specs.Searching.{IsCutIn, IsToldSoFar, IsSearchSoFar, IsSearchCut, IsCausedTold, IsConcluded, IsSound, Concludes, Tells, verb_of}
+use Rattle.bf_program.specs.Searching.{IsCutBy, IsCutIn, IsToldSoFar, IsSearchSoFar, IsSearchCut, IsCausedTold, IsConcluded, IsSound, Concludes, Tells, verb_of}
 use Rattle.bf_program.specs.Tellings.{begun_of, told_of}
 use Rattle.bf_program.specs.Writes.{IsWritten}
 use Rattle.bf_program.specs.declared.answer.Answer.{Answer}
@@ -75,11 +76,11 @@ log_goes_on history first run whole before after goes front =
     (append_assoc first.entries run.entries goes.rest ∙ ap (λ (es : List Entry). first.entries ++ es) (sym goes.goes_on)))
     (AppendsFront-first before after (log_on history first run.entries) more front)
 
-pub planned_cut : (started : Started) (request : Request) (words : List (List ℕ)) (plan : Option (List Outcome)) (tested : Tested)
+pub planned_cut : (started : Started) (request : Request) (words : List (List ℕ)) (planned tested : Tested) (fault : SinkFault)
     (before after : Option (List ℕ))
-    → IsCutIn plan started.history (begun_of started.first) before after → plan ≡ Some (plan_of request words)
-    → IsSearchCut Simulate started request words tested before after
-planned_cut started request words plan tested before after cut told =
+    → IsCutIn request planned started.history (begun_of started.first) fault before after → planned.plan ≡ Some (plan_of request words)
+    → IsSearchCut Simulate started request words tested fault before after
+planned_cut started request words planned tested fault before after cut told =
     let history = started.history in
     let first = begun_of started.first in
     let run = run_on history first cut.table in
@@ -87,7 +88,7 @@ planned_cut started request words plan tested before after cut told =
     record {
       told = cut_short history first whole;
       is = inr refl;
-      cut = refl;
+      cut = inl refl;
       front = log_goes_on history first run whole before after
           (subst (λ (o : Option (List Outcome)). IsFrontIfTold o history first run) told cut.planned).begins cut.front;
     }
@@ -99,20 +100,25 @@ pub tested_so_far : (started : Started) (request : Request) (words : List (List 
     → IsSearchSoFar RunVerb started request words tested before after answer
 tested_so_far started request words tested before after answer is = record { written = is.written; gained = is.gained; tells = inl is.tells }
 
-pub tested_cut : (started : Started) (request : Request) (words : List (List ℕ)) (plan : Option (List Outcome)) (tested : Tested)
-    (before after : Option (List ℕ))
-    → IsCutIn plan started.history (begun_of started.first) before after → tested.plan ≡ plan → IsSearchCut RunVerb started request words tested before after
-tested_cut started request words plan tested before after cut same =
+pub tested_cut : (started : Started) (request : Request) (words : List (List ℕ)) (tested : Tested) (fault : SinkFault) (before after : Option (List ℕ))
+    → IsCutIn request tested started.history (begun_of started.first) fault before after
+    → IsSearchCut RunVerb started request words tested fault before after
+tested_cut started request words tested writes.Failed before after cut =
     let history = started.history in
     let first = begun_of started.first in
     record {
       told = cut_short history first (run_on history first cut.table);
-      is = inr (record {
-        table = cut.table;
-        planned = subst (λ (o : Option (List Outcome)). IsFrontIfTold o history first (run_on history first cut.table)) (sym same) cut.planned;
-        tells = refl;
-      });
-      cut = refl;
+      is = inr (inl (record { table = cut.table; known = cut.known refl; planned = cut.planned; alone = cut.alone refl; tells = refl }));
+      cut = inl refl;
+      front = cut.front;
+    }
+tested_cut started request words tested writes.NoMemory before after cut =
+    let history = started.history in
+    let first = begun_of started.first in
+    record {
+      told = out_of_memory history first (run_on history first cut.table);
+      is = inr (inr (record { table = cut.table; planned = cut.planned; tells = refl }));
+      cut = inr (refl, refl);
       front = cut.front;
     }
 
@@ -125,26 +131,50 @@ test_cause asks tester s cause = λ place e. subst (HasCause asks tester.before.
 whole_test_cause : (asks : Bool) (tester : TesterMet) (s : Status) → IsWhole s → HasTestCause asks tester s
 whole_test_cause asks tester s whole = λ place e. absurd (subst IsWhole e whole)
 
+-- what has its cause, or is whole, is no run that want of memory cut short
+caused_not_lost : (asks : Bool) (tester : TesterMet) (s result : Status) → HasCause asks tester.before.faults tester.after s → IsLostAs s result
+caused_not_lost asks tester s result cause = λ lost. absurd (subst (HasCause asks tester.before.faults tester.after) lost cause)
+
+whole_not_lost : (s result : Status) → IsWhole s → IsLostAs s result
+whole_not_lost s result whole = λ lost. absurd (subst IsWhole lost whole)
+
 pub concluded : (verb : Verb) (started : Started) (request : Request) (words : List (List ℕ)) (asks : Bool) (tester : TesterMet)
     (before mid after : Option (List ℕ)) (answer : Answer) (result : Status)
     → IsSearchSoFar verb started request words tester.after before mid answer → IsCaused asks tester answer
     → IsWritten mid after answer.text answer.status result
     → IsConcluded (IsCausedTold asks tester (IsSearched verb request words tester.after started.history (begun_of started.first))) before after result
 concluded verb started request words asks tester before mid after answer result is cause (inl (same, all)) =
-    inl (_, (is.tells, test_cause asks tester answer.status cause), inl (same, Appends-trans before mid after is.written answer.text is.gained all))
+    inl (
+      _,
+      (is.tells, test_cause asks tester answer.status cause),
+      caused_not_lost asks tester answer.status result cause,
+      inl (same, Appends-trans before mid after is.written answer.text is.gained all),
+    )
 concluded verb started request words asks tester before mid after answer result is cause (inr (cut, front)) =
     inl (
       _,
       (is.tells, test_cause asks tester answer.status cause),
+      caused_not_lost asks tester answer.status result cause,
       inr (cut, AppendsFront-second before mid after is.written answer.text is.gained front),
     )
 
-pub concluded_cut : (verb : Verb) (started : Started) (request : Request) (words : List (List ℕ)) (asks : Bool) (tester : TesterMet)
+-- a run that want of memory cut short ends so
+lost_as : (fault : SinkFault) (s result : Status) → IsCutBy fault s → (fault ≡ writes.NoMemory → result ≡ status.NoMemory) → IsLostAs s result
+lost_as fault s result (inl e) memory = λ lost. cc (sym e ∙ lost)
+lost_as fault s result (inr (e, is)) memory = λ lost. memory is
+
+-- and tells of no failed test
+cut_test_cause : (asks : Bool) (tester : TesterMet) (fault : SinkFault) (s : Status) → IsCutBy fault s → HasTestCause asks tester s
+cut_test_cause asks tester fault s (inl e) = λ place is. cc (sym e ∙ is)
+cut_test_cause asks tester fault s (inr (e, memory)) = λ place is. cc (sym e ∙ is)
+
+pub concluded_cut : (verb : Verb) (started : Started) (request : Request) (words : List (List ℕ)) (asks : Bool) (tester : TesterMet) (fault : SinkFault)
     (before after : Option (List ℕ)) (result : Status)
-    → IsSearchCut verb started request words tester.after before after → (result ≡ status.WriteFault) ⊎ (result ≡ status.NoMemory)
+    → IsSearchCut verb started request words tester.after fault before after → (result ≡ status.WriteFault) ⊎ (result ≡ status.NoMemory)
+    → (fault ≡ writes.NoMemory → result ≡ status.NoMemory)
     → IsConcluded (IsCausedTold asks tester (IsSearched verb request words tester.after started.history (begun_of started.first))) before after result
-concluded_cut verb started request words asks tester before after result is cut =
-    inl (is.told, (is.is, λ place e. cc (sym is.cut ∙ e)), inr (cut, is.front))
+concluded_cut verb started request words asks tester fault before after result is cut memory =
+    inl (is.told, (is.is, cut_test_cause asks tester fault is.told.status is.cut), lost_as fault is.told.status result is.cut memory, inr (cut, is.front))
 
 -- ---- of a result
 
@@ -162,13 +192,13 @@ pub planned_whole : {E : Type 0} (count : ℕ) (planned : Tested) (result : Resu
 planned_whole count planned (Err e) cause none = tt
 planned_whole count planned (Ok answer) cause none = whole_status true count planned answer.status cause (λ place f. cc (sym none ∙ f.failed))
 
-pub planned_cuts : {E : Type 0} (started : Started) (request : Request) (words : List (List ℕ)) (plan : Option (List Outcome)) (tested : Tested)
-    (before after : Option (List ℕ))
-    (result : Result Answer E) → IfErr result (λ fault. IsCutIn plan started.history (begun_of started.first) before after)
-    → plan ≡ Some (plan_of request words)
-    → IfErr result (λ fault. IsSearchCut Simulate started request words tested before after)
-planned_cuts started request words plan tested before after (Ok answer) cut told = tt
-planned_cuts started request words plan tested before after (Err e) cut told = planned_cut started request words plan tested before after cut told
+pub planned_cuts : (started : Started) (request : Request) (words : List (List ℕ)) (planned tested : Tested) (before after : Option (List ℕ))
+    (result : Result Answer SinkFault)
+    → IfErr result (λ fault. IsCutIn request planned started.history (begun_of started.first) fault before after)
+    → planned.plan ≡ Some (plan_of request words)
+    → IfErr result (λ fault. IsSearchCut Simulate started request words tested fault before after)
+planned_cuts started request words planned tested before after (Ok answer) cut told = tt
+planned_cuts started request words planned tested before after (Err e) cut told = planned_cut started request words planned tested e before after cut told
 
 pub tested_told : {E : Type 0} (started : Started) (request : Request) (words : List (List ℕ)) (tested : Tested) (before after : Option (List ℕ))
     (result : Result Answer E)
@@ -177,20 +207,12 @@ pub tested_told : {E : Type 0} (started : Started) (request : Request) (words : 
 tested_told started request words tested before after (Err e) is = tt
 tested_told started request words tested before after (Ok answer) is = tested_so_far started request words tested before after answer is
 
-pub tested_cuts : {E : Type 0} (started : Started) (request : Request) (words : List (List ℕ)) (plan : Option (List Outcome)) (tested : Tested)
-    (before after : Option (List ℕ))
-    (result : Result Answer E) → IfErr result (λ fault. IsCutIn plan started.history (begun_of started.first) before after) → tested.plan ≡ plan
-    → IfErr result (λ fault. IsSearchCut RunVerb started request words tested before after)
-tested_cuts started request words plan tested before after (Ok answer) cut same = tt
-tested_cuts started request words plan tested before after (Err e) cut same = tested_cut started request words plan tested before after cut same
-
--- nothing was written, and the words were not tested
-pub none_cut : (verb : Verb) (started : Started) (request : Request) (words : List (List ℕ)) (plan : Option (List Outcome)) (tested : Tested)
-    (held : Option (List ℕ))
-    → verb ≡ RunVerb → tested.plan ≡ plan → IsSearchCut verb started request words tested held held
-none_cut verb started request words plan tested held is same =
-    subst (λ (v : Verb). IsSearchCut v started request words tested held held) (sym is)
-    (tested_cut started request words plan tested held held (nothing_cut plan started.history (begun_of started.first) held) same)
+pub tested_cuts : (started : Started) (request : Request) (words : List (List ℕ)) (tested : Tested) (before after : Option (List ℕ))
+    (result : Result Answer SinkFault)
+    → IfErr result (λ fault. IsCutIn request tested started.history (begun_of started.first) fault before after)
+    → IfErr result (λ fault. IsSearchCut RunVerb started request words tested fault before after)
+tested_cuts started request words tested before after (Ok answer) cut = tt
+tested_cuts started request words tested before after (Err e) cut = tested_cut started request words tested e before after cut
 
 -- ---- causes
 
@@ -247,7 +269,7 @@ pub concluded_answer : (request : Request) (words : List (List ℕ)) (tester : T
     → IsWhole answer.status → IsWritten before after answer.text answer.status result
     → IsConcluded (IsCausedTold (is_run request.verb) tester (Tells request words tester.after (ToldAnswer answer))) before after result
 concluded_answer request words tester answer before after result whole written =
-    inl (told_of answer, (refl, whole_test_cause (is_run request.verb) tester answer.status whole), written)
+    inl (told_of answer, (refl, whole_test_cause (is_run request.verb) tester answer.status whole), whole_not_lost answer.status result whole, written)
 
 -- a whole answer that was written ends neither with a fault of a source or shelf, nor with that of a test
 pub whole_own : (before after : Option (List ℕ)) (text : List ℕ) (s result : Status) → IsWhole s → IsWritten before after text s result
@@ -272,8 +294,9 @@ fault_is_no_test before after text s result place other (inr (cut, front)) is = 
 
 -- the refusal of the words was written
 pub refused_written : (meaning : Told) (answer : Answer) (before after : Option (List ℕ)) (result : Status) → told_of answer ≡ meaning
-    → IsWritten before after answer.text answer.status result → IsConcluded (λ told. told ≡ meaning) before after result
-refused_written meaning answer before after result is written = inl (told_of answer, is, written)
+    → IsWhole answer.status → IsWritten before after answer.text answer.status result → IsConcluded (λ told. told ≡ meaning) before after result
+refused_written meaning answer before after result is whole written =
+    inl (told_of answer, is, whole_not_lost answer.status result whole, written)
 
 -- ---- as it was matched
 

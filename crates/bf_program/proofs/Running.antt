@@ -2,6 +2,7 @@
 use Rattle.std.proofs.Common.{◌≡◌, ◌≢◌, ℕ, ◌≤◌, Bool, true, false, List, [], ◌∷◌, ◌++◌, length, map, replicate, Option, Some, None, option_map, unwrap_or}
 use Rattle.std.proofs.Common.{Result, Ok, Err, IfOk, IfErr, refl, sym, ap, subst, ◌∙◌}
 use Rattle.std.specs.List.{flat_map}
+use Rattle.std.specs.Result.{IsErrAnd}
 use Rattle.std.proofs.lemmas.Grind.{flat_map-append}
 use Rattle.std.proofs.lemmas.List.{append_assoc, append-nil, length-replicate}
 use Rattle.bf_farm.specs.Answering.{pair_of, HasFault}
@@ -34,11 +35,13 @@ use Rattle.bf_runs.specs.Legs.{Course, Stand, leg_run, IsKnown, IsBetween, IsOve
 use Rattle.bf_runs.proofs.Fresh.{fresh_in, fresh_follows}
 use Rattle.bf_runs.proofs.Sequences.{over_graph, part_same}
 use Rattle.bf_output.specs.Beginning.{Begun, commits_of, log_on}
-use Rattle.bf_output.specs.Tested.{Tested, IsTested, run_on, status_at_end, lines_at_end, told_of_run}
+use Rattle.bf_output.specs.Tested.{Tested, IsFrontIfTold, IsTested, run_on, status_at_end, lines_at_end, told_of_run}
 use Rattle.bf_output.specs.Traces.{course_of, whole_leg, traced_if}
 use Rattle.bf_output.specs.declared.status.Status.{Status}
 use Rattle.bf_output.specs.declared.status.Status.TheVariants as status
 use Rattle.bf_output.proofs.Runs.{front_if_told}
+use Rattle.bf_io.specs.declared.device.SinkFault.{SinkFault}
+use Rattle.bf_io.specs.declared.device.SinkFault.TheVariants as writes
 use Rattle.bf_program.specs.Searching.{IsRunning, IsGone, IsNextReady, IsOnWith, IsOverWith, HasGoneCause, IsCutIn, trace_so_far}
 use Rattle.bf_program.specs.Telling.{trace_begun}
 use Rattle.bf_program.specs.Tellings.{begun_of}
@@ -294,11 +297,11 @@ gone_cause before after history report told (Over answer) fault on over =
 -- ---- cut short
 
 -- a front of what was about to be written is a front of the log on what is known
-pub running_cut : (request : Request) (tested : Tested) (history : History) (first : Begun) (written : List ℕ) (running : Running)
+pub running_cut : (request : Request) (tested : Tested) (history : History) (first : Begun) (fault : SinkFault) (written : List ℕ) (running : Running)
     (before mid after : Option (List ℕ))
     → IsRunning request tested history first written running → Appends before mid written → AppendsFront mid after running.telling.text
-    → IsCutIn tested.plan history first before after
-running_cut request tested history first written running before mid after is gained front =
+    → IsCutIn request tested history first fault before after
+running_cut request tested history first fault written running before mid after is gained front =
     let table = running.standing.table in
     let rest = one_at_a_time history.parents is.run.search (outcomes_of_table table) 0 in
     let whole : run_on history first table ≡ in_sequence is.run rest = is.between.goes_on (outcomes_of_table table) (part_same (outcomes_of_table table)) in
@@ -310,19 +313,43 @@ running_cut request tested history first written running before mid after is gai
     ∙ ap (λ (r : Run). log_on history first r.entries) (sym whole) in
     record {
       table = table;
+      known = λ failed. is.between.known;
       planned = front_if_told tested.plan history first table is.between.known.planned;
+      alone = λ failed le. record {
+        rest = rest.used;
+        begins = ap (λ (r : Run). r.used) whole ∙ ap (λ (used : List (ℕ × Outcome)). used ++ rest.used) (sym (is.between.alone le).given);
+      };
       front = subst (λ (t : List ℕ). AppendsFront before after t) text
           (AppendsFront-first before after (written ++ running.telling.text) more
           (AppendsFront-second before mid after written running.telling.text gained front));
     }
 
--- nothing was written
-pub nothing_cut : (told : Option (List Outcome)) (history : History) (first : Begun) (held : Option (List ℕ)) → IsCutIn told history first held held
-nothing_cut told history first held =
+-- memory ran out in a leg: what was written is a front of the log on what was known before it
+pub lost_cut : (request : Request) (tested later : Tested) (history : History) (first : Begun) (fault : SinkFault) (written : List ℕ) (running : Running)
+    (before after : Option (List ℕ))
+    → later.plan ≡ tested.plan → fault ≡ writes.NoMemory
+    → IsRunning request tested history first written running → Appends before after written
+    → IsCutIn request later history first fault before after
+lost_cut request tested later history first fault written running before after same memory is gained =
+    let cut = running_cut request tested history first fault written running before after after is gained (AppendsFront-none _ _) in
+    record {
+      table = cut.table;
+      known = λ failed. cc (sym memory ∙ failed);
+      planned = subst (λ (plan : Option (List Outcome)). IsFrontIfTold plan history first (run_on history first cut.table)) (sym same) cut.planned;
+      alone = λ failed le. cc (sym memory ∙ failed);
+      front = cut.front;
+    }
+
+-- memory ran out before anything was written
+pub nothing_cut : (request : Request) (tested : Tested) (history : History) (first : Begun) (fault : SinkFault) (held : Option (List ℕ))
+    → fault ≡ writes.NoMemory → IsCutIn request tested history first fault held held
+nothing_cut request tested history first fault held memory =
     let none = replicate (length history.parents) None in
     record {
       table = none;
-      planned = front_if_told told history first none (fresh_follows told (length history.parents) none refl);
+      known = λ failed. cc (sym memory ∙ failed);
+      planned = front_if_told tested.plan history first none (fresh_follows tested.plan (length history.parents) none refl);
+      alone = λ failed le. cc (sym memory ∙ failed);
       front = AppendsFront-none held (log_on history first (run_on history first none).entries);
     }
 
@@ -385,9 +412,16 @@ next_ready told answers history report telling (Ok (On next)) ready on over = mo
 
 -- ---- through all legs
 
-pub if_err : {T E : Type 0} (P : Type 0) (result : Result T E) → P → IfErr result (λ e. P)
+-- whatever the error is
+pub if_err : {T E : Type 0} (P : E → Type 0) (result : Result T E) → ((e : E) → P e) → IfErr result P
 if_err P (Ok t) p = tt
-if_err P (Err e) p = p
+if_err P (Err e) p = p e
+
+-- an error that is want of memory
+pub if_memory : {T : Type 0} (P : SinkFault → Type 0) (result : Result T SinkFault) → IsErrAnd result (λ e. e ≡ writes.NoMemory)
+    → ((e : SinkFault) → e ≡ writes.NoMemory → P e) → IfErr result P
+if_memory P (Ok t) is p = tt
+if_memory P (Err e) is p = p e is
 
 -- the lines so far were written
 pub flushed : (request : Request) (tested : Tested) (history : History) (first : Begun) (written : List ℕ) (running : Running) (text : List ℕ)

@@ -64,7 +64,8 @@ of_search Simulate request words tested history first told (inr cut) before = of
 of_search Run request words tested history first told (inl is) before =
     let run = run_on history first is.table in
     at_end run.end (of_traced request.trace history is.legs (told_of_run history first run) (of_told told _ is.tells before))
-of_search Run request words tested history first told (inr cut) before = of_told told _ cut.tells before
+of_search Run request words tested history first told (inr (inl cut)) before = of_told told _ cut.tells before
+of_search Run request words tested history first told (inr (inr lost)) before = of_told told _ lost.tells before
 of_search Next request words tested history first told is before = is
 of_search Replay request words tested history first told is before = is
 of_search Gen request words tested history first told is before = is
@@ -73,10 +74,10 @@ of_search Sample request words tested history first told is before = is
 pub search_began : (verb : Verb) (request : Request) (words : List (List ℕ)) (asks : Bool) (tester : TesterMet) (history : History) (first : Begun)
     (before after : Option (List ℕ)) (result : Status)
     → IsConcluded (IsCausedTold asks tester (IsSearched verb request words tester.after history first)) before after result → IsBeforeSearch result → ⊥
-search_began verb request words asks tester history first before after result (inl (told, is, inl (e, all))) refused =
+search_began verb request words asks tester history first before after result (inl (told, is, lost, inl (e, all))) refused =
     of_search verb request words tester.after history first told is.0 (subst IsBeforeSearch e refused)
-search_began verb request words asks tester history first before after result (inl (told, is, inr (inl e, front))) refused =
+search_began verb request words asks tester history first before after result (inl (told, is, lost, inr (inl e, front))) refused =
     subst IsBeforeSearch e refused
-search_began verb request words asks tester history first before after result (inl (told, is, inr (inr e, front))) refused =
+search_began verb request words asks tester history first before after result (inl (told, is, lost, inr (inr e, front))) refused =
     subst IsBeforeSearch e refused
 search_began verb request words asks tester history first before after result (inr (e, kept)) refused = subst IsBeforeSearch e refused

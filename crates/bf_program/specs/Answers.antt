@@ -34,11 +34,15 @@ abbrev pub HasTestCause : Bool → TesterMet → Status → Type 0
 HasTestCause asks tester result =
     (place : ℕ) → result ≡ status.TestFault place → IsFailedTest asks tester.before.faults tester.after place
 
+-- the text of a run that want of memory cut short is due only where memory ran out
+abbrev pub IsLostAs : Status → Status → Type 0
+IsLostAs due result = due ≡ status.NoMemory → result ≡ status.NoMemory
+
 -- a text that the program may have been writing: that of a failed test where one failed, and that of a fault where the source or
 -- the shelf failed
-abbrev pub IsDue : Met → List ℕ → Type 0
-IsDue met text =
-    ((status : Status) × OutputOf met status text × HasTestCause (tests (request met.words)) met.tester status)
+abbrev pub IsDue : Met → Status → List ℕ → Type 0
+IsDue met result text =
+    ((status : Status) × OutputOf met status text × HasTestCause (tests (request met.words)) met.tester status × IsLostAs status result)
     ⊎ ((IsUnread met × (text ≡ read_fault.text)) ⊎ (IsUnloaded met × (text ≡ file_fault.text)))
 
 -- the sink gained exactly the text of the definition, with its status
@@ -54,14 +58,14 @@ abbrev pub IsShelfFault : Met → Type 0
 IsShelfFault met = IsUnloaded met × Appends met.sink.before met.sink.after file_fault.text
 
 -- the program was cut short, and the sink gained a front of the text that was due
-abbrev pub IsCutShort : Met → Type 0
-IsCutShort met = (text : List ℕ) × IsDue met text × AppendsFront met.sink.before met.sink.after text
+abbrev pub IsCutShort : Met → Status → Type 0
+IsCutShort met result = (text : List ℕ) × IsDue met result text × AppendsFront met.sink.before met.sink.after text
 
 -- what the sink gained, by the status
 abbrev pub Answers : Met → Status → Type 0
 Answers met status.ReadFault = IsReadFault met
-Answers met status.WriteFault = IsCutShort met
-Answers met status.NoMemory = Keeps met.sink.before met.sink.after ⊎ IsCutShort met
+Answers met status.WriteFault = IsCutShort met status.WriteFault
+Answers met status.NoMemory = Keeps met.sink.before met.sink.after ⊎ IsCutShort met status.NoMemory
 Answers met status.ShelfFault = IsShelfFault met
 Answers met other = IsAnswered met other
 

@@ -1,24 +1,26 @@
 -- A search on its way from its beginning to its answer.
-use Rattle.std.specs.Prelude.{◌≡◌, ◌≢◌, ℕ, Bool, true, List, [], ◌++◌, length, if◌then◌else◌, Option, Some, None, Result, Ok, Err, IfOk, IfErr, ◌⊎◌}
+use Rattle.std.specs.Prelude.{◌≡◌, ◌≢◌, ℕ, ◌≤◌, Bool, true, List, [], ◌++◌, length, if◌then◌else◌, Option, Some, None, Result, Ok, Err, IfOk, IfErr, ◌⊎◌}
 use Rattle.std.specs.List.{flat_map}
 use Rattle.std.specs.Option.{option_map, unwrap_or}
 use Rattle.bf_farm.specs.declared.report.Report.{Report}
 use Rattle.bf_guesses.specs.Ends.{HasEnds}
 use Rattle.bf_history.specs.Meanings.{History}
 use Rattle.bf_io.specs.Told.{Keeps, Appends, AppendsFront}
+use Rattle.bf_io.specs.declared.device.SinkFault.{SinkFault}
+use Rattle.bf_io.specs.declared.device.SinkFault.TheVariants as writes
 use Rattle.bf_log.specs.Trace.{leg_line}
 use Rattle.bf_logs.specs.Written.{known_after_all}
 use Rattle.bf_output.specs.Beginning.{Begun, commits_of, log_on}
 use Rattle.bf_output.specs.Output.{IsSearched, is_run}
 use Rattle.bf_output.specs.Refusals.{file_fault, read_fault, usage}
-use Rattle.bf_output.specs.Tested.{Tested, IsTested, IsFrontIfTold, run_on, status_at_end, lines_at_end}
+use Rattle.bf_output.specs.Tested.{Tested, AreFirstUsed, IsTested, IsFrontIfTold, run_on, status_at_end, lines_at_end}
 use Rattle.bf_output.specs.Told.{Told, told_by}
 use Rattle.bf_output.specs.Traces.{course_of, whole_leg}
 use Rattle.bf_output.specs.declared.status.Status.{Status}
 use Rattle.bf_output.specs.declared.status.Status.TheVariants.{ReadFault, WriteFault, ShelfFault, NoMemory as OutOfMemory}
 use Rattle.bf_runs.specs.Courses.{stand_of}
 use Rattle.bf_runs.specs.declared.case.Search.{Search as Searched}
-use Rattle.bf_runs.specs.Legs.{IsBetween, IsReady}
+use Rattle.bf_runs.specs.Legs.{IsBetween, IsKnown, IsReady}
 use Rattle.bf_search.specs.declared.farm.Ending.TheVariants as ending
 use Rattle.bf_search.specs.declared.farm.Event.{Event}
 use Rattle.bf_search.specs.declared.outcomes.Outcome.{Outcome}
@@ -32,7 +34,7 @@ use Rattle.bf_words.specs.declared.request.WordFault.TheVariants.{At}
 use Rattle.bf_words.specs.declared.request.WordFault.TheVariants as words
 use Rattle.bf_words.specs.declared.verb.Verb.{Verb}
 use Rattle.bf_words.specs.declared.verb.Verb.TheVariants.{Simulate, Run as RunVerb}
-use Rattle.bf_program.specs.Answers.{IsWhole, IsWholeAnswer, HasCause, HasTestCause}
+use Rattle.bf_program.specs.Answers.{IsWhole, IsWholeAnswer, HasCause, HasTestCause, IsLostAs}
 use Rattle.bf_program.specs.Devices.{SinkMet, TesterMet}
 use Rattle.bf_program.specs.Steps.{IsStep}
 use Rattle.bf_program.specs.Tellings.{begun_of, told_of, AreWithin, Says}
@@ -202,18 +204,25 @@ pub record IsSearchSoFar (verb : Verb) (started : Started) (request : Request) (
   pub gained : Appends before after written
   pub tells : IsSearched verb request words tested started.history (begun_of started.first) (record { status = answer.status; text = written ++ answer.text })
 
+-- a run that is cut short by a write, or by want of memory, is told as such
+abbrev pub IsCutBy : SinkFault → Status → Type 0
+IsCutBy fault status = (status ≡ WriteFault) ⊎ ((status ≡ OutOfMemory) × (fault ≡ writes.NoMemory))
+
 -- a front of what the command tells of its search was written
-pub record IsSearchCut (verb : Verb) (started : Started) (request : Request) (words : List (List ℕ)) (tested : Tested)
+pub record IsSearchCut (verb : Verb) (started : Started) (request : Request) (words : List (List ℕ)) (tested : Tested) (fault : SinkFault)
     (before after : Option (List ℕ)) : Type 0 where
   pub told : Told
   pub is : IsSearched verb request words tested started.history (begun_of started.first) told
-  pub cut : told.status ≡ WriteFault
+  pub cut : IsCutBy fault told.status
   pub front : AppendsFront before after told.text
 
--- a run that was cut short: a front of the log on what was known was written
-pub record IsCutIn (told : Option (List Outcome)) (history : History) (first : Begun) (before after : Option (List ℕ)) : Type 0 where
+-- a run that was cut short: a front of the log on what was known was written, which the tester answered where a write failed
+pub record IsCutIn (request : Request) (tested : Tested) (history : History) (first : Begun) (fault : SinkFault) (before after : Option (List ℕ))
+    : Type 0 where
   pub table : List (Option Outcome)
-  pub planned : IsFrontIfTold told history first (run_on history first table)
+  pub known : fault ≡ writes.Failed → IsKnown history.names tested.plan tested.answers table
+  pub planned : IsFrontIfTold tested.plan history first (run_on history first table)
+  pub alone : fault ≡ writes.Failed → request.workers ≤ 1 → AreFirstUsed tested.answers (run_on history first table)
   pub front : AppendsFront before after (log_on history first (run_on history first table).entries)
 
 -- what a run tells behind what was written of it, whatever search the run is of
@@ -226,13 +235,13 @@ TellsRest search running tester sink result =
     → IfOk result (IsToldSoFar request tester.after search.history.now first sink.before sink.after)
 
 -- where it is cut short, a front of its log was written
-abbrev pub CutsRest : {E : Type 0} → Searched → Running → Tested → SinkMet → Result Answer E → Type 0
-CutsRest search running tested sink result =
+abbrev pub CutsRest : Searched → Running → TesterMet → SinkMet → Result Answer SinkFault → Type 0
+CutsRest search running tester sink result =
     (request : Request) (first : Begun)
     → request.leg ≡ search.leg
     → request.workers ≡ search.workers
-    → IsRunning request tested search.history.now first [] running
-    → IfErr result (λ fault. IsCutIn tested.plan search.history.now first sink.before sink.after)
+    → IsRunning request tester.before search.history.now first [] running
+    → IfErr result (λ fault. IsCutIn request tester.after search.history.now first fault sink.before sink.after)
 
 -- what was written and this answer are what a search tells that has begun
 abbrev pub TellsRun : Line → Started → Tested → SinkMet → Answer → Type 0
@@ -240,9 +249,9 @@ TellsRun line started tested sink answer =
     IsToldSoFar line.request.now tested started.history (begun_of started.first) sink.before sink.after answer
 
 -- where it is cut short, a front of its log was written
-abbrev pub CutsRun : {E : Type 0} → Started → Option (List Outcome) → SinkMet → Result Answer E → Type 0
-CutsRun started told sink result =
-    IfErr result (λ fault. IsCutIn told started.history (begun_of started.first) sink.before sink.after)
+abbrev pub CutsRun : Line → Started → Tested → SinkMet → Result Answer SinkFault → Type 0
+CutsRun line started tested sink result =
+    IfErr result (λ fault. IsCutIn line.request.now tested started.history (begun_of started.first) fault sink.before sink.after)
 
 -- what was written and this answer are what the command tells of its search
 abbrev pub TellsSearch : Verb → Line → Started → Tested → SinkMet → Answer → Type 0
@@ -250,14 +259,14 @@ TellsSearch verb line started tested sink answer =
     IsSearchSoFar verb started line.request.now line.words.now tested sink.before sink.after answer
 
 -- where it is cut short, a front of what the command tells was written
-abbrev pub CutsSearch : {E : Type 0} → Verb → Line → Started → Tested → SinkMet → Result Answer E → Type 0
+abbrev pub CutsSearch : Verb → Line → Started → Tested → SinkMet → Result Answer SinkFault → Type 0
 CutsSearch verb line started tested sink result =
-    IfErr result (λ fault. IsSearchCut verb started line.request.now line.words.now tested sink.before sink.after)
+    IfErr result (λ fault. IsSearchCut verb started line.request.now line.words.now tested fault sink.before sink.after)
 
 -- something that may be told was written, or a front of it; or memory ran out before all
 abbrev pub IsConcluded : (Told → Type 0) → Option (List ℕ) → Option (List ℕ) → Status → Type 0
 IsConcluded IsTold before after result =
-    ((told : Told) × IsTold told × IsWritten before after told.text told.status result)
+    ((told : Told) × IsTold told × IsLostAs told.status result × IsWritten before after told.text told.status result)
     ⊎ ((result ≡ OutOfMemory) × Keeps before after)
 
 -- it may be told, and a failed test is told only where one failed

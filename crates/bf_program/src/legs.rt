@@ -127,7 +127,7 @@ fn go_through<R: Host, T: Tester, K: Sink>(
     requires is_split { T.is_split tester.old ≡ false }
     ensures told { TellsRest search.entry running (met_tester T.Tester tester.old tester.new)
         (met_sink K.Sink out.old out.new) result }
-    ensures cut { CutsRest search.entry running (tested_by T.Tester tester.old)
+    ensures cut { CutsRest search.entry running (met_tester T.Tester tester.old tester.new)
         (met_sink K.Sink out.old out.new) result }
     ensures cause { IfOk result (IsCaused true (met_tester T.Tester tester.old tester.new)) }
     ensures write { FailsOnlyAt SinkFault.Failed (K.faults out.old) (K.faults out.new) result }
@@ -159,7 +159,8 @@ pub(crate) fn run_legs<R: Host, T: Tester, K: Sink>(
     requires is_split { T.is_split tester.old ≡ false }
     ensures told { IfOk result (TellsRun line.entry started (tested_by T.Tester tester.new)
         (met_sink K.Sink out.old out.new)) }
-    ensures cut { CutsRun started (T.told tester.old) (met_sink K.Sink out.old out.new) result }
+    ensures cut { CutsRun line.entry started (tested_by T.Tester tester.new)
+        (met_sink K.Sink out.old out.new) result }
     ensures cause { IfOk result (IsCaused true (met_tester T.Tester tester.old tester.new)) }
     ensures write { FailsOnlyAt SinkFault.Failed (K.faults out.old) (K.faults out.new) result }
     ensures manner { KeepsManner T.Tester tester.old tester.new }

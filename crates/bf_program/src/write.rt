@@ -23,6 +23,7 @@ pub fn say<K: Sink>(out: &mut K, text: &[u8], status: Status) -> Status
 pub(crate) fn status_of_fault(fault: SinkFault) -> Status
     ensures cut { (result ≡ Status.WriteFault) ⊎ (result ≡ Status.NoMemory) }
     ensures cause { result ≡ Status.WriteFault → fault ≡ SinkFault.Failed }
+    ensures memory { fault ≡ SinkFault.NoMemory → result ≡ Status.NoMemory }
 {
     match fault {
         SinkFault::Failed => Status::WriteFault,

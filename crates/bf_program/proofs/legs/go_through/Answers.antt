@@ -1,10 +1,10 @@
 use Rattle.std.proofs.Common.{List, [], ◌++◌, Option, refl, sym, ap, subst, ◌∙◌, arith}
 use Rattle.bf_farm.specs.Reports.{Manner}
-use Rattle.bf_io.proofs.Told.{Appends-nil, Appends-trans, AppendsFront-none}
+use Rattle.bf_io.proofs.Told.{Appends-nil, Appends-trans}
 use Rattle.bf_runs.specs.Legs.{IsReady}
 use Rattle.bf_search.specs.declared.outcomes.Outcome.{Outcome}
-use Rattle.bf_program.specs.Searching.{IsCutIn}
-use Rattle.bf_program.proofs.Running.{cause_since, flushed, if_err, running_cut}
+use Rattle.bf_output.specs.Tested.{tested_by}
+use Rattle.bf_program.proofs.Running.{cause_since, flushed, if_err, if_memory, lost_cut, running_cut}
 use Rattle.bf_program.proofs.legs.go_through.Goals as goal
 
 pub loop-init : goal.loop-init
@@ -25,11 +25,10 @@ go_on-requires-clause-ready g c = λ κs within.
 pub returns-in_err-answer-clause-cut : goal.returns-in_err-answer-clause-cut
 returns-in_err-answer-clause-cut g c = λ request first leg workers is.
     let come = c.loop.invariant.come request first leg workers is in
-    if_err _ c.from_residual.result
-    (subst (λ (told : Option (List Outcome)). IsCutIn told c.args.search.history.now first (g.K.Sink.held c.args.out.now) (g.K.Sink.held c.loop.out))
-    (ap (λ (m : Manner). m.told) c.loop.invariant.manner)
-    (running_cut request _ c.args.search.history.now first come.written c.loop.running (g.K.Sink.held c.args.out.now) (g.K.Sink.held c.loop.out)
-    (g.K.Sink.held c.loop.out) come.is come.gained (AppendsFront-none _ _)))
+    if_memory _ c.from_residual.result c.from_residual.ensures.1
+    (λ fault memory. lost_cut request (tested_by g.T.Tester c.loop.tester) (tested_by g.T.Tester c.go_on.new.tester) c.args.search.history.now first fault
+    come.written c.loop.running (g.K.Sink.held c.args.out.now) (g.K.Sink.held c.loop.out)
+    (ap (λ (m : Manner). m.told) c.in_err-answer.ensures.manner) memory come.is come.gained)
 
 pub returns-in-Over-clause-told : goal.returns-in-Over-clause-told
 returns-in-Over-clause-told g c = λ request first leg workers is.
@@ -49,11 +48,9 @@ returns-in_err-write_and_flush-clause-cut g c = λ request first leg workers is.
     let come = c.loop.invariant.come request first leg workers is in
     let next = rw c.in-On.is at (c.in_ok-answer.ensures.goes request first come.written leg workers come.is) in
     if_err _ c.from_residual-in_err-write_and_flush.result
-    (subst (λ (told : Option (List Outcome)). IsCutIn told c.args.search.history.now first (g.K.Sink.held c.args.out.now)
-    (g.K.Sink.held c.write_and_flush.new.out))
-    (ap (λ (m : Manner). m.told) (c.in_ok-answer.ensures.manner ∙ c.loop.invariant.manner))
-    (running_cut request _ c.args.search.history.now first come.written c.in-On.next (g.K.Sink.held c.args.out.now) (g.K.Sink.held c.loop.out)
-    (g.K.Sink.held c.write_and_flush.new.out) next come.gained (rw c.as_slice.ensures at c.in_err-write_and_flush.ensures.front)))
+    (λ fault. running_cut request (tested_by g.T.Tester c.go_on.new.tester) c.args.search.history.now first fault come.written c.in-On.next
+    (g.K.Sink.held c.args.out.now) (g.K.Sink.held c.loop.out) (g.K.Sink.held c.write_and_flush.new.out) next come.gained
+    (rw c.as_slice.ensures at c.in_err-write_and_flush.ensures.front))
 
 pub loop-preserved : goal.loop-preserved
 loop-preserved g c = record {

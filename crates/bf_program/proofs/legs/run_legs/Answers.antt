@@ -1,12 +1,14 @@
 use Rattle.std.proofs.Common.{refl}
 use Rattle.bf_output.specs.Tested.{tested_by}
 use Rattle.bf_program.specs.Tellings.{begun_of}
-use Rattle.bf_program.proofs.Running.{if_err, nothing_cut}
+use Rattle.bf_program.proofs.Running.{if_memory, nothing_cut}
 use Rattle.bf_program.proofs.legs.run_legs.Goals as goal
 
 pub returns-in_err-running-clause-cut : goal.returns-in_err-running-clause-cut
 returns-in_err-running-clause-cut g c =
-    if_err _ c.from_residual.result (nothing_cut (g.T.Tester.told c.args.tester.now) c.args.started.history (begun_of c.args.started.first) _)
+    if_memory _ c.from_residual.result c.from_residual.ensures.1
+    (λ fault memory. nothing_cut c.args.line.request.now (tested_by g.T.Tester c.args.tester.now) c.args.started.history
+    (begun_of c.args.started.first) fault _ memory)
 
 pub go_through-requires-clause-ready : goal.go_through-requires-clause-ready
 go_through-requires-clause-ready g c = λ κs within.

@@ -24,8 +24,8 @@ returns-in-Ok-clause-own g c =
 pub returns-in-Err-clause-told : goal.returns-in-Err-clause-told
 returns-in-Err-clause-told g c =
     concluded_cut c.args.line.request.now.verb c.args.started c.args.line.request.now c.args.line.words.now (is_run c.args.line.request.now.verb)
-    (met_tester g.T.Tester c.args.tester.now c.search_by.new.tester) _ _ c.status_of_fault.result
-    (rw c.in-Err.is at c.search_by.ensures.cut) c.status_of_fault.ensures.cut
+    (met_tester g.T.Tester c.args.tester.now c.search_by.new.tester) c.in-Err.fault _ _ c.status_of_fault.result
+    (rw c.in-Err.is at c.search_by.ensures.cut) c.status_of_fault.ensures.cut c.status_of_fault.ensures.memory
 
 pub returns-in-Err-clause-test : goal.returns-in-Err-clause-test
 returns-in-Err-clause-test g c = λ place e. absurd (cut_is_no_test c.status_of_fault.result place c.status_of_fault.ensures.cut e)

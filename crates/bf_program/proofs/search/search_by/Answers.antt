@@ -21,7 +21,7 @@ pub returns-in-Plan-clause-cut : goal.returns-in-Plan-clause-cut
 returns-in-Plan-clause-cut g c =
     let verb : Simulate ≡ c.args.line.request.now.verb = rw c.in-Plan.is at c.requires.asked in
     let tested = tested_by g.T.Tester c.args.tester.now in
-    subst (λ (v : Verb). IfErr c.search_by_plan.result (λ fault. IsSearchCut v c.args.started c.args.line.request.now c.args.line.words.now tested
+    subst (λ (v : Verb). IfErr c.search_by_plan.result (λ fault. IsSearchCut v c.args.started c.args.line.request.now c.args.line.words.now tested fault
     (g.K.Sink.held c.args.out.now) (g.K.Sink.held c.search_by_plan.new.out))) verb (c.search_by_plan.ensures.cut tested)
 
 pub returns-in-Plan-clause-cause : goal.returns-in-Plan-clause-cause
@@ -42,7 +42,7 @@ pub returns-in-Command-clause-cut : goal.returns-in-Command-clause-cut
 returns-in-Command-clause-cut g c =
     let verb : Run ≡ c.args.line.request.now.verb = rw c.in-Command.is at c.requires.asked in
     let tested = tested_by g.T.Tester c.search_by_command.new.tester in
-    subst (λ (v : Verb). IfErr c.search_by_command.result (λ fault. IsSearchCut v c.args.started c.args.line.request.now c.args.line.words.now tested
+    subst (λ (v : Verb). IfErr c.search_by_command.result (λ fault. IsSearchCut v c.args.started c.args.line.request.now c.args.line.words.now tested fault
     (g.K.Sink.held c.args.out.now) (g.K.Sink.held c.search_by_command.new.out))) verb c.search_by_command.ensures.cut
 
 pub returns-in-Command-clause-cause : goal.returns-in-Command-clause-cause

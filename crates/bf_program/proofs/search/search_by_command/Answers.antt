@@ -1,16 +1,15 @@
-use Rattle.std.proofs.Common.{ap}
-use Rattle.bf_farm.specs.Reports.{Manner}
+use Rattle.bf_output.specs.Tested.{tested_by}
 use Rattle.bf_program.specs.Tellings.{begun_of}
 use Rattle.bf_program.proofs.Concluding.{tested_cut, tested_cuts, tested_told}
-use Rattle.bf_program.proofs.Running.{if_err, nothing_cut}
+use Rattle.bf_program.proofs.Running.{if_memory, nothing_cut}
 use Rattle.bf_program.proofs.search.search_by_command.Goals as goal
 
 pub returns-in_err-prepare-clause-cut : goal.returns-in_err-prepare-clause-cut
 returns-in_err-prepare-clause-cut g c =
-    if_err _ c.from_residual.result
-    (tested_cut c.args.started c.args.line.request.now c.args.line.words.now _ _ _ _
-    (nothing_cut (g.T.Tester.told c.args.tester.now) c.args.started.history (begun_of c.args.started.first) _)
-    c.in_err-prepare.ensures.err_told)
+    let tested = tested_by g.T.Tester c.prepare.new.self in
+    if_memory _ c.from_residual.result c.from_residual.ensures.1
+    (λ fault memory. tested_cut c.args.started c.args.line.request.now c.args.line.words.now tested fault _ _
+    (nothing_cut c.args.line.request.now tested c.args.started.history (begun_of c.args.started.first) fault _ memory))
 
 pub returns-clause-told : goal.returns-clause-told
 returns-clause-told g c =
@@ -18,5 +17,4 @@ returns-clause-told g c =
 
 pub returns-clause-cut : goal.returns-clause-cut
 returns-clause-cut g c =
-    tested_cuts c.args.started c.args.line.request.now c.args.line.words.now _ _ _ _ c.run_legs.result c.run_legs.ensures.cut
-    (ap (λ (m : Manner). m.told) c.run_legs.ensures.manner)
+    tested_cuts c.args.started c.args.line.request.now c.args.line.words.now _ _ _ c.run_legs.result c.run_legs.ensures.cut
