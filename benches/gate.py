@@ -9,16 +9,16 @@ import watch
 
 PAGE = """# The merge gate, crate by crate
 
-What the gate proved and tried. A function is one with a body, or a law; each is proved to meet its contract. An edit is a
-wrong line that the proofs must refuse (`must-fail/`). Minutes are of processors, from nothing: of the proof of a crate, of
-the proof of its tests, which proves the crate once more, and of its edits, which begin with a proof of the crate. Numbers
-in brackets stand in the sources, and the logs do not tell of them; `-` was not seen.
+What the gate proved and tried. A function is one with a body, or a law; each is proved to meet its contract. An edit is
+a wrong line that the proofs must refuse (`must-fail/`). Minutes are of processors, from nothing: of the proof of a
+crate, of the proof of its tests, which proves the crate once more, and of its edits, which begin with a proof of the
+crate. Numbers in brackets stand in the sources, and the logs do not tell of them; `-` was not seen.
 
     benches/bench.py watch TIMES.json &
     rt ci >LOG
     benches/bench.py gate LOG.. TIMES.json >docs/GATE.md
 
-make this page.
+make this page up to the end of the table.
 
 | Crate | Functions proved | Tests passed | Edits refused | Proof | Tests | Edits |
 |---|---:|---:|---:|---:|---:|---:|
