@@ -32,7 +32,8 @@ proved build left, which is made where there is none; FARMDAWN may name another 
 
 Ratios say how many times as fast as git a program is; times are of processors, where nothing else is said, and memory is
 the greatest that the program alone had. Imports below five seconds are run five times, in turns with git, and the least
-counts. The status is 1 where something is not as it must be.
+counts. The status is 1 where something is not as it must be; where a program ends with a status that is not due, nothing
+more is measured.
 """
 import argparse
 import os
@@ -52,14 +53,15 @@ import gate
 import repository
 import streams
 import watch
-from measure import least, measure
+from measure import STOPPED, least, measure
 from repository import git
 
 TOP = os.path.dirname(os.path.dirname(os.path.abspath(__file__)))
 HAS_GIT = shutil.which("git") is not None
 MAIN, OLD = "refs/heads/main", "refs/heads/old"
+# one commit is both bad and good, which ends with status 5
 NOTHING_TO_ASK = ["simulate", MAIN, MAIN, ""]
-# a name that means no commit is refused once the stream is read
+# a name that means no commit is refused once the stream is read, with status 8
 NOTHING_BUT_IMPORT = ["next", "no-commit", OLD]
 NO_COMMIT = b"name refused at word 1: unknown\n"
 
@@ -146,7 +148,7 @@ def import_(bench, commits, files, megabytes):
         count = bench.write(make, size)
 
         def cost():
-            return bench.ask(*NOTHING_BUT_IMPORT)
+            return bench.ask(*NOTHING_BUT_IMPORT, due=(8,))
 
         ours = least(cost)
         if ours.output != NO_COMMIT:
@@ -157,28 +159,33 @@ def import_(bench, commits, files, megabytes):
         if HAS_GIT:
             bench.beside_git(label, cost)
     bench.write(streams.mark_far, commits // 2)
-    one_mark = bench.ask(*NOTHING_BUT_IMPORT)
+    one_mark = bench.ask(*NOTHING_BUT_IMPORT, due=(8,))
     bench.write(streams.generated, commits // 2)
-    without = bench.ask(*NOTHING_BUT_IMPORT)
+    without = bench.ask(*NOTHING_BUT_IMPORT, due=(8,))
     print(f"mark 536870911: farmdawn {one_mark}; without it {without}")
     bench.write(streams.generated, 100001)
-    answer = bench.ask(*NOTHING_BUT_IMPORT).output.decode().strip()
+    answer = bench.ask(*NOTHING_BUT_IMPORT, due=(9,)).output.decode().strip()
     print(f"100001 commits: {answer}")
     return one_mark.peak < without.peak + 10240 and answer == "too large: commits"
 
 
 def stream(bench, megabytes, count):
-    def piped(*command):
-        return measure(["sh", "-c", 'file=$1; shift; cat "$file" | "$@"', "sh", bench.stream, *command]).seconds
+    def piped(*command, **options):
+        return measure(["sh", "-c", 'file=$1; shift; cat "$file" | "$@"', "sh", bench.stream, *command], **options)
 
     for make, size in ((streams.contents, megabytes), (streams.commands, count)):
         label = f"{make.__name__} {size}"
         million = bench.write(make, size) / 1e6
-        ours, plain = piped(bench.program), piped("cat")
+        cost = piped(bench.program, keep=bench.path("output"))
+        if not re.fullmatch(rb"\d+ commands\n", cost.output):  # a refusal ends with status 0, too
+            print(f"{label}: bench_stream says {cost.output.decode(errors='replace').strip()}")
+            return False
+        ours, plain = cost.seconds, piped("cat").seconds
         print(f"{label}: {million:.0f} MB; bench_stream {million / ours:.0f} MB/s, cat {million / plain:.0f} MB/s, by the clock")
         if HAS_GIT:
-            theirs = piped("git", "-C", repository.empty(bench.path(make.__name__)), "fast-import", "--quiet")
+            theirs = piped("git", "-C", repository.empty(bench.path(make.__name__)), "fast-import", "--quiet").seconds
             print(f"{label}: git fast-import {million / theirs:.0f} MB/s; {ratio(theirs, ours)}")
+    return True
 
 
 def shaped(bench, shape):
@@ -202,8 +209,8 @@ def entries(bench, files, *counts):
     right = True
     for count in counts:
         bench.write(streams.pool, files, count)
-        ours = bench.ask(*NOTHING_BUT_IMPORT)
-        due = NO_COMMIT if count <= 40000000 else b"too large: entries\n"
+        status, due = (8, NO_COMMIT) if count <= 40000000 else (9, b"too large: entries\n")
+        ours = bench.ask(*NOTHING_BUT_IMPORT, due=(status,))
         print(f"{count} entries: farmdawn {ours}, {ours.output.decode(errors='replace').strip()}", flush=True)
         right &= ours.output == due and ours.peak < 400 << 10
     return right
@@ -227,7 +234,8 @@ def weights(bench, *sizes):
                 bench.write(streams.shape, kind, size)
                 _, folder = bench.git_import()
                 first = git(folder, "rev-list", "--max-parents=0", "main")
-                theirs = measure(["git", "-C", folder, "rev-list", "--bisect-all", "main", f"^{first}"], limit=300)
+                theirs = measure(["git", "-C", folder, "rev-list", "--bisect-all", "main", f"^{first}"], limit=300,
+                                 due=(0, STOPPED))
                 print(f"{kind} {size}: git rev-list --bisect-all {theirs}; {ratio(theirs.processor, ours.processor)}")
 
 
@@ -241,10 +249,10 @@ def plan_of(size):
     return "g" * (size * 2 // 3) + "b" * (size - size * 2 // 3)
 
 
-def searched(bench, plan):
+def searched(bench, plan, due=0):
     """How many tests a search over a plan makes, and its processor seconds above those of the import."""
-    alone = bench.ask(*NOTHING_TO_ASK)
-    whole = bench.ask("simulate", MAIN, OLD, plan)
+    alone = bench.ask(*NOTHING_TO_ASK, due=(5,))
+    whole = bench.ask("simulate", MAIN, OLD, plan, due=(due,))
     return f"{marks_of(whole.output)} tests; farmdawn {max(whole.processor - alone.processor, 0):.3f} s for all their asks"
 
 
@@ -255,12 +263,12 @@ def search(bench, *sizes):
             print(f"{make.__name__} {size}: {searched(bench, plan_of(size))}")
             if HAS_GIT:
                 _, folder = bench.git_import()
-                theirs = measure(["git", "-C", folder, "rev-list", "--bisect", "main", "^old"], limit=300)
+                theirs = measure(["git", "-C", folder, "rev-list", "--bisect", "main", "^old"], limit=300, due=(0, STOPPED))
                 print(f"{make.__name__} {size}: git rev-list --bisect {theirs} for the first of them")
     size = sizes[0]
     bench.write(streams.line, size)
     side = max(size // 2 - 500, 0)
-    print(f"line {size} with skips: {searched(bench, 'g' * side + 's' * (size - 2 * side) + 'b' * side)}")
+    print(f"line {size} with skips: {searched(bench, 'g' * side + 's' * (size - 2 * side) + 'b' * side, due=2)}")
 
 
 def workers(bench, size):
@@ -304,10 +312,11 @@ def table(bench, folder, seconds):
     return bench.path("test.sh")
 
 
-def by_bisect_run(bench, folder, command):
+def by_bisect_run(bench, folder, command, due=0):
     """What `git bisect run` costs, how many tests it makes, and its answer."""
     git(folder, "bisect", "start", "main", git(folder, "rev-list", "--max-parents=0", "main"))
-    cost = measure(["git", "-C", folder, "bisect", "run", *command], keep=bench.path("output"), environment=repository.CALM)
+    cost = measure(["git", "-C", folder, "bisect", "run", *command], keep=bench.path("output"), environment=repository.CALM,
+                   due=(due,))
     git(folder, "bisect", "reset")
     return cost, len(re.findall(rb"^running", cost.output, re.M)), answer_of(cost.output)
 
@@ -340,8 +349,9 @@ def overhead(bench, count):
     folder = repository.filled(bench.path("skipped"), bench.stream)
     command = ["sh", "-c", "exit 125"]
     plain = measure(["sh", "-c", f"i=0; while [ $i -lt {count} ]; do sh -c 'exit 125'; i=$((i + 1)); done"])
-    search_alone, ours = bench.ask("simulate", MAIN, OLD, ""), bench.ask("run", MAIN, OLD, "--", *command)
-    theirs, tests, _ = by_bisect_run(bench, folder, command)
+    search_alone = bench.ask("simulate", MAIN, OLD, "", due=(2,))
+    ours = bench.ask("run", MAIN, OLD, "--", *command, due=(2,))
+    theirs, tests, _ = by_bisect_run(bench, folder, command, due=2)
     alone = plain.processor / count
     per_test = max(ours.processor - search_alone.processor, 0) / max(marks_of(ours.output), 1) - alone
     of_git = theirs.processor / max(tests, 1) - alone
@@ -351,8 +361,6 @@ def overhead(bench, count):
 
 def run(bench, commits, milliseconds, tests):
     needs_git()
-    if bench.ask("run", MAIN, OLD, "--", "true").output == b"not built yet\n":
-        raise Missing("a farmdawn that runs tests")
     bench.write(streams.line, commits)
     folder = repository.filled(bench.path("tested"), bench.stream)
     length, choice = milliseconds / 1000, random.Random(1)
@@ -440,7 +448,7 @@ def costs_of(bench, make, size):
     for times in (1, 2):
         count, words = make(size * times)
         counts.append(count)
-        costs.append(bench.ask(*words, limit=60, stack=1 << 20))
+        costs.append(bench.ask(*words, limit=60, stack=1 << 20, due=None))
     return counts, costs
 
 

@@ -1,18 +1,12 @@
 """What the tree of guesses costs: picks, posts, whole runs and runs of skips, beside one weighing of all candidates."""
-from measure import measure
+from measure import least, measure
 
 SHAPES = ("line", "mixed")
-TIMES = 5
 
 
-def least(words):
-    """The least processor seconds of a few runs, and the greatest peak that was seen, in KiB."""
-    costs = [measure(list(map(str, words)), limit=600) for _ in range(TIMES)]
-    return min(cost.processor for cost in costs), max(cost.peak for cost in costs)
-
-
-def above(seconds, before):
-    return max(seconds - before, 0)
+def above(cost, before):
+    """The processor seconds of one above those of another."""
+    return max(cost.processor - before.processor, 0)
 
 
 def told(label, seconds, weighing, peak):
@@ -21,22 +15,19 @@ def told(label, seconds, weighing, peak):
 
 def history(program, shape, size, workers):
     def cost(task, number):
-        return least([program, task, shape, size, number])
+        return least(lambda: measure([program, task, shape, str(size), str(number)]))
 
-    built, built_peak = cost("builds", 1)
-    waits, waits_peak = cost("waits", 1)
+    built, waits = cost("builds", 1), cost("waits", 1)
     weighing = above(waits, built)
     label = f"{shape} {size}"
-    told(f"{label}: one weighing", weighing, weighing, waits_peak - built_peak)
+    told(f"{label}: one weighing", weighing, weighing, waits.peak - built.peak)
     for number in workers:
-        picks, peak = cost("picks", number)
-        told(f"{label}: picks of {number} workers", above(picks, waits), weighing, peak)
-        posts, peak = cost("posts", number)
-        told(f"{label}: a post before {number} workers", above(posts, picks), weighing, peak)
-        runs, peak = cost("runs", number)
-        told(f"{label}: a run by {number} workers", above(runs, built), weighing, peak)
-    skips, peak = cost("skips", 1)
-    told(f"{label}: {size} skips", above(skips, built), weighing, peak)
+        picks, posts, runs = (cost(task, number) for task in ("picks", "posts", "runs"))
+        told(f"{label}: picks of {number} workers", above(picks, waits), weighing, picks.peak)
+        told(f"{label}: a post before {number} workers", above(posts, picks), weighing, posts.peak)
+        told(f"{label}: a run by {number} workers", above(runs, built), weighing, runs.peak)
+    skips = cost("skips", 1)
+    told(f"{label}: {size} skips", above(skips, built), weighing, skips.peak)
     return above(skips, built)
 
 

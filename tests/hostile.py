@@ -23,17 +23,15 @@ import functools
 import os
 import random
 import re
-import subprocess
 import sys
 import tempfile
-import time
 from concurrent.futures import ThreadPoolExecutor
 
 TOP = os.path.dirname(os.path.dirname(os.path.abspath(__file__)))
 sys.path.insert(0, os.path.join(TOP, "benches"))
 
 import streams
-from measure import peak_of
+from measure import measure
 
 NAME = rb"[0-9a-f]{40}"
 # What stands at the end of the text of each status; a status that is not here is none of the manual.
@@ -286,8 +284,6 @@ def make_case(seed, number):
 
 # ---- running
 
-Ran = collections.namedtuple("Ran", "status output seconds peak")
-
 
 def run(program, case, limit):
     """What a program does with a case; None where it did not end within the limit."""
@@ -295,22 +291,8 @@ def run(program, case, limit):
         for name, content in (("log", case.log), ("stream", case.stream)):
             with open(os.path.join(folder, name), "wb") as file:
                 file.write(content)
-        began, peak = time.time(), 0
-        with open(os.path.join(folder, "stream"), "rb") as stream, open(os.path.join(folder, "output"), "wb") as output:
-            child = subprocess.Popen([program, *case.words], stdin=stream, stdout=output, stderr=subprocess.DEVNULL, cwd=folder)
-            while True:
-                peak = max(peak, peak_of(child.pid))
-                process, status = os.waitpid(child.pid, os.WNOHANG)
-                if process:
-                    break
-                if time.time() - began > limit:
-                    child.kill()
-                    os.waitpid(child.pid, 0)
-                    return None
-                time.sleep(0.001)
-        child.returncode = os.waitstatus_to_exitcode(status)
-        with open(os.path.join(folder, "output"), "rb") as file:
-            return Ran(child.returncode, file.read(), time.time() - began, peak)
+        ours = measure([program, *case.words], os.path.join(folder, "stream"), limit, os.path.join(folder, "output"), folder, due=None)
+    return ours if ours.seconds <= limit else None
 
 
 def fault_of(case, ours, arguments):
