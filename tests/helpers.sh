@@ -10,7 +10,7 @@ unset MAKEFLAGS MAKELEVEL MFLAGS # a make within a test is not one of make check
 export GIT_AUTHOR_NAME='Ann Lee' GIT_AUTHOR_EMAIL=ann@example.org GIT_COMMITTER_NAME=Bo GIT_COMMITTER_EMAIL=bo@example.org
 export GIT_CONFIG_GLOBAL=/dev/null GIT_CONFIG_SYSTEM=/dev/null GIT_CONFIG_NOSYSTEM=1 LC_ALL=C
 
-work=$(mktemp -d)
+work=$(mktemp -d) || exit 1
 trap 'rm -rf "$work"' EXIT
 passed=0 failed=0 skipped=0
 
@@ -48,12 +48,24 @@ has_slurm() {
     [ -n "${SLURM_CONF-}" ] && [ -n "$(sinfo -h -t idle,mixed,allocated -o %N 2>/dev/null)" ]
 }
 
+# Whether a test can run here: 0 where it can, 1 where something is missing, and 127 where one of its two functions is not
+# there, or calls what is not: a misspelt name would pass the test over for ever.
+can_run() {
+    command -v "test_$1" >/dev/null || return 127
+    missing='what it needs'
+    needs_"$1" 2>/dev/null
+}
+
 # Runs the tests that are named, each in a new folder, and counts; the counts are added to the file FARMDAWN_COUNTS, too.
 run_tests() {
     for test; do
         mkdir "$work/$test"
-        missing='what it needs'
-        if ! needs_"$test" 2>/dev/null; then
+        can_run "$test"
+        can=$?
+        if [ $can -eq 127 ]; then
+            echo "FAILED: $test (test_$test or needs_$test is not there, or calls what is not)"
+            failed=$((failed + 1))
+        elif [ $can -ne 0 ]; then
             echo "skipped: $test ($missing is not here)"
             skipped=$((skipped + 1))
         elif (cd "$work/$test" && "test_$test") >"$work/$test.out" 2>&1; then
