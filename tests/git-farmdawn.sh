@@ -113,7 +113,7 @@ test_signed_by_gpg() {
     sign_and_search
 }
 
-needs_sha256() { needs_all && git init -q --object-format=sha256 "$work/sha256" 2>/dev/null; }
+needs_sha256() { needs_all && git init -q --object-format=sha256 "$work/probe" 2>/dev/null; }
 test_sha256() {
     git init -q -b main --object-format=sha256 repository || exit 1
     make_line 9 4
@@ -282,6 +282,7 @@ test_interrupts() {
     expect 'no process is left' [ -z "$(pgrep -f 'sleep 44.5')" ]
 }
 
+by_clock=logs_and_limits
 [ $# -gt 0 ] || set -- line merges unrelated_good terms encodings signed signed_by_gpg sha256 shallow part_of_many submodules \
     places words folders_and_scripts logs_and_limits wrong_words going_on check_ends interrupts
 run_tests "$@"

@@ -12,7 +12,7 @@ export GIT_CONFIG_GLOBAL=/dev/null GIT_CONFIG_SYSTEM=/dev/null GIT_CONFIG_NOSYST
 
 work=$(mktemp -d) || exit 1
 trap 'rm -rf "$work"' EXIT
-passed=0 failed=0 skipped=0
+passed=0 failed=0 skipped=0 again=0
 
 # Whether a test fails here: the text says what is not as it must be.
 expect() {
@@ -56,10 +56,23 @@ can_run() {
     needs_"$1" 2>/dev/null
 }
 
-# Runs the tests that are named, each in a new folder, and counts; the counts are added to the file FARMDAWN_COUNTS, too.
+# Runs a test in a new folder.
+run_test() {
+    mkdir "$work/$1" || return
+    (cd "$work/$1" && "test_$1") >>"$work/$1.out" 2>&1
+    ended=$?
+    chmod -R u+w "$work/$1" 2>/dev/null
+    rm -rf "${work:?}/$1"
+    return $ended
+}
+
+# Whether a test may fail by the clock alone, where other programs take the processors: its file names it in `by_clock`.
+watches_clock() { case " ${by_clock-} " in *" $1 "*) ;; *) return 1 ;; esac; }
+
+# Runs the tests that are named, and counts; the counts are added to the file FARMDAWN_COUNTS, too. A test that watches the
+# clock is tried once more where it fails, which is told with what the first try printed; no other one is.
 run_tests() {
     for test; do
-        mkdir "$work/$test"
         can_run "$test"
         can=$?
         if [ $can -eq 127 ]; then
@@ -68,19 +81,21 @@ run_tests() {
         elif [ $can -ne 0 ]; then
             echo "skipped: $test ($missing is not here)"
             skipped=$((skipped + 1))
-        elif (cd "$work/$test" && "test_$test") >"$work/$test.out" 2>&1; then
+        elif run_test "$test"; then
             echo "ok: $test"
             passed=$((passed + 1))
+        elif watches_clock "$test" && echo '-- the second try' >>"$work/$test.out" && run_test "$test"; then
+            echo "ok at the second try: $test"
+            sed 's/^/    /' "$work/$test.out"
+            passed=$((passed + 1)) again=$((again + 1))
         else
             echo "FAILED: $test"
             sed 's/^/    /' "$work/$test.out"
             failed=$((failed + 1))
         fi
-        chmod -R u+w "$work/$test" 2>/dev/null
-        rm -rf "${work:?}/$test"
     done
-    echo "$(basename "$0"): $passed passed, $failed failed, $skipped skipped"
-    [ -z "${FARMDAWN_COUNTS-}" ] || echo "$passed $failed $skipped" >>"$FARMDAWN_COUNTS"
+    echo "$(basename "$0"): $passed passed ($again at the second try), $failed failed, $skipped skipped"
+    [ -z "${FARMDAWN_COUNTS-}" ] || echo "$passed $failed $skipped $again" >>"$FARMDAWN_COUNTS"
     [ "$failed" -eq 0 ]
 }
 

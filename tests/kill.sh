@@ -145,5 +145,6 @@ test_slow_input() {
     done
 }
 
+by_clock='kill term pipe full slow_input'
 [ $# -gt 0 ] || set -- kill term pipe full input slow_input
 run_tests "$@"

@@ -74,5 +74,6 @@ test_a_lost_node() {
     expect 'each verdict is right' [ ! -e wrong ]
 }
 
+by_clock=interrupts
 [ $# -gt 0 ] || set -- verdicts lost_tests interrupts many a_lost_node
 run_tests "$@"

@@ -86,5 +86,6 @@ test_many() {
     expect 'each verdict is right' [ ! -e wrong ]
 }
 
+by_clock=interrupts
 [ $# -gt 0 ] || set -- verdicts lost_tests interrupts many
 run_tests "$@"
