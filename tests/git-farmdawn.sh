@@ -211,17 +211,33 @@ test_words() {
     nothing_left
 }
 
+# The third test, and each behind it, runs on until the file `on` is there: so the stop comes in the middle, when one at
+# least has ended. It is by TERM, for sh ignores INT in what it runs in the background.
 needs_going_on() { needs_all; }
 test_going_on() {
     make_line 20 9
-    git farmdawn --workers 2 main main~19 -- sh -c 'echo x >>../../../../tested; sleep 0.3; test ! -e bug' >log &
-    sleep 0.7
-    kill -INT $! 2>/dev/null || kill -TERM $!
+    # shellcheck disable=SC2016
+    set -- main main~19 -- sh -c 'echo "$FARMDAWN_COMMIT" >>"$0/tested"
+        until [ -e "$0/on" ] || [ "$(wc -l <"$0/tested")" -lt 3 ]; do sleep 0.1; done
+        test ! -e bug' "$PWD/.."
+    git farmdawn --workers 2 "$@" >log 2>told &
+    until [ -e ../tested ] && [ "$(wc -l <../tested)" -ge 3 ]; do
+        expect 'the search goes on' kill -0 $!
+        sleep 0.1
+    done
+    kill -TERM $!
     wait $!
+    expect 'it was stopped' [ $? -eq 143 ]
+    expect 'and says how to go on' grep -q ': stopped; the same line goes on from [1-9][0-9]* outcomes$' told
     nothing_left
-    git farmdawn --workers 2 main main~19 -- sh -c 'echo x >>../../../../tested; sleep 0.3; test ! -e bug' >log
+    sed 's/ .*//' .git/farmdawn/results-*/statuses >known
+    touch ../on
+    git farmdawn --workers 2 "$@" >log
     expect 'the answer' [ "$(tail -n 1 log)" = "$(git rev-parse main~10) is the first bad commit" ]
-    expect 'nothing is tested again' sh -c "! git farmdawn main main~19 -- sh -c 'echo x >>../../../../tested; sleep 0.3; test ! -e bug' 2>&1 | grep testing"
+    expect 'what had ended was tested once' [ "$(grep -cxFf known ../tested)" -eq "$(wc -l <known)" ]
+    cp ../tested before
+    expect 'the answer at once' [ "$(git farmdawn "$@" | tail -n 1)" = "$(tail -n 1 log)" ]
+    expect 'nothing was tested again' cmp before ../tested
     nothing_left
 }
 
