@@ -218,7 +218,7 @@ test_going_on() {
     make_line 20 9
     # shellcheck disable=SC2016
     set -- main main~19 -- sh -c 'echo "$FARMDAWN_COMMIT" >>"$0/tested"
-        until [ -e "$0/on" ] || [ "$(wc -l <"$0/tested")" -lt 3 ]; do sleep 0.1; done
+        while [ -e "$0" ] && [ ! -e "$0/on" ] && [ "$(wc -l <"$0/tested")" -ge 3 ]; do sleep 0.1; done
         test ! -e bug' "$PWD/.."
     git farmdawn --workers 2 "$@" >log 2>told &
     until [ -e ../tested ] && [ "$(wc -l <../tested)" -ge 3 ]; do
@@ -238,6 +238,34 @@ test_going_on() {
     cp ../tested before
     expect 'the answer at once' [ "$(git farmdawn "$@" | tail -n 1)" = "$(tail -n 1 log)" ]
     expect 'nothing was tested again' cmp before ../tested
+    nothing_left
+}
+
+# The folder of a run that was killed is removed by the next one, as soon as none of its tests runs on; that of a run that
+# another user or host has, which is known by its lock alone, is left.
+needs_dead_runs() { needs_all && has pgrep; }
+test_dead_runs() {
+    make_line 8 3
+    # shellcheck disable=SC2016
+    "$top/tools/git-farmdawn" main main~7 -- sh -c 'touch "$0/began"; while [ -e "$0" ] && [ ! -e "$0/on" ]; do sleep 0.1; done
+        test ! -e bug' "$PWD/.." >log 2>&1 &
+    until [ -e ../began ]; do sleep 0.1; done
+    program=$(pgrep -P $!)
+    # shellcheck disable=SC2086
+    kill -KILL $! $program
+    wait $!
+    killed=$(ls -d .git/farmdawn/run.*)
+    expect 'a search' git farmdawn main main~7 -- sh -c "$command"
+    expect 'tests that run on keep their folder' [ "$(ls -d .git/farmdawn/run.*)" = "$killed" ]
+    touch ../on
+    flock "$killed/lock" mkdir .git/farmdawn/run.elsewhere
+    flock .git/farmdawn/run.elsewhere/lock sh -c 'while [ -e .. ] && [ ! -e ../off ]; do sleep 0.1; done' &
+    until [ -e .git/farmdawn/run.elsewhere/lock ]; do sleep 0.1; done
+    expect 'the same search' git farmdawn main main~7 -- sh -c "$command"
+    expect 'a run that lives keeps its folder' [ "$(ls -d .git/farmdawn/run.*)" = .git/farmdawn/run.elsewhere ]
+    touch ../off
+    wait $!
+    expect 'and the same search' git farmdawn main main~7 -- sh -c "$command"
     nothing_left
 }
 
@@ -300,5 +328,5 @@ test_interrupts() {
 
 by_clock=logs_and_limits
 [ $# -gt 0 ] || set -- line merges unrelated_good terms encodings signed signed_by_gpg sha256 shallow part_of_many submodules \
-    places words folders_and_scripts logs_and_limits wrong_words going_on check_ends interrupts
+    places words folders_and_scripts logs_and_limits wrong_words going_on dead_runs check_ends interrupts
 run_tests "$@"

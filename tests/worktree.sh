@@ -45,6 +45,30 @@ test_modes() {
     expect 'the pool is gone' [ "$(git worktree list | wc -l)" -eq 1 ]
 }
 
+# What a test holds is not removed, and no other test gets its folder.
+needs_prune() { has_git; }
+test_prune() {
+    make_line 2 9
+    commit=$(git rev-parse HEAD)
+    for mode in '' --fresh; do
+        # shellcheck disable=SC2016,SC2086
+        farmdawn-worktree $mode -- sh -c 'echo "$FARMDAWN_WORKTREE" >"$0/began"
+            while [ -e "$0" ] && [ ! -e "$0/on" ]; do sleep 0.05; done
+            test -e content' "$PWD/.." "$commit" &
+        until [ -s ../began ]; do sleep 0.05; done
+        farmdawn-worktree --prune
+        # shellcheck disable=SC2016
+        expect 'another test has another folder' [ "$(farmdawn-worktree -- sh -c 'echo "$FARMDAWN_WORKTREE"' "$commit")" != "$(cat ../began)" ]
+        touch ../on
+        wait $!
+        expect 'the folder stayed as it was' [ $? -eq 0 ]
+        rm ../began ../on
+    done
+    farmdawn-worktree --prune
+    expect 'the pool is gone' [ "$(git worktree list | wc -l)" -eq 1 ]
+    expect 'and all folders' [ -z "$(find .git/farmdawn -mindepth 1 -type d)" ]
+}
+
 needs_limits() { has_git && has timeout; }
 test_limits() {
     make_line 1 9
@@ -93,5 +117,5 @@ test_interrupts() {
     expect 'the worktree still works' [ "$(status_of -- true "$(git rev-parse HEAD)")" = 0 ]
 }
 
-[ $# -gt 0 ] || set -- verdicts content modes limits many_at_once interrupts
+[ $# -gt 0 ] || set -- verdicts content modes prune limits many_at_once interrupts
 run_tests "$@"
