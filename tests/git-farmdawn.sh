@@ -288,6 +288,17 @@ test_logs_and_limits() {
     nothing_left
 }
 
+# A log that cannot be opened stops the search, and is no verdict.
+needs_lost_log() { needs_all; }
+test_lost_log() {
+    make_line 8 4
+    mkdir -p "../logs/$(git rev-parse main~3).log"
+    git farmdawn --workers 1 --log-dir ../logs main main~7 -- sh -c "$command" >log
+    expect 'the search stops' [ $? -eq 6 ]
+    expect 'by this test' grep -q "^bisect aborted: exit 255 on $(git rev-parse main~3)$" log
+    nothing_left
+}
+
 # Words that are wrong are told before anything is run, and leave nothing.
 needs_wrong_words() { needs_all; }
 test_wrong_words() {
@@ -328,5 +339,5 @@ test_interrupts() {
 
 by_clock=logs_and_limits
 [ $# -gt 0 ] || set -- line merges unrelated_good terms encodings signed signed_by_gpg sha256 shallow part_of_many submodules \
-    places words folders_and_scripts logs_and_limits wrong_words going_on dead_runs check_ends interrupts
+    places words folders_and_scripts logs_and_limits lost_log wrong_words going_on dead_runs check_ends interrupts
 run_tests "$@"

@@ -18,6 +18,9 @@ test_verdicts() {
     expect 'a skip stays 125' [ "$(status_of -- sh -c 'exit 125' "$(git rev-parse HEAD)")" = 125 ]
     expect 'a killed test is no verdict' [ "$(status_of -- sh -c 'kill -9 $$' "$(git rev-parse HEAD)")" -gt 127 ]
     expect 'a missing command is no verdict' [ "$(status_of -- no-such-command "$(git rev-parse HEAD)")" = 127 ]
+    mkdir -p pool/lock
+    expect 'a pool that cannot be locked is no verdict' [ "$(status_of --pool pool -- true "$(git rev-parse HEAD)")" = 255 ]
+    expect 'nor is a status that cannot be written' [ "$(status_of --pool other -- mv ../../other ../../moved "$(git rev-parse HEAD)")" = 255 ]
     expect 'an unknown commit stops' [ "$(status_of -- true 0123456789012345678901234567890123456789)" = 255 ]
 }
 
