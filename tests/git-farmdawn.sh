@@ -288,6 +288,26 @@ test_logs_and_limits() {
     nothing_left
 }
 
+# A look whether the answer is known tells nothing where the program fails, and holds up no other test where it is killed.
+needs_lost_looks() { needs_all; }
+test_lost_looks() {
+    make_line 12 7
+    {
+        echo '#!/bin/sh'
+        echo "begun='$PWD/../begun' first='$PWD/../first' farmdawn='$farmdawn'"
+        # shellcheck disable=SC2016
+        echo 'case "$*" in *" --known "*) [ ! -e "$begun" ] || { mkdir "$first" && kill -KILL $PPID; exit 15; } ;; esac
+            exec "$farmdawn" "$@"'
+    } >../failing
+    chmod +x ../failing
+    # shellcheck disable=SC2016
+    FARMDAWN=$PWD/../failing git farmdawn --workers 3 main main~11 -- sh -c 'touch "$0"; test ! -e bug' "$PWD/../begun" >log
+    expect 'a search' [ $? -eq 0 ]
+    expect 'the answer' [ "$(tail -n 1 log)" = "$(git rev-parse main~4) is the first bad commit" ]
+    expect 'a look was killed' [ -d ../first ]
+    nothing_left
+}
+
 # A log that cannot be opened stops the search, and is no verdict.
 needs_lost_log() { needs_all; }
 test_lost_log() {
@@ -339,5 +359,5 @@ test_interrupts() {
 
 by_clock=logs_and_limits
 [ $# -gt 0 ] || set -- line merges unrelated_good terms encodings signed signed_by_gpg sha256 shallow part_of_many submodules \
-    places words folders_and_scripts logs_and_limits lost_log wrong_words going_on dead_runs check_ends interrupts
+    places words folders_and_scripts logs_and_limits lost_looks lost_log wrong_words going_on dead_runs check_ends interrupts
 run_tests "$@"
