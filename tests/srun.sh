@@ -8,6 +8,15 @@ status_of() {
     echo $?
 }
 
+needs_words() { :; }
+test_words() {
+    for number in 0 x -1 '' 9999999999; do
+        farmdawn-srun --tries "$number" -- true name 2>err
+        expect "a fault: --tries $number" [ $? -eq 255 ]
+        expect 'which is told' grep -q 'wants a number above 0' err
+    done
+}
+
 needs_verdicts() { has_slurm; }
 test_verdicts() {
     expect 'good' [ "$(status_of -- true name)" = 0 ]
@@ -75,5 +84,5 @@ test_a_lost_node() {
 }
 
 by_clock=interrupts
-[ $# -gt 0 ] || set -- verdicts lost_tests interrupts many a_lost_node
+[ $# -gt 0 ] || set -- words verdicts lost_tests interrupts many a_lost_node
 run_tests "$@"

@@ -34,6 +34,45 @@ status_of() {
     echo $?
 }
 
+# A stand-in for ssh, which reaches all hosts but those whose names begin with `lost`.
+stand_in() {
+    mkdir bin
+    # shellcheck disable=SC2016
+    printf '%s\n' '#!/bin/sh' 'while [ "$1" = -o ]; do shift 2; done' 'case $1 in lost*) exit 255 ;; esac' 'exec sh -c "$2"' >bin/ssh
+    chmod +x bin/ssh
+    PATH=$PWD/bin:$PATH
+}
+
+needs_words() { has flock mkfifo timeout; }
+test_words() {
+    stand_in
+    for words in '--tries 0 there' '--tries x there' '--tries 9999999999 there' there:x there:0 there: there:-1 there:1x there:9999999999 :4 :; do
+        # shellcheck disable=SC2086
+        timeout 20 farmdawn-ssh --slots slots $words -- true name >out 2>err
+        expect "a fault: $words" [ $? -eq 255 ]
+        expect 'a line on standard error' [ "$(grep -c ' want' err)" -eq 1 ]
+    done
+    timeout 20 farmdawn-ssh --slots slots there:3 -- sh -c 'exit 9' name
+    expect 'right words' [ $? -eq 9 ]
+    rm slots/there.0 && mkdir slots/there.0
+    timeout 20 farmdawn-ssh --slots slots there -- true name
+    expect 'a place that cannot be locked is no verdict' [ $? -eq 255 ]
+}
+
+# The host that lost a test is passed over as long as another one is named, however often each is.
+needs_hosts() { has flock mkfifo timeout; }
+test_hosts() {
+    stand_in
+    timeout 20 farmdawn-ssh --slots slots --tries 2 lost lost:2 -- true name 2>err
+    expect 'a lost test' [ $? -eq 255 ]
+    expect 'which was tried twice' [ "$(grep -c 'on lost was lost' err)" -eq 2 ]
+    timeout 20 farmdawn-ssh --slots slots --tries 2 lost lost lost:2 there -- sh -c 'exit 9' name
+    expect 'another host tests it' [ $? -eq 9 ]
+    timeout 20 farmdawn-ssh --slots slots --tries 3 lost1 lost2 -- true name 2>err
+    expect 'a test that is lost on two' [ $? -eq 255 ]
+    expect 'in turns' [ "$(sed 's/.* on \(.*\) was lost/\1/' err | tr '\n' ' ')" = 'lost1 lost2 lost1 ' ]
+}
+
 needs_verdicts() { has_ssh; }
 test_verdicts() {
     start_server
@@ -87,5 +126,5 @@ test_many() {
 }
 
 by_clock=interrupts
-[ $# -gt 0 ] || set -- verdicts lost_tests interrupts many
+[ $# -gt 0 ] || set -- words hosts verdicts lost_tests interrupts many
 run_tests "$@"
