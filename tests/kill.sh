@@ -77,7 +77,11 @@ test_pipe() {
                 # shellcheck disable=SC2086
                 { (search $workers $leg <stream); echo $? >status; } | head -c $bytes >got
                 expect 'what was read' cmp -n $bytes got due
-                case $(cat status) in 13 | 141) ;; *) expect 'a write fault, or all fitted' [ "$bytes" -gt 0 ] ;; esac
+                case $(cat status) in
+                13 | 141) ;;
+                0 | 2) expect 'a write fault, where nothing was read' [ "$bytes" -gt 0 ] ;;
+                *) expect "a write fault, or all fitted, and not $(cat status)" false ;;
+                esac
                 tests_end
             done
             # shellcheck disable=SC2086
