@@ -270,18 +270,18 @@ test_dead_runs() {
 }
 
 # What a test printed is kept by commit, and one that takes too long is a skip.
-needs_logs_and_limits() { needs_all && has timeout; }
+needs_logs_and_limits() { needs_all && has timeout pgrep; }
 test_logs_and_limits() {
     make_line 6 4
     hangs=$(git rev-parse main~3)
     # shellcheck disable=SC2016
     expect 'a search' git farmdawn --timeout 2 --log-dir ../logs main main~5 -- sh -c '
         echo "this is $FARMDAWN_COMMIT"; cat content >&2
-        [ "$FARMDAWN_COMMIT" != "$0" ] || sleep 77.25
-        test ! -e bug' "$hangs" >log
+        [ "$FARMDAWN_COMMIT" != "$0" ] || $1
+        test ! -e bug' "$hangs" "$long_sleep" >log
     expect 'the answer' [ "$(tail -n 1 log)" = "$(git rev-parse main~1) is the first bad commit" ]
     expect 'the one that hangs is skipped' grep -q "^git bisect skip $hangs$" log
-    expect 'and does not run on' [ -z "$(pgrep -f 'sleep 77.25')" ]
+    nothing_sleeps
     for tested in $(sed -n 's/^git bisect [a-z]* \([0-9a-f]\{40\}\)$/\1/p' log); do
         expect 'what was printed is kept' grep -qx "this is $tested" "../logs/$tested.log"
     done
@@ -344,17 +344,17 @@ test_check_ends() {
     nothing_left
 }
 
-needs_interrupts() { needs_all; }
+needs_interrupts() { needs_all && has pgrep; }
 test_interrupts() {
     make_line 200 120
     for pause in 0.05 0.1 0.2 0.3 0.5 0.7 1 1.3 1.6 2; do
-        git farmdawn --fresh --workers 16 main main~199 -- sh -c 'sleep 44.5 & sleep 0.2; test ! -e bug' >log 2>err &
+        git farmdawn --fresh --workers 16 main main~199 -- sh -c "$long_sleep & sleep 0.2; test ! -e bug" >log 2>err &
         sleep $pause
         kill -TERM $!
         wait $!
         nothing_left
     done
-    expect 'no process is left' [ -z "$(pgrep -f 'sleep 44.5')" ]
+    nothing_sleeps
 }
 
 by_clock=logs_and_limits

@@ -13,6 +13,7 @@ export GIT_CONFIG_GLOBAL=/dev/null GIT_CONFIG_SYSTEM=/dev/null GIT_CONFIG_NOSYST
 work=$(mktemp -d) || exit 1
 trap 'rm -rf "$work"' EXIT
 passed=0 failed=0 skipped=0 again=0
+long_sleep="sleep 77.$$s" # of this run alone: other checkouts may be tested beside it
 
 # Whether a test fails here: the text says what is not as it must be.
 expect() {
@@ -110,6 +111,9 @@ make_line() {
         number=$((number + 1))
     done
 }
+
+# No process runs on whose words have the sleep of this run.
+nothing_sleeps() { expect 'no test runs on' [ -z "$(pgrep -f "$long_sleep")" ]; }
 
 # Nothing of a run is left: no worktree but the main one, no folder of a run, no process of a test.
 nothing_left() {

@@ -3,7 +3,13 @@
 # says by its status that memory ran out; what it wrote is then a front of the text that was due.
 . "$(dirname "$0")/helpers.sh"
 
-needs_all() { has cc awk && has_program; }
+# The names by which the C library of GNU allocates for one that stands before it.
+has_glibc() {
+    missing='__libc_malloc of glibc'
+    echo 'extern void *__libc_malloc(unsigned long); int main(void) { return !__libc_malloc(1); }' | cc -x c -o "$work/links" -
+}
+
+needs_all() { has cc awk && has_program && has_glibc; }
 
 # A library that refuses the allocation whose number REFUSED has, and keeps in the file COUNTED how many there were: the
 # program ends without a last word, so they are counted in memory that is the file's.

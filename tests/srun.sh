@@ -38,17 +38,19 @@ test_lost_tests() {
     expect 'a missing folder is no verdict' [ $? = 255 ]
 }
 
-needs_interrupts() { has_slurm; }
+needs_interrupts() { has_slurm && has squeue pgrep; }
 test_interrupts() {
+    job=farmdawn-test-$$
     for pause in 0.1 0.5 1; do
-        farmdawn-srun -- sleep 66.5 name &
+        # shellcheck disable=SC2086
+        farmdawn-srun --job-name=$job -- $long_sleep name &
         sleep $pause
         kill -TERM $!
         wait $!
     done
     sleep 1
-    expect 'no job is left' [ -z "$(squeue -h -t running -o %i)" ]
-    expect 'no test runs on' [ -z "$(pgrep -f 'sleep 66.5')" ]
+    expect 'no job is left' [ -z "$(squeue -h --me -n $job -t running -o %i)" ]
+    nothing_sleeps
 }
 
 # Sixty-four tests give the verdicts of one machine.

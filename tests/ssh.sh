@@ -10,16 +10,29 @@ has_ssh() {
 
 port=$((20000 + $$ % 20000))
 
+# The folder that sshd of root wants. Each of these servers keeps a lock on it, also one of another checkout; where one of
+# them made it, the last one removes it.
+hold_folder() {
+    until { command exec 6</run/sshd; } 2>/dev/null && flock -s 6 && [ -d /run/sshd ]; do
+        if mkdir /run/sshd; then : >/run/sshd/of-a-test; else [ -d /run/sshd ] || exit 1; fi
+    done
+}
+
+stop_server() {
+    kill "$(cat server.pid)" 2>/dev/null
+    if flock -n 6 && rm /run/sshd/of-a-test; then rmdir /run/sshd; fi 2>/dev/null
+}
+
 # A server with a key of its own, that takes so many connections at once while they begin.
 start_server() {
     umask 077
     ssh-keygen -q -t ed25519 -N '' -f host && ssh-keygen -q -t ed25519 -N '' -f user || exit 1
-    mkdir -p /run/sshd
+    trap stop_server EXIT
+    [ "$(id -u)" -ne 0 ] || hold_folder
     printf '%s\n' "Port $port" 'ListenAddress 127.0.0.1' "HostKey $PWD/host" "AuthorizedKeysFile $PWD/user.pub" 'StrictModes no' \
         "PidFile $PWD/server.pid" 'UsePAM no' "MaxStartups ${1:-100}" >config
-    "$(command -v sshd || echo /usr/sbin/sshd)" -f "$PWD/config" || exit 1
+    "$(command -v sshd || echo /usr/sbin/sshd)" -f "$PWD/config" 6<&- || exit 1
     ssh_options="-p$port -i$PWD/user -oStrictHostKeyChecking=no -oUserKnownHostsFile=/dev/null -oIdentitiesOnly=yes -oLogLevel=ERROR"
-    trap 'kill "$(cat server.pid)" 2>/dev/null' EXIT
 }
 
 by_ssh() {
@@ -96,18 +109,20 @@ test_lost_tests() {
     expect 'another host tests it' [ $? = 9 ]
 }
 
-needs_interrupts() { has_ssh; }
+needs_interrupts() { has_ssh && has pgrep; }
 test_interrupts() {
     start_server
     for pause in 0.2 0.6 1; do
-        by_ssh 127.0.0.1 -- sleep 77.5 name &
+        # shellcheck disable=SC2086
+        by_ssh 127.0.0.1 -- $long_sleep name &
         sleep $pause
         # the script is the only child of the shell that runs the function
         kill -TERM "$(pgrep -P $!)" 2>/dev/null
         wait $!
     done
     sleep 1
-    expect 'no test runs on' [ -z "$(pgrep -f '^sleep 77.5')" ]
+    # what watches the connection on the host has the words of the test, and stays for a while
+    expect 'no test runs on' [ -z "$(pgrep -f "^$long_sleep")" ]
 }
 
 needs_many() { has_ssh; }

@@ -103,19 +103,19 @@ test_many_at_once() {
     expect 'no worktree is left' [ "$(git worktree list | wc -l)" -eq 1 ]
 }
 
-needs_interrupts() { has_git; }
+needs_interrupts() { has_git && has pgrep; }
 test_interrupts() {
     make_line 2 9
     for pause in 0.02 0.05 0.1 0.2 0.3 0.5; do
         for mode in '' --fresh; do
             # shellcheck disable=SC2086
-            farmdawn-worktree $mode -- sh -c 'sleep 33.25 & sleep 33.25' "$(git rev-parse HEAD)" &
+            farmdawn-worktree $mode -- sh -c "$long_sleep & $long_sleep" "$(git rev-parse HEAD)" &
             sleep $pause
             kill -TERM $!
             wait $!
         done
     done
-    expect 'no test runs on' [ -z "$(pgrep -f 'sleep 33.25')" ]
+    nothing_sleeps
     expect 'no fresh worktree is left' [ -z "$(ls -d .git/farmdawn/fresh.* 2>/dev/null)" ]
     expect 'the worktree still works' [ "$(status_of -- true "$(git rev-parse HEAD)")" = 0 ]
 }
