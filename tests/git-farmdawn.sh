@@ -208,6 +208,10 @@ test_words() {
     expect 'and the name in the environment' git farmdawn --workers 1 main main~3 -- sh -c '
         test "$#|$1|$2" = "2|a b|" && test "$(git rev-parse HEAD)" = "$FARMDAWN_COMMIT" || exit 255
         make -s test' sh 'a b' ''
+    expect 'two words' git farmdawn main main~3 -- sh -c 'make -s test' a b
+    git farmdawn main main~3 -- sh -c 'make -s test' 'a
+b' >log 2>told
+    expect 'and one of two lines are not the same test' grep -q ': testing ' told
     nothing_left
 }
 
