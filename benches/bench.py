@@ -443,12 +443,12 @@ def grown(first, second, least):
 
 
 def costs_of(bench, make, size):
-    """The bytes and the costs at a size and at twice the size, with a stack of 1 MiB."""
+    """The bytes and the costs at a size and at twice the size, with a stack of 256 KiB."""
     counts, costs = [], []
     for times in (1, 2):
         count, words = make(size * times)
         counts.append(count)
-        costs.append(bench.ask(*words, limit=60, stack=1 << 20, due=None))
+        costs.append(bench.ask(*words, limit=60, stack=256 << 10, due=None))
     return counts, costs
 
 

@@ -253,7 +253,7 @@ test_dead_runs() {
     # shellcheck disable=SC2016
     "$top/tools/git-farmdawn" main main~7 -- sh -c 'touch "$0/began"; while [ -e "$0" ] && [ ! -e "$0/on" ]; do sleep 0.1; done
         test ! -e bug' "$PWD/.." >log 2>&1 &
-    until [ -e ../began ]; do sleep 0.1; done
+    until [ -e ../began ]; do expect 'the search goes on' kill -0 $! && sleep 0.1; done
     program=$(pgrep -P $!)
     # shellcheck disable=SC2086
     kill -KILL $! $program
@@ -264,7 +264,7 @@ test_dead_runs() {
     touch ../on
     flock "$killed/lock" mkdir .git/farmdawn/run.elsewhere
     flock .git/farmdawn/run.elsewhere/lock sh -c 'while [ -e .. ] && [ ! -e ../off ]; do sleep 0.1; done' &
-    until [ -e .git/farmdawn/run.elsewhere/lock ]; do sleep 0.1; done
+    until [ -e .git/farmdawn/run.elsewhere/lock ]; do expect 'the lock is held' kill -0 $! && sleep 0.1; done
     expect 'the same search' git farmdawn main main~7 -- sh -c "$command"
     expect 'a run that lives keeps its folder' [ "$(ls -d .git/farmdawn/run.*)" = .git/farmdawn/run.elsewhere ]
     touch ../off

@@ -58,7 +58,7 @@ test_prune() {
         farmdawn-worktree $mode -- sh -c 'echo "$FARMDAWN_WORKTREE" >"$0/began"
             while [ -e "$0" ] && [ ! -e "$0/on" ]; do sleep 0.05; done
             test -e content' "$PWD/.." "$commit" &
-        until [ -s ../began ]; do sleep 0.05; done
+        until [ -s ../began ]; do expect 'the test runs' kill -0 $! && sleep 0.05; done
         farmdawn-worktree --prune
         # shellcheck disable=SC2016
         expect 'another test has another folder' [ "$(farmdawn-worktree -- sh -c 'echo "$FARMDAWN_WORKTREE"' "$commit")" != "$(cat ../began)" ]
