@@ -54,6 +54,8 @@ stand_in() {
     printf '%s\n' '#!/bin/sh' 'while [ "$1" = -o ]; do shift 2; done' 'case $1 in lost*) exit 255 ;; esac' 'exec sh -c "$2"' >bin/ssh
     chmod +x bin/ssh
     PATH=$PWD/bin:$PATH
+    mkdir tmp
+    export TMPDIR="$PWD/tmp"
 }
 
 needs_words() { has flock mkfifo timeout; }
@@ -70,6 +72,25 @@ test_words() {
     rm slots/there.0 && mkdir slots/there.0
     timeout 20 farmdawn-ssh --slots slots there -- true name
     expect 'a place that cannot be locked is no verdict' [ $? -eq 255 ]
+    expect 'nothing is left' [ -z "$(ls tmp)" ]
+}
+
+# A test that is ended while it waits for a place.
+needs_waiting() { has flock mkfifo; }
+test_waiting() {
+    stand_in
+    mkdir slots
+    flock slots/there.0 sh -c 'touch held; while [ -e .. ] && [ ! -e off ]; do sleep 0.1; done' &
+    until [ -e held ]; do sleep 0.1; done
+    farmdawn-ssh --slots slots there -- touch tested name &
+    until [ -n "$(ls tmp)" ]; do sleep 0.1; done
+    sleep 0.3
+    kill -TERM $!
+    wait $!
+    expect 'no verdict' [ $? -eq 255 ]
+    touch off
+    expect 'no test was run' [ ! -e tested ]
+    expect 'nothing is left' [ -z "$(ls tmp)" ]
 }
 
 # The host that lost a test is passed over as long as another one is named, however often each is.
@@ -141,5 +162,5 @@ test_many() {
 }
 
 by_clock=interrupts
-[ $# -gt 0 ] || set -- words hosts verdicts lost_tests interrupts many
+[ $# -gt 0 ] || set -- words hosts waiting verdicts lost_tests interrupts many
 run_tests "$@"
