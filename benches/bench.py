@@ -31,7 +31,7 @@ bench_stream, bench_forest or bench_farm where these are named below, else farmd
 proved build left, which is made where there is none; FARMDAWN may name another farmdawn.
 
 Ratios say how many times as fast as git a program is; times are of processors, where nothing else is said, and memory is
-the greatest that the program alone had. Imports below five seconds are run five times, in turns with git, and the least
+the greatest that the program alone had. Imports below five seconds are run fifteen times, in turns with git, and the least
 counts. The status is 1 where something is not as it must be; where a program ends with a status that is not due, nothing
 more is measured.
 """
@@ -125,7 +125,7 @@ class Bench:
         for what else is done on a machine, or on the one that lends it, lasts for seconds, and what is done sooner would meet all
         of it or none. Where git takes five seconds of a processor, there is one turn."""
         ours, theirs, folder = [], [], None
-        while len(ours) < 5 and all(cost.processor < 5 for cost in theirs):
+        while len(ours) < 15 and all(cost.processor < 5 for cost in theirs):
             ours.append(cost())
             imported, folder = self.git_import()
             theirs.append(imported)
