@@ -25,7 +25,8 @@ pub fn is_text(wanted: &[u8], text: &[u8]) -> bool
 }
 
 /// Whether the first word of a text is this one: it begins with the word, and ends or goes on with a space
-/// there. The first bytes tell most texts apart, without a call.
+/// there. Both tests stand in the place of each call, where the word is known: the first bytes tell most texts
+/// apart.
 #[inline(always)]
 pub fn has_word(word: &[u8], text: &[u8]) -> bool
     ensures { result ≡ lines.has_word word.now text.now }
@@ -39,7 +40,7 @@ pub fn has_word(word: &[u8], text: &[u8]) -> bool
 }
 
 /// The same, by all bytes of the word.
-#[inline(never)]
+#[inline(always)]
 fn begins_with_word(word: &[u8], text: &[u8]) -> bool
     ensures { result ≡ lines.has_word word.now text.now }
 {

@@ -26,7 +26,7 @@ fn has_form_of_ref(text: &[u8]) -> bool
         if !is_ref_byte(*byte) {
             return false;
         }
-        if rest.starts_with(b"..") {
+        if *byte == b'.' && behind.starts_with(b".") {
             return false;
         }
         rest = behind;

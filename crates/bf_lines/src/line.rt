@@ -17,6 +17,20 @@ impl<'a, S: Source> Cursor<'a, S> {
         ensures reads { Reads S.left S.faults self.old self.new result lines.at_command }
         ensures line { IfOk result (λ there. OnTrue there (HasLine S.left self.new)) }
     {
+        self.window.find_line();
+        self.at_found_command()
+    }
+
+    /// The same, at once where the line was found, is no comment and not empty.
+    fn at_found_command(&mut self) -> Result<bool, StreamFault>
+        ensures reads { Reads S.left S.faults self.old self.new result lines.at_command }
+        ensures line { IfOk result (λ there. OnTrue there (HasLine S.left self.new)) }
+    {
+        if let Some(line) = self.window.plain_line() {
+            if !line.is_empty() && line.len() <= self.limits.line as usize {
+                return Ok(true);
+            }
+        }
         let ahead = self.next_front(true)?;
         tell_line(ahead)
     }
@@ -25,6 +39,17 @@ impl<'a, S: Source> Cursor<'a, S> {
     /// that was found before is not searched again.
     #[inline(always)]
     pub fn at_word(&mut self, word: &[u8]) -> Result<bool, StreamFault>
+        requires { IsShortWord word.now }
+        ensures reads { Reads S.left S.faults self.old self.new result (looks_for word.now) }
+        ensures line { IfOk result (λ there. OnTrue there (HasLine S.left self.new)) }
+    {
+        self.window.find_line();
+        self.at_found_word(word)
+    }
+
+    /// The same as `at_word`, at once where the line was found and is no comment.
+    #[inline(always)]
+    fn at_found_word(&mut self, word: &[u8]) -> Result<bool, StreamFault>
         requires { IsShortWord word.now }
         ensures reads { Reads S.left S.faults self.old self.new result (looks_for word.now) }
         ensures line { IfOk result (λ there. OnTrue there (HasLine S.left self.new)) }
@@ -50,6 +75,7 @@ impl<'a, S: Source> Cursor<'a, S> {
 
     /// Goes past comments, and sees that the line that is in front then begins with this word, where a part
     /// must stand.
+    #[inline(always)]
     pub fn must_be_at(&mut self, word: &[u8]) -> Result<(), StreamFault>
         requires { IsShortWord word.now }
         ensures reads { Reads S.left S.faults self.old self.new result (must_find word.now) }

@@ -123,6 +123,29 @@ impl Window {
         self.plain = plain;
     }
 
+    /// Finds the line in front, where its LF is held, so that it is not searched again.
+    #[inline]
+    pub(crate) fn find_line(&mut self)
+        ensures { self.new ≡ self.old }
+    {
+        if !self.plain {
+            self.search_line();
+        }
+    }
+
+    /// The same, by a search.
+    #[inline(never)]
+    fn search_line(&mut self)
+        ensures { self.new ≡ self.old }
+    {
+        let bytes = self.bytes();
+        let held = bytes.len();
+        let end = end_of_line(bytes, self.known);
+        if end < held {
+            self.note_line(end);
+        }
+    }
+
     /// The line in front, where it was found before, its LF is held and it is no comment.
     #[inline]
     pub(crate) fn plain_line(&self) -> Option<&[u8]>

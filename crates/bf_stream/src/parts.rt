@@ -36,6 +36,7 @@ impl<'a, S: Source> Reader<'a, S> {
     }
 
     /// `author <ident>` or `tagger <ident>`, where it stands.
+    #[inline(always)]
     pub(crate) fn optional_ident(&mut self, word: &[u8]) -> Result<Option<Bytes>, StreamFault>
         requires { IsShortWord word.now }
         ensures { Reads S.left S.faults self.old self.new result (ident_behind word.now) }
@@ -93,6 +94,7 @@ impl<'a, S: Source> Reader<'a, S> {
     }
 
     /// `from <target>` or `merge <target>`, where it stands.
+    #[inline(always)]
     pub(crate) fn target(&mut self, word: &[u8]) -> Result<Option<Target>, StreamFault>
         requires { IsShortWord word.now }
         ensures reads { Reads S.left S.faults self.old self.new result (target_behind word.now) }

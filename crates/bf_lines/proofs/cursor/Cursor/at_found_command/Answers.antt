@@ -1,7 +1,14 @@
-use Rattle.std.proofs.Common.{rules}
+use Rattle.std.proofs.Common.{rules, ◌<◌, length}
 use Rattle.bf_lines.proofs.Chains.{advances_stopped, reads_as, reads_handed_on}
 use Rattle.bf_lines.proofs.Looking.{line_given, line_failed}
-use Rattle.bf_lines.proofs.cursor.Cursor.at_command.Goals as goal
+use Rattle.bf_lines.proofs.Plain.{plain_command}
+use Rattle.bf_lines.proofs.cursor.Cursor.at_found_command.Goals as goal
+
+pub returns-then-line-self-clause-reads : goal.returns-then-line-self-clause-reads
+returns-then-line-self-clause-reads g c =
+    let some : 0 < length c.in-Some.line.now = search rules in
+    reads_as (plain_command c.args.self.now.limits c.args.self.now.window (g.S.Source.left c.args.self.now.source.now) c.in-Some.line.now c.in-Some.ensures some
+    c.if-line-self.true) (search rules)
 
 pub returns-in_err-ahead-clause-reads : goal.returns-in_err-ahead-clause-reads
 returns-in_err-ahead-clause-reads g c =

@@ -3,7 +3,7 @@ use Rattle.bf_grammar.specs.Place.{Gives}
 use Rattle.bf_lines.specs.Cursor.{place_at, looks_for}
 use Rattle.bf_lines.proofs.Chains.{reads_as}
 use Rattle.bf_lines.proofs.Plain.{plain_word, plain_has_line}
-use Rattle.bf_lines.proofs.cursor.Cursor.at_word.Goals as goal
+use Rattle.bf_lines.proofs.cursor.Cursor.at_found_word.Goals as goal
 
 pub returns-then-line-self-clause-reads : goal.returns-then-line-self-clause-reads
 returns-then-line-self-clause-reads g c =
