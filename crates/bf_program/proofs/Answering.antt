@@ -16,7 +16,7 @@ use Rattle.bf_words.specs.Words as asked
 use Rattle.bf_program.specs.declared.answer.Fault.{Fault}
 use Rattle.bf_program.specs.declared.answer.Fault.TheVariants.{Read, Shelf, NoMemory}
 use Rattle.bf_program.specs.declared.ready.Ready.{Ready}
-use Rattle.bf_program.specs.Answers.{OutputOf, IsUnread, IsUnloaded, IsDue, Answers, IsWhole, HasCause, HasTestCause}
+use Rattle.bf_program.specs.Answers.{OutputOf, IsUnread, IsUnloaded, IsDue, IsUntested, Answers, IsWhole, HasCause, HasTestCause, FitsTests}
 use Rattle.bf_program.specs.Devices.{Met, HasFailed, given_in}
 use Rattle.bf_program.specs.Searching.{AllTold, Tells, Concludes, IsCausedTold, IsConcluded, IsRefused}
 
@@ -37,9 +37,9 @@ written_whole : (met : Met) (text : List ℕ) (s : Status) → s ≢ status.Read
 written_whole met text status.ReadFault r f o a = absurd (r refl)
 written_whole met text status.ShelfFault r f o a = absurd (f refl)
 written_whole met text status.WriteFault r f o a =
-    (text, inl (status.WriteFault, o, other_cause met status.WriteFault (λ place e. cc e), λ e. cc e), AppendsFront-all met.sink.before met.sink.after text a)
+    (text, inl (status.WriteFault, o, (other_cause met status.WriteFault (λ place e. cc e), λ refused. absurd refused), λ e. cc e), AppendsFront-all met.sink.before met.sink.after text a)
 written_whole met text status.NoMemory r f o a =
-    inr (text, inl (status.NoMemory, o, other_cause met status.NoMemory (λ place e. cc e), λ e. e), AppendsFront-all met.sink.before met.sink.after text a)
+    inr (text, inl (status.NoMemory, o, (other_cause met status.NoMemory (λ place e. cc e), λ refused. absurd refused), λ e. e), AppendsFront-all met.sink.before met.sink.after text a)
 written_whole met text other r f o a = (text, o, a)
 
 -- a front of a text that was due
@@ -50,9 +50,9 @@ cut_answer met text result due (inl e) front =
 cut_answer met text result due (inr e) front =
     subst (Answers met) (sym e) (inr (text, subst (λ (s : Status). IsDue met s text) e due, front))
 
--- an output of the words, of a failed test only where one failed
+-- an output of the words that fits the tests
 abbrev IsOutputIn : Met → Told → Type 0
-IsOutputIn met told = IsOutput (given_in met) met.source.left told × HasTestCause (tests (asked.request met.words)) met.tester told.status
+IsOutputIn met told = IsOutput (given_in met) met.source.left told × FitsTests (tests (asked.request met.words)) met.tester told.status
 
 -- an output was written, or a front of it, or nothing
 written_output : (met : Met) (result : Status) → result ≢ status.ReadFault → result ≢ status.ShelfFault
@@ -93,12 +93,14 @@ module _ (met : Met) (request : Request) (result : Status) (read : asked.request
       met.sink.after result
       (λ t is. (
         is_output t (output met.tester.after t is.0),
-        subst (λ (r : Result Request ℕ). HasTestCause (tests r) met.tester t.status) (sym read) is.1,
+        subst (λ (r : Result Request ℕ). FitsTests (tests r) met.tester t.status) (sym read) is.1,
       )) told)
-  answered (Err Read) output is_unread no_file own (inl (e, a)) = subst (Answers met) (sym e) (is_unread refl, a)
-  answered (Err Read) output is_unread no_file own (inr (e, front)) = cut_answer met _ result (inr (inl (is_unread refl, refl))) e front
-  answered (Err Shelf) output no_read is_unloaded own (inl (e, a)) = subst (Answers met) (sym e) (is_unloaded refl, a)
-  answered (Err Shelf) output no_read is_unloaded own (inr (e, front)) = cut_answer met _ result (inr (inr (is_unloaded refl, refl))) e front
+  answered (Err Read) output is_unread no_file own (inl (e, a), untested) = subst (Answers met) (sym e) (is_unread refl, a)
+  answered (Err Read) output is_unread no_file own (inr (e, front), untested) =
+      cut_answer met _ result (inr (inl (is_unread refl, refl), untested)) e front
+  answered (Err Shelf) output no_read is_unloaded own (inl (e, a), untested) = subst (Answers met) (sym e) (is_unloaded refl, a)
+  answered (Err Shelf) output no_read is_unloaded own (inr (e, front), untested) =
+      cut_answer met _ result (inr (inr (is_unloaded refl, refl), untested)) e front
   answered (Err NoMemory) output no_read no_file own (e, kept) = subst (Answers met) (sym e) (inl kept)
 
 -- ---- the words are refused
@@ -108,20 +110,21 @@ unfolding usage
 usage_status told word same = ap (λ (t : Told). t.status) same
 
 pub refused_words : (met : Met) (fault : WordFault) (word : ℕ) (result : Status) → fault ≡ At word → asked.request met.words ≡ Err word
-    → result ≢ status.ReadFault → result ≢ status.ShelfFault → IsRefused fault met.sink.before met.sink.after result → Answers met result
-refused_words met fault word result is read r f refused =
+    → IsUntested met.tester → result ≢ status.ReadFault → result ≢ status.ShelfFault → IsRefused fault met.sink.before met.sink.after result
+    → Answers met result
+refused_words met fault word result is read untested r f refused =
     written_output met result r f
     (mapped (λ told. told ≡ usage word) (IsOutputIn met) met.sink.before met.sink.after result
     (λ t same. (
       subst (λ (q : Result Request ℕ). IsOutputFor q (given_in met) met.source.left t) (sym read) same,
-      other_cause met t.status (λ place e. cc (sym (usage_status t word same) ∙ e)),
+      (other_cause met t.status (λ place e. cc (sym (usage_status t word same) ∙ e)), λ refused. untested),
     ))
     (subst (λ (x : WordFault). IsRefused x met.sink.before met.sink.after result) is refused))
 
-pub refused_any : (met : Met) (fault : WordFault) (result : Status) → asked.IsRead (asked.request met.words) (Err fault)
+pub refused_any : (met : Met) (fault : WordFault) (result : Status) → asked.IsRead (asked.request met.words) (Err fault) → IsUntested met.tester
     → (result ≢ status.ReadFault) × (result ≢ status.ShelfFault) → IsRefused fault met.sink.before met.sink.after result → Answers met result
-refused_any met (At word) result read own refused = refused_words met (At word) word result refl read own.0 own.1 refused
-refused_any met words.NoMemory result read own (e, kept) = subst (Answers met) (sym e) (inl kept)
+refused_any met (At word) result read untested own refused = refused_words met (At word) word result refl read untested own.0 own.1 refused
+refused_any met words.NoMemory result read untested own (e, kept) = subst (Answers met) (sym e) (inl kept)
 
 -- ---- causes
 

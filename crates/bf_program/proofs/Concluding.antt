@@ -28,7 +28,8 @@ use Rattle.bf_output.specs.declared.status.Status.TheVariants as status
 use Rattle.bf_output.proofs.Runs.{simulated_run}
 use Rattle.bf_output.specs.Told.{Told}
 use Rattle.bf_program.proofs.Answering.{whole_cause}
-use Rattle.bf_program.specs.Answers.{IsWhole, HasCause, HasTestCause, IsCaused, IsFailedTest, IsLostAs}
+use Rattle.bf_program.proofs.Untested.{of_search}
+use Rattle.bf_program.specs.Answers.{IsWhole, IsUntested, HasCause, HasTestCause, FitsTests, IsCaused, IsFailedTest, IsLostAs}
 use Rattle.bf_program.specs.Devices.{TesterMet}
 use Rattle.bf_program.specs.Searching.{IsCutBy, IsCutIn, IsToldSoFar, IsSearchSoFar, IsSearchCut, IsCausedTold, IsConcluded, IsSound, Concludes, Tells, verb_of}
 use Rattle.bf_program.specs.Tellings.{begun_of, told_of}
@@ -138,6 +139,13 @@ caused_not_lost asks tester s result cause = λ lost. absurd (subst (HasCause as
 whole_not_lost : (s result : Status) → IsWhole s → IsLostAs s result
 whole_not_lost s result whole = λ lost. absurd (subst IsWhole lost whole)
 
+-- what a search tells is no refusal
+search_fits : (verb : Verb) (started : Started) (request : Request) (words : List (List ℕ)) (asks : Bool) (tester : TesterMet) (told : Told)
+    → IsSearched verb request words tester.after started.history (begun_of started.first) told → HasTestCause asks tester told.status
+    → FitsTests asks tester told.status
+search_fits verb started request words asks tester told is cause =
+    (cause, λ refused. absurd (of_search verb request words tester.after started.history (begun_of started.first) told is refused))
+
 pub concluded : (verb : Verb) (started : Started) (request : Request) (words : List (List ℕ)) (asks : Bool) (tester : TesterMet)
     (before mid after : Option (List ℕ)) (answer : Answer) (result : Status)
     → IsSearchSoFar verb started request words tester.after before mid answer → IsCaused asks tester answer
@@ -146,14 +154,14 @@ pub concluded : (verb : Verb) (started : Started) (request : Request) (words : L
 concluded verb started request words asks tester before mid after answer result is cause (inl (same, all)) =
     inl (
       _,
-      (is.tells, test_cause asks tester answer.status cause),
+      (is.tells, search_fits verb started request words asks tester _ is.tells (test_cause asks tester answer.status cause)),
       caused_not_lost asks tester answer.status result cause,
       inl (same, Appends-trans before mid after is.written answer.text is.gained all),
     )
 concluded verb started request words asks tester before mid after answer result is cause (inr (cut, front)) =
     inl (
       _,
-      (is.tells, test_cause asks tester answer.status cause),
+      (is.tells, search_fits verb started request words asks tester _ is.tells (test_cause asks tester answer.status cause)),
       caused_not_lost asks tester answer.status result cause,
       inr (cut, AppendsFront-second before mid after is.written answer.text is.gained front),
     )
@@ -174,7 +182,8 @@ pub concluded_cut : (verb : Verb) (started : Started) (request : Request) (words
     → (fault ≡ writes.NoMemory → result ≡ status.NoMemory)
     → IsConcluded (IsCausedTold asks tester (IsSearched verb request words tester.after started.history (begun_of started.first))) before after result
 concluded_cut verb started request words asks tester fault before after result is cut memory =
-    inl (is.told, (is.is, cut_test_cause asks tester fault is.told.status is.cut), lost_as fault is.told.status result is.cut memory, inr (cut, is.front))
+    let fits = search_fits verb started request words asks tester is.told is.is (cut_test_cause asks tester fault is.told.status is.cut) in
+    inl (is.told, (is.is, fits), lost_as fault is.told.status result is.cut memory, inr (cut, is.front))
 
 -- ---- of a result
 
@@ -266,10 +275,11 @@ concluded_search request words tester started before after result verb is =
 
 pub concluded_answer : (request : Request) (words : List (List ℕ)) (tester : TesterMet) (answer : Answer) (before after : Option (List ℕ))
     (result : Status)
-    → IsWhole answer.status → IsWritten before after answer.text answer.status result
+    → IsUntested tester → IsWhole answer.status → IsWritten before after answer.text answer.status result
     → IsConcluded (IsCausedTold (is_run request.verb) tester (Tells request words tester.after (ToldAnswer answer))) before after result
-concluded_answer request words tester answer before after result whole written =
-    inl (told_of answer, (refl, whole_test_cause (is_run request.verb) tester answer.status whole), whole_not_lost answer.status result whole, written)
+concluded_answer request words tester answer before after result untested whole written =
+    let cause = whole_test_cause (is_run request.verb) tester answer.status whole in
+    inl (told_of answer, (refl, (cause, λ refused. untested)), whole_not_lost answer.status result whole, written)
 
 -- a whole answer that was written ends neither with a fault of a source or shelf, nor with that of a test
 pub whole_own : (before after : Option (List ℕ)) (text : List ℕ) (s result : Status) → IsWhole s → IsWritten before after text s result

@@ -1,5 +1,5 @@
 -- A search that is tested ends with no status that is answered before it begins.
-use Rattle.std.proofs.Common.{◌≡◌, ℕ, Bool, true, false, List, Option, ◌⊎◌, inl, inr, subst}
+use Rattle.std.proofs.Common.{◌≡◌, ℕ, Bool, true, false, List, Option, inl, inr, subst}
 use Rattle.bf_history.specs.Meanings.{History}
 use Rattle.bf_runs.specs.Legs.{Legs}
 use Rattle.bf_search.specs.declared.asks.Ask.{Ask}
@@ -56,7 +56,7 @@ of_plan : (is_asked : Bool) (request : Request) (plan : List Outcome) (history :
 of_plan false request plan history first told is before = of_end (run_over history first plan).end (of_told told _ is before)
 of_plan true request plan history first told is before = of_end (run_over history first plan).end (of_told told _ is.tells before)
 
-of_search : (verb : Verb) (request : Request) (words : List (List ℕ)) (tested : Tested) (history : History) (first : Begun) (told : Told)
+pub of_search : (verb : Verb) (request : Request) (words : List (List ℕ)) (tested : Tested) (history : History) (first : Begun) (told : Told)
     → IsSearched verb request words tested history first told → IsBeforeSearch told.status → ⊥
 of_search Simulate request words tested history first told (inl is) before =
     of_plan request.trace request (plan_of request words) history first told is before

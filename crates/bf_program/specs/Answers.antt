@@ -34,16 +34,52 @@ abbrev pub HasTestCause : Bool → TesterMet → Status → Type 0
 HasTestCause asks tester result =
     (place : ℕ) → result ≡ status.TestFault place → IsFailedTest asks tester.before.faults tester.after place
 
+-- the statuses that are answered before a search begins: those of refusals
+abbrev pub IsBeforeSearch : Status → Type 0
+IsBeforeSearch status.Done = ⊥
+IsBeforeSearch (status.Usage word) = Unit {0}
+IsBeforeSearch status.OnlySkipped = ⊥
+IsBeforeSearch status.MergeBaseBad = ⊥
+IsBeforeSearch status.GoodNotAncestor = ⊥
+IsBeforeSearch status.BothSides = ⊥
+IsBeforeSearch status.Aborted = ⊥
+IsBeforeSearch (status.StreamRefused line refusal) = Unit {0}
+IsBeforeSearch (status.NameRefused word fault) = Unit {0}
+IsBeforeSearch (status.TooLarge what) = Unit {0}
+IsBeforeSearch (status.LogRefused line) = Unit {0}
+IsBeforeSearch (status.TestFault place) = ⊥
+IsBeforeSearch status.ReadFault = Unit {0}
+IsBeforeSearch status.WriteFault = ⊥
+IsBeforeSearch status.ShelfFault = Unit {0}
+IsBeforeSearch status.NoMemory = ⊥
+IsBeforeSearch status.NoFile = Unit {0}
+IsBeforeSearch status.Waiting = ⊥
+
+-- the tester is as it was
+abbrev pub IsUntested : TesterMet → Type 0
+IsUntested tester = tester.after ≡ tester.before
+
+-- with such a status it is
+abbrev pub IsUntestedIfRefused : TesterMet → Status → Type 0
+IsUntestedIfRefused tester result = IsBeforeSearch result → IsUntested tester
+
+-- a status fits the tests: a failed test is told only where one failed, and a refusal only where nothing was tested
+abbrev pub FitsTests : Bool → TesterMet → Status → Type 0
+FitsTests asks tester result = HasTestCause asks tester result × IsUntestedIfRefused tester result
+
 -- the text of a run that want of memory cut short is due only where memory ran out
 abbrev pub IsLostAs : Status → Status → Type 0
 IsLostAs due result = due ≡ status.NoMemory → result ≡ status.NoMemory
 
--- a text that the program may have been writing: that of a failed test where one failed, and that of a fault where the source or
--- the shelf failed
+-- the line of a fault of the source, or of the shelf
+abbrev pub IsFaultLine : Met → List ℕ → Type 0
+IsFaultLine met text = (IsUnread met × (text ≡ read_fault.text)) ⊎ (IsUnloaded met × (text ≡ file_fault.text))
+
+-- a text that the program may have been writing: one that fits the tests, or the line of a fault, before which nothing was tested
 abbrev pub IsDue : Met → Status → List ℕ → Type 0
 IsDue met result text =
-    ((status : Status) × OutputOf met status text × HasTestCause (tests (request met.words)) met.tester status × IsLostAs status result)
-    ⊎ ((IsUnread met × (text ≡ read_fault.text)) ⊎ (IsUnloaded met × (text ≡ file_fault.text)))
+    ((status : Status) × OutputOf met status text × FitsTests (tests (request met.words)) met.tester status × IsLostAs status result)
+    ⊎ (IsFaultLine met text × IsUntested met.tester)
 
 -- the sink gained exactly the text of the definition, with its status
 abbrev pub IsAnswered : Met → Status → Type 0
@@ -99,32 +135,7 @@ IsWhole status.NoMemory = ⊥
 IsWhole status.NoFile = Unit {0}
 IsWhole status.Waiting = Unit {0}
 
--- ---- the tests
-
--- the statuses that are answered before a search begins: those of refusals
-abbrev pub IsBeforeSearch : Status → Type 0
-IsBeforeSearch status.Done = ⊥
-IsBeforeSearch (status.Usage word) = Unit {0}
-IsBeforeSearch status.OnlySkipped = ⊥
-IsBeforeSearch status.MergeBaseBad = ⊥
-IsBeforeSearch status.GoodNotAncestor = ⊥
-IsBeforeSearch status.BothSides = ⊥
-IsBeforeSearch status.Aborted = ⊥
-IsBeforeSearch (status.StreamRefused line refusal) = Unit {0}
-IsBeforeSearch (status.NameRefused word fault) = Unit {0}
-IsBeforeSearch (status.TooLarge what) = Unit {0}
-IsBeforeSearch (status.LogRefused line) = Unit {0}
-IsBeforeSearch (status.TestFault place) = ⊥
-IsBeforeSearch status.ReadFault = Unit {0}
-IsBeforeSearch status.WriteFault = ⊥
-IsBeforeSearch status.ShelfFault = Unit {0}
-IsBeforeSearch status.NoMemory = ⊥
-IsBeforeSearch status.NoFile = Unit {0}
-IsBeforeSearch status.Waiting = ⊥
-
--- with such a status the tester is as it was
-abbrev pub IsUntestedIfRefused : TesterMet → Status → Type 0
-IsUntestedIfRefused tester result = IsBeforeSearch result → tester.after ≡ tester.before
+-- ---- causes
 
 abbrev pub HasTestCauseBy : List (List ℕ) → TesterMet → Status → Type 0
 HasTestCauseBy words tester result = HasTestCause (tests (request words)) tester result

@@ -34,7 +34,7 @@ use Rattle.bf_words.specs.declared.request.WordFault.TheVariants.{At}
 use Rattle.bf_words.specs.declared.request.WordFault.TheVariants as words
 use Rattle.bf_words.specs.declared.verb.Verb.{Verb}
 use Rattle.bf_words.specs.declared.verb.Verb.TheVariants.{Simulate, Run as RunVerb}
-use Rattle.bf_program.specs.Answers.{IsWhole, IsWholeAnswer, HasCause, HasTestCause, IsLostAs}
+use Rattle.bf_program.specs.Answers.{IsWhole, IsWholeAnswer, IsUntested, HasCause, FitsTests, IsLostAs}
 use Rattle.bf_program.specs.Devices.{SinkMet, TesterMet}
 use Rattle.bf_program.specs.Steps.{IsStep}
 use Rattle.bf_program.specs.Tellings.{begun_of, told_of, AreWithin, Says}
@@ -269,9 +269,9 @@ IsConcluded IsTold before after result =
     ((told : Told) × IsTold told × IsLostAs told.status result × IsWritten before after told.text told.status result)
     ⊎ ((result ≡ OutOfMemory) × Keeps before after)
 
--- it may be told, and a failed test is told only where one failed
+-- it may be told, and fits the tests
 abbrev pub IsCausedTold : Bool → TesterMet → (Told → Type 0) → Told → Type 0
-IsCausedTold asks tester IsTold told = IsTold told × HasTestCause asks tester told.status
+IsCausedTold asks tester IsTold told = IsTold told × FitsTests asks tester told.status
 
 -- what the command of a line tells of its search was written, or a front of it; or memory ran out before all
 abbrev pub ConcludesSearch : Line → Started → TesterMet → SinkMet → Status → Type 0
@@ -281,12 +281,12 @@ ConcludesSearch line started tester sink result =
     (IsSearched line.request.now.verb line.request.now line.words.now tester.after started.history (begun_of started.first)))
     sink.before sink.after result
 
--- what is told before the tests or by them was written, or the line of what stood in its way
+-- what is told before the tests or by them was written, or the line of what stood in its way, and nothing was tested
 abbrev pub Concludes : Request → List (List ℕ) → TesterMet → Result Ready Fault → Option (List ℕ) → Option (List ℕ) → Status → Type 0
 Concludes request words tester (Ok ready) before after result =
     IsConcluded (IsCausedTold (is_run request.verb) tester (Tells request words tester.after ready)) before after result
-Concludes request words tester (Err Read) before after result = IsWritten before after read_fault.text ReadFault result
-Concludes request words tester (Err Shelf) before after result = IsWritten before after file_fault.text ShelfFault result
+Concludes request words tester (Err Read) before after result = IsWritten before after read_fault.text ReadFault result × IsUntested tester
+Concludes request words tester (Err Shelf) before after result = IsWritten before after file_fault.text ShelfFault result × IsUntested tester
 Concludes request words tester (Err NoMemory) before after result = (result ≡ OutOfMemory) × Keeps before after
 
 -- the same of a line

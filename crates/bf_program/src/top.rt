@@ -31,8 +31,9 @@ use std::alloc::Global;
 /// stream rose, `ShelfFault` only where that of the shelf did, `WriteFault` only where that of the sink did, and
 /// `TestFault` only in `run` where that of the tester did. Want of memory may be answered at any point. After
 /// `WriteFault` and `NoMemory` the sink gained some front of the text that was due. Only `run` uses the tester: it
-/// takes the command, and tests what the search asks for; a refusal leaves the tester alone. The stream is read only
-/// by the commands that ask for it, and the shelf is asked only for the file of `--replay`.
+/// takes the command, and tests what the search asks for; a refusal leaves the tester alone, also one that cannot be
+/// written. The stream is read only by the commands that ask for it, and the shelf is asked only for the file of
+/// `--replay`.
 ///
 /// Where no count of faults rose, the status and the text are those of the definition, or memory ran out.
 ///

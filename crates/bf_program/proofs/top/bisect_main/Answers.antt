@@ -1,4 +1,4 @@
-use Rattle.std.proofs.Common.{ℕ, Result, ap, sym, subst, ◌∙◌}
+use Rattle.std.proofs.Common.{ℕ, Result, refl, ap, sym, subst, ◌∙◌}
 use Rattle.bf_output.specs.Output.{IsUsedFor, asks_file, reads, tests}
 use Rattle.bf_output.specs.Tested.{tested_by}
 use Rattle.bf_words.specs.declared.request.Request.{Request}
@@ -70,7 +70,7 @@ returns-in-Ok-clause-unloaded g c = λ e. c.prepare-ready.ensures.unloaded (ap a
 
 pub returns-in-Err-clause-answers : goal.returns-in-Err-clause-answers
 returns-in-Err-clause-answers g c =
-    refused_any (met_refused g c) c.in-Err.fault c.refuse_words.result c.in-Err.ensures c.refuse_words.ensures.own c.refuse_words.ensures.told
+    refused_any (met_refused g c) c.in-Err.fault c.refuse_words.result c.in-Err.ensures refl c.refuse_words.ensures.own c.refuse_words.ensures.told
 
 pub returns-in-Err-clause-complete : goal.returns-in-Err-clause-complete
 returns-in-Err-clause-complete g c =

@@ -1,4 +1,4 @@
-use Rattle.std.proofs.Common.{◌≡◌}
+use Rattle.std.proofs.Common.{◌≡◌, refl}
 use Rattle.bf_output.specs.Output.{is_run}
 use Rattle.bf_program.specs.declared.ready.Ready.TheVariants.{Told, Search}
 use Rattle.bf_program.proofs.Concluding.{concluded_answer, concluded_search, concludes, if_ok, sound_answer, sound_search, whole_no_test, whole_own}
@@ -35,7 +35,7 @@ returns-in-Ok-Told-clause-told g c =
     c.requires.sound in
     concludes c.args.line.request.now c.args.line.words.now tester c.args.ready c.in-Ok-Told.field-0 (Told c.in-Ok-Told.answer) _ _ c.say.result
     c.in-Ok-Told.is c.in-Ok-Told.field-0-is
-    (concluded_answer c.args.line.request.now c.args.line.words.now tester c.in-Ok-Told.answer _ _ c.say.result sound
+    (concluded_answer c.args.line.request.now c.args.line.words.now tester c.in-Ok-Told.answer _ _ c.say.result refl sound
     (rw c.as_slice.ensures at c.say.ensures.written))
 
 pub returns-in-Ok-Told-clause-own : goal.returns-in-Ok-Told-clause-own
