@@ -27,6 +27,7 @@ needs_help() { :; }
 test_help() {
     for script in $scripts; do
         expect 'the help is shown' "$script" --help >help
+        expect 'in short, too' [ "$("$script" -h)" = "$(cat help)" ]
         expect 'in one screen' [ "$(wc -l <help)" -le 32 ]
         expect 'of 120 columns' [ "$(awk '{ print length }' help | sort -n | tail -n 1)" -le 120 ]
         expect 'by its name' grep -q "^usage: .*${script#git-}" help
