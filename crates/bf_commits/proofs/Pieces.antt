@@ -1,21 +1,31 @@
 -- Pieces of a body that are hashed one after another, and the body that they are together.
-use Rattle.std.proofs.Common.{◌≡◌, ℕ, ◌+◌, ◌*◌, ◌<◌, List, [], ◌∷◌, ◌++◌, length, length-append, append_assoc, map, get_or, take, codes, Option, Some, None}
+use Rattle.std.proofs.Common.{◌≡◌, ℕ, ◌+◌, ◌*◌, ◌<◌, List, [], ◌∷◌, ◌++◌, length, length-append, append_assoc, append-nil, map, get_or, take, codes, Option, Some, None}
 use Rattle.std.proofs.Common.{refl, sym, ◌∙◌, ap, subst, arith}
 use Rattle.std.specs.List.{flat_map}
 use Rattle.std.proofs.lemmas.List.Folds.{flat_map-map}
 use Rattle.std.proofs.lemmas.List.{take_more, flat_map_more}
 use Rattle.hex.specs.Hex.{encode_lower}
 use Rattle.bf_grammar.specs.declared.command.Header.{Header}
-use Rattle.bf_oid.specs.declared.hasher.ObjectHasher.{ObjectHasher}
 use Rattle.bf_oid.specs.declared.object.Oid.{Oid}
+use Rattle.bf_oid.specs.declared.object.Kind.{Kind}
+use Rattle.bf_oid.specs.declared.object.Kind.TheVariants as kind
 use Rattle.bf_oid.specs.Hashing.{Hashes}
+use Rattle.bf_oid.specs.Object.{name_of}
+use Rattle.bf_commits.specs.declared.body.Body.{Body}
 use Rattle.bf_history.specs.Bodies.{body_line, optional_line, author_of, commit_body}
-use Rattle.bf_commits.specs.Naming.{Adds, encoding_line, header_lines, name_at, parent_lines}
+use Rattle.bf_commits.specs.Naming.{Adds, IsBody, encoding_line, header_lines, name_at, parent_lines}
 
 -- what is added one after the other is added together
-pub adds_then : (a b c : ObjectHasher) (x y : List ℕ) → Adds a b x → Adds b c y → Adds a c (x ++ y)
-adds_then a b c x y first second kind size body hashes =
-    subst (λ (bytes : List ℕ). Hashes c kind size bytes) (append_assoc body x y) (second kind size (body ++ x) (first kind size body hashes))
+pub adds_then : (a b c : Body) (x y : List ℕ) → Adds a b x → Adds b c y → Adds a c (x ++ y)
+adds_then a b c x y first second size text is =
+    subst (λ (bytes : List ℕ). IsBody c size bytes) (append_assoc text x y) (second size (text ++ x) (first size text is))
+
+-- a body of which all is hashed has its name
+pub finished : (body : Body) (text : List ℕ) (oid : Oid) → IsBody body (length text) (text ++ []) → body.held.items ≡ []
+    → ((kind : Kind) (front : List ℕ) → Hashes body.hasher kind (length front) front → oid.0 ≡ name_of kind front) → oid.0 ≡ name_of kind.Commit text
+finished body text oid is none named =
+    let same : is.front ≡ text = sym (append-nil is.front) ∙ ap (λ (held : List ℕ). is.front ++ held) (sym none) ∙ sym is.whole ∙ append-nil text in
+    named kind.Commit text (subst (Hashes body.hasher kind.Commit (length text)) same is.hashed)
 
 -- ends of lines that stand before each line, and not behind it
 module _ (end lines turned rest : List ℕ) (before : end ++ (lines ++ rest) ≡ turned ++ (end ++ rest)) where
@@ -68,7 +78,7 @@ lines_more names parents n there =
     ∙ sym (flat_map_more (λ (place : ℕ). codes "\nparent " ++ encode_lower (name_at names place).0) [] (take n parents) (get_or parents n 0))
 
 module _ (names : List Oid) (parents : List ℕ) (n : ℕ) (there : n < length parents) where
-  pub adds_more : (a b c : ObjectHasher) → Adds a b (parent_lines names (take n parents))
+  pub adds_more : (a b c : Body) → Adds a b (parent_lines names (take n parents))
       → Adds b c (codes "\nparent " ++ encode_lower (name_at names (get_or parents n 0)).0) → Adds a c (parent_lines names (take (n + 1) parents))
   adds_more a b c before line =
       subst (Adds a c) (sym (lines_more names parents n there))

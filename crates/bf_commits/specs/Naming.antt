@@ -3,12 +3,11 @@ use Rattle.std.specs.Prelude.{◌≡◌, ℕ, ◌+◌, ◌*◌, ◌≤◌, ◌^�
 use Rattle.std.specs.List.{slice_index_or, flat_map}
 use Rattle.hex.specs.Hex.{encode_lower}
 use Rattle.bf_grammar.specs.declared.command.Header.{Header}
-use Rattle.bf_oid.specs.declared.hasher.ObjectHasher.{ObjectHasher}
-use Rattle.bf_oid.specs.declared.object.Kind.{Kind}
 use Rattle.bf_oid.specs.declared.object.Kind.TheVariants as kind
 use Rattle.bf_oid.specs.declared.object.Oid.{Oid}
 use Rattle.bf_oid.specs.Hashing.{Hashes}
 use Rattle.bf_oid.specs.Object.{name_of}
+use Rattle.bf_commits.specs.declared.body.Body.{Body}
 use Rattle.bf_history.specs.Bodies.{author_of, commit_body}
 
 -- the name of the commit at a place
@@ -19,9 +18,15 @@ name_at names place = slice_index_or names place (record { 0 = [] })
 abbrev pub commit_name : List ℕ → List ℕ → List Oid → Header → List ℕ
 commit_name tree parents names header = name_of kind.Commit (commit_body tree (map (name_at names) parents) header)
 
--- between two states of a hasher these bytes joined the body
-abbrev pub Adds : ObjectHasher → ObjectHasher → List ℕ → Type 0
-Adds before after bytes = (kind : Kind) (size : ℕ) (body : List ℕ) → Hashes before kind size body → Hashes after kind size (body ++ bytes)
+-- the bytes of a body so far: those that were hashed, and behind them those that are held
+pub record IsBody (body : Body) (size : ℕ) (text : List ℕ) : Type 0 where
+  pub front : List ℕ
+  pub hashed : Hashes body.hasher kind.Commit size front
+  pub whole : text ≡ front ++ body.held.items
+
+-- between two states these bytes joined the body
+abbrev pub Adds : Body → Body → List ℕ → Type 0
+Adds before after bytes = (size : ℕ) (text : List ℕ) → IsBody before size text → IsBody after size (text ++ bytes)
 
 -- the lines of the parents at these places, each behind the LF of the line before it
 abbrev pub parent_lines : List Oid → List ℕ → List ℕ

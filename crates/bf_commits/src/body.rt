@@ -1,13 +1,20 @@
 //! The name of a commit. Its body is hashed piece by piece, and never kept.
-ghost use Rattle.std.specs.Prelude.{◌≡◌, ◌*◌, ◌^◌, ◌<◌, ◌≤◌, ◌++◌, length, All, IfOk, OnErr};
+ghost use Rattle.std.specs.Prelude.{◌≡◌, ℕ, ◌*◌, ◌^◌, ◌<◌, ◌≤◌, List, [], ◌++◌, length, All, IfOk, OnErr};
 ghost use Rattle.hex.specs.Hex.{encode_lower};
 ghost use Rattle.bf_history.specs.Bodies.{author_of};
-ghost use Rattle.bf_commits.specs.Naming.{Adds, IsLength, body_length, commit_name, encoding_line, header_lines, parent_lines};
+ghost use Rattle.bf_oid.specs.declared.object.Kind.TheVariants as kind;
+ghost use Rattle.bf_oid.specs.Object.{name_of};
+ghost use Rattle.bf_commits.specs.Naming.{Adds, IsBody, IsLength, body_length, commit_name, encoding_line, header_lines, parent_lines};
 
+use arrayvec::ArrayVec;
 use bf_grammar::Header;
 use bf_io::Bytes;
 use bf_oid::{Kind, ObjectHasher, Oid};
 use std::alloc::AllocError;
+
+/// The most bytes of a body that are held: as many as a commit of two parents has before its message, where its
+/// idents are short.
+const HELD: usize = 320;
 
 /// The name that git gives the commit of this tree with these parents, which are places of `names` and
 /// may repeat. An error comes only where its body has 2^64 bytes or more.
@@ -22,11 +29,11 @@ pub fn commit_name(
     ensures large { OnErr result (2 ^ 64 ≤ body_length (length parents.now) header.now) }
 {
     let length = body_length(parents.len() as u64, header).ok_or(AllocError)?;
-    let mut hasher = ObjectHasher::start(Kind::Commit, length);
-    add_name(&mut hasher, b"tree ", tree);
-    add_parents(&mut hasher, parents, names);
-    add_header(&mut hasher, header);
-    Ok(hasher.finish())
+    let mut body = Body::start(length);
+    body.add_name(b"tree ", tree);
+    body.add_parents(parents, names);
+    body.add_header(header);
+    Ok(body.finish())
 }
 
 /// The length of a body with so many parents; `None` where it is 2^64 or more.
@@ -60,33 +67,101 @@ fn encoding_length(encoding: &Option<Bytes>) -> Option<u64>
     }
 }
 
-/// Adds a line for each parent.
-fn add_parents(hasher: &mut ObjectHasher, parents: &[u32], names: &[Oid])
-    requires { All (λ place. place < length names.now) parents.now }
-    ensures lines { Adds hasher.old hasher.new (parent_lines names.now parents.now) }
-    ensures length { length (parent_lines names.now parents.now) ≡ 48 * length parents.now }
-{
-    for place in parents {
-        add_name(hasher, b"\nparent ", names[*place as usize]);
+/// The body of a commit in the making. Short pieces are held, and hashed together.
+#[derive(Drop)]
+struct Body {
+    hasher: ObjectHasher,
+    held: ArrayVec<u8, HELD>,
+}
+
+impl Body {
+    /// A body that will have so many bytes.
+    fn start(length: u64) -> Body
+        ensures { IsBody result length [] }
+    {
+        Body {
+            hasher: ObjectHasher::start(Kind::Commit, length),
+            held: ArrayVec::new(),
+        }
     }
-}
 
-/// Adds the lines of a header, an empty line and the message.
-fn add_header(hasher: &mut ObjectHasher, header: &Header)
-    ensures { Adds hasher.old hasher.new (header_lines header.now) }
-{
-    add(hasher, b"\nauthor ", author_of(header));
-    add(hasher, b"\ncommitter ", header.committer.as_slice());
-    add_encoding(hasher, &header.encoding);
-    add(hasher, b"\n\n", header.message.as_slice());
-}
+    /// Adds a piece. One that finds no room is hashed where it lies, behind what is held.
+    fn add(&mut self, piece: &[u8])
+        ensures { Adds self.old self.new piece.now }
+    {
+        if self.held.try_extend_from_slice(piece).is_err() {
+            self.hash_held();
+            self.hasher.update(piece);
+        }
+    }
 
-/// Adds the line of the encoding, where there is one.
-fn add_encoding(hasher: &mut ObjectHasher, encoding: &Option<Bytes>)
-    ensures { Adds hasher.old hasher.new (encoding_line encoding.now) }
-{
-    if let Some(encoding) = encoding {
-        add(hasher, b"\nencoding ", encoding.as_slice());
+    /// Hashes what is held.
+    #[inline(never)]
+    fn hash_held(&mut self)
+        ensures same { Adds self.old self.new [] }
+        ensures empty { self.new.held.items ≡ [] }
+    {
+        self.hasher.update(self.held.as_slice());
+        self.held.clear();
+    }
+
+    /// The name of the commit. The pieces are to have as many bytes together as `start` was told.
+    fn finish(mut self) -> Oid
+        ensures { (text : List ℕ)
+            → IsBody self (length text) text → result.0 ≡ name_of kind.Commit text }
+    {
+        self.hash_held();
+        self.hasher.finish()
+    }
+
+    /// Adds a line for each parent.
+    fn add_parents(&mut self, parents: &[u32], names: &[Oid])
+        requires { All (λ place. place < length names.now) parents.now }
+        ensures lines { Adds self.old self.new (parent_lines names.now parents.now) }
+        ensures length { length (parent_lines names.now parents.now) ≡ 48 * length parents.now }
+    {
+        for place in parents {
+            self.add_name(b"\nparent ", names[*place as usize]);
+        }
+    }
+
+    /// Adds the lines of a header, an empty line and the message.
+    fn add_header(&mut self, header: &Header)
+        ensures { Adds self.old self.new (header_lines header.now) }
+    {
+        self.add_text(b"\nauthor ", author_of(header));
+        self.add_text(b"\ncommitter ", header.committer.as_slice());
+        self.add_encoding(&header.encoding);
+        self.add_text(b"\n\n", header.message.as_slice());
+    }
+
+    /// Adds the line of the encoding, where there is one.
+    fn add_encoding(&mut self, encoding: &Option<Bytes>)
+        ensures { Adds self.old self.new (encoding_line encoding.now) }
+    {
+        if let Some(encoding) = encoding {
+            self.add_text(b"\nencoding ", encoding.as_slice());
+        }
+    }
+
+    /// Adds a word and a name in 40 hexadecimal digits.
+    #[inline(always)]
+    fn add_name(&mut self, word: &[u8], name: Oid)
+        ensures name { Adds self.old self.new (word.now ++ encode_lower name.0) }
+        ensures length { length (encode_lower name.0) ≡ 40 }
+    {
+        let mut digits = [0; 40];
+        hex::encode_to_slice(name.0.as_slice(), &mut digits).unwrap();
+        self.add_text(word, &digits);
+    }
+
+    /// Adds a word and a text.
+    #[inline(always)]
+    fn add_text(&mut self, word: &[u8], text: &[u8])
+        ensures { Adds self.old self.new (word.now ++ text.now) }
+    {
+        self.add(word);
+        self.add(text);
     }
 }
 
@@ -98,25 +173,4 @@ fn author_of(header: &Header) -> &[u8]
         Some(author) => author.as_slice(),
         None => header.committer.as_slice(),
     }
-}
-
-/// Adds a word of at most eight bytes and a name in 40 hexadecimal digits, as one piece.
-fn add_name(hasher: &mut ObjectHasher, word: &[u8], name: Oid)
-    requires { length word.now ≤ 8 }
-    ensures name { Adds hasher.old hasher.new (word.now ++ encode_lower name.0) }
-    ensures length { length (encode_lower name.0) ≡ 40 }
-{
-    let mut line = [0; 48];
-    let end = word.len() + 2 * name.0.len();
-    line[..word.len()].copy_from_slice(word);
-    hex::encode_to_slice(name.0.as_slice(), &mut line[word.len()..end]).unwrap();
-    hasher.update(&line[..end]);
-}
-
-/// Adds a word and a text.
-fn add(hasher: &mut ObjectHasher, word: &[u8], text: &[u8])
-    ensures { Adds hasher.old hasher.new (word.now ++ text.now) }
-{
-    hasher.update(word);
-    hasher.update(text);
 }

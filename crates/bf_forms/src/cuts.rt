@@ -63,6 +63,7 @@ pub(crate) fn cut(byte: u8, text: &[u8]) -> (&[u8], Option<&[u8]>)
 
 /// What follows the first word of a line and its SP, which may be empty. A line without the word and
 /// the SP is `Syntax`.
+#[inline(always)]
 pub fn text_after<'a>(line: u64, word: &[u8], text: &'a [u8]) -> Result<&'a [u8], StreamFault>
     ensures value { IsPart (forms.text_after line word.now text.now) result }
     ensures own { IsOfText result }

@@ -20,6 +20,7 @@ const MOST_ZONE: u64 = 1400;
 /// `> ` and a time. Name and email hold no `<`, `>` or NUL. The time is 1 to 18 digits of seconds, SP,
 /// a sign and four digits of value at most 1400. An ident with a time in another form is
 /// `Unsupported`, and any other line `Syntax`.
+#[inline(always)]
 #[tactic(auto, unfolding(bf_grammar::specs::Forms::ident_of))]
 pub fn ident_of<'a>(line: u64, word: &[u8], text: &'a [u8]) -> Result<&'a [u8], StreamFault>
     ensures value { IsPart (forms.ident_of line word.now text.now) result }

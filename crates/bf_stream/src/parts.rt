@@ -56,6 +56,7 @@ impl<'a, S: Source> Reader<'a, S> {
     }
 
     /// The ident of the line in front, which begins with this word.
+    #[inline(always)]
     fn ident_in_front(&mut self, word: &[u8]) -> Result<Bytes, StreamFault>
         requires { HasLine S.left self.old }
         ensures { Reads S.left S.faults self.old self.new result (ident_in word.now) }
@@ -115,6 +116,7 @@ impl<'a, S: Source> Reader<'a, S> {
     }
 
     /// The target of the line in front, which begins with this word.
+    #[inline(always)]
     fn target_in_front(&mut self, word: &[u8]) -> Result<Target, StreamFault>
         requires { HasLine S.left self.old }
         ensures reads { Reads S.left S.faults self.old self.new result (target_in word.now) }

@@ -1,9 +1,7 @@
 use Rattle.std.proofs.Common.{◌≡◌, ℕ, ◌+◌, ◌*◌, List, [], ◌++◌, length, map, codes, subst, sym, ◌∙◌}
 use Rattle.hex.specs.Hex.{encode_lower}
-use Rattle.bf_oid.specs.declared.object.Kind.TheVariants as kind
-use Rattle.bf_oid.specs.Hashing.{Hashes}
 use Rattle.bf_history.specs.Bodies.{commit_body}
-use Rattle.bf_commits.specs.Naming.{Adds, header_lines, name_at, parent_lines}
+use Rattle.bf_commits.specs.Naming.{Adds, IsBody, header_lines, name_at, parent_lines}
 use Rattle.bf_commits.proofs.Pieces.{adds_then, pieces_are, pieces_long}
 use Rattle.bf_commits.proofs.body.commit_name.Goals as goal
 
@@ -17,15 +15,14 @@ returns-clause-oid c =
     let lines = parent_lines names parents in
     let rest = header_lines header in
     let body = commit_body tree (map (name_at names) parents) header in
-    let adds : Adds c.start-hasher.result c.add_header.new.hasher (first ++ lines ++ rest) =
-    adds_then c.start-hasher.result c.add_parents.new.hasher c.add_header.new.hasher (first ++ lines) rest
-    (adds_then c.start-hasher.result c.add_name.new.hasher c.add_parents.new.hasher first lines c.add_name.ensures.name c.add_parents.ensures.lines)
+    let adds : Adds c.start-body.result c.add_header.new.self (first ++ lines ++ rest) =
+    adds_then c.start-body.result c.add_parents.new.self c.add_header.new.self (first ++ lines) rest
+    (adds_then c.start-body.result c.add_name.new.self c.add_parents.new.self first lines c.add_name.ensures.name c.add_parents.ensures.lines)
     c.add_header.ensures in
     let bytes = c.in_ok-length.length in
     let told : bytes ≡ 45 + 48 * length parents + length rest = rw c.in_ok-length.ensures.ok_part at c.body_length.ensures in
     let long : bytes ≡ length (first ++ lines ++ rest) = told ∙ sym
     (pieces_long tree names parents header c.add_name.ensures.length c.add_parents.ensures.length) in
-    let hashed : Hashes c.add_header.new.hasher kind.Commit (length (first ++ lines ++ rest)) (first ++ lines ++ rest) =
-    subst (λ (n : ℕ). Hashes c.add_header.new.hasher kind.Commit n (first ++ lines ++ rest)) long (adds kind.Commit bytes [] c.start-hasher.ensures) in
-    c.finish.ensures kind.Commit body (subst (λ (b : List ℕ). Hashes c.add_header.new.hasher kind.Commit (length b) b) (pieces_are tree names parents header)
-    hashed)
+    let hashed : IsBody c.add_header.new.self (length (first ++ lines ++ rest)) (first ++ lines ++ rest) =
+    subst (λ (n : ℕ). IsBody c.add_header.new.self n (first ++ lines ++ rest)) long (adds bytes [] c.start-body.ensures) in
+    c.finish.ensures body (subst (λ (b : List ℕ). IsBody c.add_header.new.self (length b) b) (pieces_are tree names parents header) hashed)
