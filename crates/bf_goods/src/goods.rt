@@ -1,5 +1,6 @@
 //! A list of good places, in which no place stands twice.
 ghost use Rattle.std.specs.Prelude.{◌≡◌, ◌↔◌, [], length, IsTrue, IfOk, OnOk, OnErr};
+ghost use Rattle.bf_search.specs.Bases.{has_place};
 ghost use Rattle.bf_texts.specs.Texts.{with_good, with_goods};
 
 use bf_graph::Places;
@@ -64,6 +65,13 @@ impl Goods {
         ensures { IsTrue result ↔ (self.now ≡ []) }
     {
         self.as_slice().is_empty()
+    }
+
+    /// Whether a place is among them.
+    pub fn has(&self, place: u32) -> bool
+        ensures { result ≡ has_place self.now place }
+    {
+        self.places.contains(&place)
     }
 
     /// The allocator that the list grows by.

@@ -5,3 +5,5 @@ mod Naming
 mod Ranging
 mod Walking
 mod Worked
+mod Ordered
+mod Found

@@ -1,5 +1,6 @@
 -- Names and ranges on small histories, by computation.
 use Rattle.std.specs.Prelude.{◌≡◌, ℕ, Bool, true, false, List, [], ◌∷◌, map, codes, Some, None, Result, Ok, Err, refl}
+use Rattle.std.specs.declared.cmp.Ordering.TheVariants.{Less, Equal, Greater}
 use Rattle.hex.specs.Hex.{decode_pairs, encode_with}
 use Rattle.bf_oid.specs.declared.object.Oid.{Oid}
 use Rattle.bf_oid.specs.Object.{oid_of_hex}
@@ -10,6 +11,7 @@ use Rattle.bf_names.specs.declared.fault.NameFault.{NameFault}
 use Rattle.bf_names.specs.declared.fault.NameFault.TheVariants.{Unknown, Ambiguous, NoParent, BadForm}
 use Rattle.bf_names.specs.Names.{name, range, steps_of, step_texts, step_of, steps_written, place_of_base, abbreviated, ancestor, after_steps, between}
 use Rattle.bf_names.specs.Names.{right_steps}
+use Rattle.bf_names.specs.Order.{compared, lowered, spelled}
 
 abbrev history_with : List (List ℕ × ℕ) → List (List ℕ) → List Oid → History
 history_with refs parents names = record { refs = refs; parents = parents; files = []; subjects = []; names = names; directories = [] }
@@ -129,3 +131,9 @@ ranges_on_the_merge_hold : Hold (range merge) ranges_on_the_merge
 unfolding range between right_steps reaches reaches_within name steps_of step_texts steps_written step_of place_of_base abbreviated ancestor after_steps
     decode_pairs encode_with decimal_value
 ranges_on_the_merge_hold = refl
+
+-- digits of either case, beside the names on the line
+compared_on_the_line : map (compared (lowered (codes "2A83"))) (spelled line.names)
+    ≡ Greater ∷ Greater ∷ Equal ∷ Greater ∷ Less ∷ Greater ∷ Greater ∷ Greater ∷ []
+unfolding decode_pairs encode_with
+compared_on_the_line = refl

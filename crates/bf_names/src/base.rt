@@ -1,10 +1,12 @@
 //! The commit that the base of a name means.
 ghost use Rattle.std.specs.Prelude.{◌≡◌, ◌<◌, ◌++◌, length, All, IfOk, IfSome};
 ghost use Rattle.bf_history.specs.Meanings.{ref_in};
+ghost use Rattle.bf_names.specs.Order.{IsOrderOf};
 ghost use Rattle.bf_names.specs.Names.{Means, first_set, meanings, place_of_base, remote_head, spelled_out};
 
 use crate::NameFault;
 use crate::digits::place_by_digits;
+use crate::order::NameOrder;
 use bf_import::History;
 use bf_io::Bytes;
 use bf_oid::oid_from_hex;
@@ -12,7 +14,13 @@ use bf_tables::Refs;
 use std::alloc::{AllocError, Global};
 
 /// The place of the commit that a base means.
-pub(crate) fn place_of_base(alloc: Global, history: &History, base: &[u8]) -> Result<u32, NameFault>
+pub(crate) fn place_of_base(
+    alloc: Global,
+    history: &History,
+    order: Option<&NameOrder>,
+    base: &[u8],
+) -> Result<u32, NameFault>
+    requires { IfSome order (λ order. IsOrderOf history.now.names order.now) }
     ensures value { Means result (place_of_base history.now.refs history.now.names base.now) }
     ensures within { IfOk result (λ place. place < length history.now.parents) }
 {
@@ -22,7 +30,7 @@ pub(crate) fn place_of_base(alloc: Global, history: &History, base: &[u8]) -> Re
     }
     match place_of_ref(alloc, history.refs(), base)? {
         Some(place) => Ok(place),
-        None => place_by_digits(history.names(), history.len(), base),
+        None => place_by_digits(alloc, history, order, base),
     }
 }
 

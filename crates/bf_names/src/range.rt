@@ -53,8 +53,8 @@ fn between(
 {
     let before = steps_of(alloc, left)?;
     let after = right_steps(alloc, right)?;
-    let from = place_of(alloc, history, left, before.as_slice())?;
-    let to = place_of(alloc, history, right, after.as_slice())?;
+    let from = place_of(alloc, history, None, left, before.as_slice())?;
+    let to = place_of(alloc, history, None, right, after.as_slice())?;
     Ok(row_between(alloc, reach, from, to)?)
 }
 

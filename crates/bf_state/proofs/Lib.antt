@@ -9,3 +9,4 @@ pub mod Parted
 pub mod Within
 pub mod Passing
 pub mod Ranks
+pub mod Settled

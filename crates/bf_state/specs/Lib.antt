@@ -4,3 +4,4 @@ pub mod Steps
 pub mod Runs
 pub mod Weighed
 pub mod Ranked
+pub mod Settled

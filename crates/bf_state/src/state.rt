@@ -1,11 +1,13 @@
 //! The state of a search.
-ghost use Rattle.std.specs.Prelude.{◌≡◌, ℕ, ◌<◌, true, false, length, Some, None, All, IfSome, IfOk, OnOk, OnErr};
+ghost use Rattle.std.specs.Prelude.{◌≡◌, ◌≢◌, ℕ, ◌<◌, true, false, length, Some, None, All, IfSome, IfOk, OnOk, OnErr};
+ghost use Rattle.bf_graph.specs.Graph.{IsGraph};
 ghost use Rattle.bf_texts.specs.Texts.{with_good};
 ghost use Rattle.bf_search.specs.Bases.{has_place};
 ghost use Rattle.bf_search.specs.State as searches;
 ghost use Rattle.bf_search.specs.declared.asks.Ask.TheVariants.{Test};
 ghost use Rattle.bf_state.specs.Session.{after_ask, asked_step, bases_warned_of, after_mark, after_take, IsNewSession, IsSearchBelow};
 ghost use Rattle.bf_state.specs.FirstBad.{TellsFirstBad};
+ghost use Rattle.bf_state.specs.Settled.{is_settled};
 ghost use Rattle.bf_state.specs.Steps as steps;
 ghost use Rattle.bf_state.specs.Ranked.{IsRankingOf, AreSkipped};
 ghost use Rattle.bf_state.specs.Weighed.{mask_of, weights_of, AreNeeded};
@@ -288,6 +290,9 @@ impl State {
         if let Mark::Skip = mark {
             return self.take_skip(reach, place);
         }
+        if self.is_settled(place) {
+            return self.take_settled(reach, mark, place);
+        }
         let decision = decide(self, reach)?;
         self.add_if_good(mark, place)?;
         self.follow(&decision);
@@ -308,6 +313,51 @@ impl State {
         self.checked = passed_after(self.checked, &passage);
         self.settle(Mark::Skip, place);
         Ok(warned_after(passage).into_vec())
+    }
+
+    /// Asks what comes next and then marks a place that no ask tests. The ask plays no part then, but for
+    /// the bases that it warns of, so no candidate is looked at.
+    fn take_settled(
+        &mut self,
+        reach: &Reach,
+        mark: Mark,
+        place: u32,
+    ) -> Result<Vec<u32>, AllocError>
+        requires len { length reach.now ≡ self.old.len }
+        requires place { place < self.old.len }
+        requires settled { is_settled self.old.search place ≡ true }
+        requires sided { mark ≢ Mark.Skip }
+        ensures warned { IfOk result (λ warned. warned.items ≡ bases_warned_of reach.now self.old) }
+        ensures state { OnOk result (self.new ≡ after_take reach.now self.old mark place) }
+        ensures err { OnErr result (self.new ≡ self.old) }
+    {
+        let warned = self.bases_to_warn_of(reach)?;
+        self.add_if_good(mark, place)?;
+        self.expected = None;
+        self.settle(mark, place);
+        Ok(warned)
+    }
+
+    /// The skipped merge bases that the next ask warns of. Where no place is skipped there are none.
+    fn bases_to_warn_of(&self, reach: &Reach) -> Result<Vec<u32>, AllocError>
+        requires { length reach.now ≡ self.now.len }
+        ensures graph { IsGraph reach.now }
+        ensures warned { IfOk result (λ warned. warned.items ≡ bases_warned_of reach.now self.now) }
+    {
+        prove!(reach.len() == self.len);
+        if self.skips.first().is_none() {
+            return Ok(Vec::new(self.goods.allocator()));
+        }
+        let passage = pass(self, reach)?;
+        Ok(warned_after(passage).into_vec())
+    }
+
+    /// Whether a place is good, bad or skipped, so that no ask tests it.
+    fn is_settled(&self, place: u32) -> bool
+        requires { place < self.now.len }
+        ensures { result ≡ is_settled self.now.search place }
+    {
+        self.goods.has(place) || is_place(self.bad, place) || self.skips.get(place)
     }
 
     /// Adds a place that is marked good. After an error the state is as before.

@@ -1,7 +1,8 @@
-use Rattle.std.proofs.Common.{Some, None, sym, ◌∙◌, ap}
+use Rattle.std.proofs.Common.{ℕ, Some, None, Result, sym, ◌∙◌, ap, subst}
 use Rattle.std.specs.Option.{ok_or}
+use Rattle.bf_names.specs.declared.fault.NameFault.{NameFault}
 use Rattle.bf_names.specs.declared.fault.NameFault.TheVariants.{Unknown}
-use Rattle.bf_names.specs.Names.{by_digits, first_set, meanings}
+use Rattle.bf_names.specs.Names.{Means, first_set, meanings}
 use Rattle.bf_names.proofs.Naming.{means_same, place_of_base-name, place_of_base-ref, first_set-within}
 use Rattle.bf_names.proofs.base.place_of_base.Goals as goal
 
@@ -22,7 +23,7 @@ returns-in-Some-2-clause-within c =
 
 pub returns-in-None-clause-value : goal.returns-in-None-clause-value
 returns-in-None-clause-value c =
-    means_same c.place_by_digits.result _
-    (c.place_by_digits.ensures.value ∙ ap (λ names. by_digits names c.spelled_out-base.result.now) c.names.ensures.value
-    ∙ sym (place_of_base-ref _ _ _ _ None c.spelled_out-base.ensures c.in_default.ensures.value
+    subst (λ (meant : Result ℕ NameFault). Means c.place_by_digits.result meant)
+    (sym (place_of_base-ref _ _ _ _ None c.spelled_out-base.ensures c.in_default.ensures.value
     (sym c.in-None.is ∙ c.in_ok-place.ensures ∙ ap (λ refs. first_set refs (meanings c.spelled_out-base.result.now)) c.refs.ensures.value)))
+    c.place_by_digits.ensures.value

@@ -19,8 +19,8 @@ returns-in-Some-clause-value c =
 pub returns-in_ok-row_of-in-None-clause-value : goal.returns-in_ok-row_of-in-None-clause-value
 returns-in_ok-row_of-in-None-clause-value c =
     alone_found c.args.history.now c.args.text.now c.in_ok-place-in-None.place c.len.result c.in_ok-row_of-in-None.field-0
-    c.in-None.ensures.value c.in_ok-place-in-None.ensures.value c.len.ensures
+    c.in-None.ensures.value c.in_ok-place-in-None.ensures.value c.len.ensures.len
     c.in_ok-row_of-in-None.ensures.value
 
 pub returns-in_ok-row_of-in-None-clause-within : goal.returns-in_ok-row_of-in-None-clause-within
-returns-in_ok-row_of-in-None-clause-within c = c.in_ok-row_of-in-None.ensures.len ∙ c.len.ensures
+returns-in_ok-row_of-in-None-clause-within c = c.in_ok-row_of-in-None.ensures.len ∙ c.len.ensures.len

@@ -1,7 +1,7 @@
 use Rattle.std.proofs.Common.{◌≡◌, None, length, drop, IfSome}
 use Rattle.bf_logs.specs.Replay.{replay_from}
 use Rattle.bf_replay.specs.Meaning.{setting_of, replayed_before, AreWithin, HasLength}
-use Rattle.bf_replay.proofs.fold.replay.Given as goal
+use Rattle.bf_replay.proofs.fold.replay_by.Given as goal
 
 -- replaying from here on is replaying the whole log
 abbrev pub invariant-loop-line : goal.invariant-loop-line

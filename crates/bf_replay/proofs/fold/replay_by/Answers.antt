@@ -4,7 +4,7 @@ use Rattle.bf_logs.specs.Replay.{replay_from}
 use Rattle.bf_replay.specs.declared.fold.Replayed.{Replayed}
 use Rattle.bf_replay.specs.Meaning.{setting_of, replayed_of, replayed_before}
 use Rattle.bf_replay.proofs.Folding.{line_taken, line_refused, all_taken, none_started}
-use Rattle.bf_replay.proofs.fold.replay.Goals as goal
+use Rattle.bf_replay.proofs.fold.replay_by.Goals as goal
 
 pub returns-in_err-take_line-clause-refused : goal.returns-in_err-take_line-clause-refused
 returns-in_err-take_line-clause-refused c =

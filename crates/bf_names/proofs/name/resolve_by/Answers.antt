@@ -1,7 +1,7 @@
 use Rattle.std.proofs.Common.{subst}
 use Rattle.bf_names.specs.Names.{Means, name, place_of, steps_of}
 use Rattle.bf_names.proofs.Naming.{means_exit, means_then}
-use Rattle.bf_names.proofs.name.resolve.Goals as goal
+use Rattle.bf_names.proofs.name.resolve_by.Goals as goal
 
 pub returns-in_err-steps-clause-value : goal.returns-in_err-steps-clause-value
 unfolding name
