@@ -2,7 +2,7 @@
 ghost use Rattle.std.specs.Prelude.{◌≡◌, ◌≢◌, ◌↔◌, ◌<◌, ℕ, [], length, true, false, Some, None, Err, Contains, IfOk, OnOk, OnErr, IsTrue, IsSome};
 ghost use Rattle.std.specs.List.Sorted.{IsStrictlyIncreasing};
 ghost use Rattle.bf_search.specs.declared.farm.Event.{Event as EventValue};
-ghost use Rattle.bf_search.specs.Farm.{has_claim, stands, without, step};
+ghost use Rattle.bf_search.specs.Farm.{has_claim, best_place, stands, without, step};
 ghost use Rattle.std.specs.Option.{option_copied};
 ghost use Rattle.bf_state.specs.Runs.{is_open};
 ghost use Rattle.bf_guesses.specs.Ends.{HasEnds};
@@ -165,6 +165,18 @@ impl<'r> Core<'r> {
         ensures { IsTrue result ↔ Contains self.now.paths path.now }
     {
         self.run.tree.has_node(path)
+    }
+
+    /// The best open place, which [`Core::pick`] would claim. There is none where the run has ended, nor
+    /// where no path is open. No node is lost, also where memory runs out.
+    pub fn best_place(&mut self) -> Result<Option<u32>, AllocError>
+        ensures best { IfOk result (λ best.
+            best ≡ best_place (setting_of self.old) (farm_of self.old)) }
+        ensures answer { OnOk result (HasBestNode self.old self.new) }
+        ensures consumed { IsConsumed self.new }
+        ensures same { IsSameButNodes self.old self.new }
+    {
+        self.run.best(&self.table, self.claims.as_slice())
     }
 
     /// Claims the best open place for a worker without a claim. No node is lost, and the path of the

@@ -5,3 +5,4 @@ pub mod Asking
 pub mod Following
 pub mod Halting
 pub mod Sights
+pub mod Linking

@@ -6,3 +6,4 @@ pub mod Paths
 pub mod Ways
 pub mod Walks
 pub mod Sights
+pub mod Links

@@ -6,6 +6,7 @@ ghost use Rattle.bf_guesses.specs.Way.{way};
 ghost use Rattle.bf_spec.specs.Ways.{way_from, TellsIfAskedFrom};
 
 use crate::node::Node;
+use crate::nodes::Nodes;
 use crate::table::Table;
 use crate::walk::child;
 use bf_reach::Reach;
@@ -70,7 +71,7 @@ fn way_at(reach: &Reach, node: &Node, table: &Table, place: u32, scratch: &mut R
 pub(crate) fn is_asked_from(
     alloc: Global,
     reach: &Reach,
-    nodes: &mut Vec<Node>,
+    nodes: &mut Nodes,
     start: usize,
     table: &Table,
     place: u32,

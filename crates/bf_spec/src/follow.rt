@@ -10,6 +10,7 @@ ghost use Rattle.bf_spec.specs.Walks.{IsEmptyTrail, HaltsWith, IsEndedAt, IsOver
 ghost use Rattle.bf_spec.specs.declared.node.Node.{Node as NodeValue};
 
 use crate::node::Node;
+use crate::nodes::Nodes;
 use crate::table::Table;
 use crate::walk::child;
 use bf_reach::Reach;
@@ -163,7 +164,7 @@ impl Trail {
 fn follow(
     alloc: Global,
     reach: &Reach,
-    nodes: &mut Vec<Node>,
+    nodes: &mut Nodes,
     start: usize,
     table: &Table,
     left: Option<u32>,
@@ -275,7 +276,7 @@ fn halted(alloc: Global, nodes: &[Node], halt: Halt, mut trail: Trail) -> Result
 pub(crate) fn run_from(
     alloc: Global,
     reach: &Reach,
-    nodes: &mut Vec<Node>,
+    nodes: &mut Nodes,
     start: usize,
     table: &Table,
     left: Option<u32>,

@@ -5,6 +5,7 @@ mod asked;
 mod follow;
 mod grow;
 mod node;
+mod nodes;
 mod reroot;
 mod table;
 mod tree;

@@ -1,12 +1,20 @@
 //! What is kept of the nodes when the root moves on.
-ghost use Rattle.std.specs.Prelude.{◌≡◌, ◌≤◌, length, drop, All, filter};
+ghost use Rattle.std.specs.Prelude.{◌≡◌, ◌↔◌, IsTrue, ◌≤◌, length, drop, All, filter};
 ghost use Rattle.bf_spec.specs.Nodes as nodes_;
 ghost use Rattle.bf_spec.specs.Reroot.{begins, IsCut, AreCut};
 
 use crate::node::Node;
 use bf_search::Mark;
 
-fn begins_with(path: &[Mark], prefix: &[Mark]) -> bool
+/// Whether two paths are the same.
+pub(crate) fn is_same(path: &[Mark], other: &[Mark]) -> bool
+    ensures { IsTrue result ↔ (path.now ≡ other.now) }
+{
+    path == other
+}
+
+/// Whether a path begins with these marks.
+pub(crate) fn begins_with(path: &[Mark], prefix: &[Mark]) -> bool
     ensures { result ≡ begins prefix.now path.now }
 {
     path.starts_with(prefix)

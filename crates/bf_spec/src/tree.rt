@@ -18,7 +18,7 @@ use crate::asked::is_asked_from;
 use crate::follow::{Walked, run_from};
 use crate::grow::{first, grown};
 use crate::node::Node;
-use crate::reroot::reroot;
+use crate::nodes::Nodes;
 use crate::table::Table;
 use crate::walk::{Found, best_from, find};
 use bf_reach::Reach;
@@ -33,7 +33,7 @@ use std::marker::Model;
 pub struct SpecTree<'r> {
     alloc: Global,
     reach: &'r Reach,
-    nodes: Vec<Node>,
+    nodes: Nodes,
 }
 
 impl<'r> Model for SpecTree<'r> {
@@ -62,7 +62,7 @@ impl<'r> SpecTree<'r> {
         ensures paths { IfOk result (λ tree. tree.paths ≡ [] ∷ []) }
     {
         let root = first(alloc, reach, state)?;
-        let nodes = one(alloc, root)?;
+        let nodes = Nodes::one(alloc, root)?;
         Ok(SpecTree {
             alloc,
             reach,
@@ -155,7 +155,7 @@ impl<'r> SpecTree<'r> {
         ensures paths { KeepsNodesBelow self.old path.now self.new }
         ensures graph { self.new.graph ≡ self.old.graph }
     {
-        reroot(&mut self.nodes, path);
+        self.nodes.reroot(path);
     }
 }
 
@@ -192,7 +192,7 @@ fn has_path(nodes: &[Node], path: &[Mark]) -> bool
 fn best_in(
     alloc: Global,
     reach: &Reach,
-    nodes: &mut Vec<Node>,
+    nodes: &mut Nodes,
     table: &Table,
     claims: &[Claim],
 ) -> Result<Option<Found>, AllocError>
@@ -212,7 +212,7 @@ fn best_in(
 fn run_in(
     alloc: Global,
     reach: &Reach,
-    nodes: &mut Vec<Node>,
+    nodes: &mut Nodes,
     table: &Table,
     left: Option<u32>,
 ) -> Result<Walked, AllocError>
@@ -232,7 +232,7 @@ fn run_in(
 fn asked_in(
     alloc: Global,
     reach: &Reach,
-    nodes: &mut Vec<Node>,
+    nodes: &mut Nodes,
     table: &Table,
     place: u32,
 ) -> Result<bool, AllocError>
@@ -271,7 +271,7 @@ fn moved(alloc: Global, reach: &Reach, nodes: &[Node], mark: Mark) -> Result<Nod
 fn advance_nodes(
     alloc: Global,
     reach: &Reach,
-    nodes: &mut Vec<Node>,
+    nodes: &mut Nodes,
     mark: Mark,
 ) -> Result<(), AllocError>
     requires nodes { AreNodes reach.now nodes.old.items }
@@ -284,11 +284,11 @@ fn advance_nodes(
     ensures err { OnErr result (nodes.new ≡ nodes.old) }
 {
     if is_guess(mark) && has_path(nodes.as_slice(), &[mark]) {
-        reroot(nodes, &[mark]);
+        nodes.reroot(&[mark]);
         return Ok(());
     }
     let root = moved(alloc, reach, nodes.as_slice(), mark)?;
-    *nodes = one(alloc, root)?;
+    *nodes = Nodes::one(alloc, root)?;
     Ok(())
 }
 
@@ -299,13 +299,4 @@ fn is_guess(mark: Mark) -> bool
         Mark::Skip => false,
         Mark::Good | Mark::Bad => true,
     }
-}
-
-/// The nodes of a tree that has its root alone.
-fn one(alloc: Global, root: Node) -> Result<Vec<Node>, AllocError>
-    ensures { IfOk result (λ nodes. nodes.items ≡ root ∷ []) }
-{
-    let mut nodes = Vec::new(alloc);
-    nodes.push(root)?;
-    Ok(nodes)
 }

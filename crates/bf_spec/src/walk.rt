@@ -7,6 +7,8 @@ ghost use Rattle.bf_spec.specs.Nodes as nodes_;
 
 use crate::grow::grown;
 use crate::node::Node;
+use crate::nodes::Nodes;
+use crate::reroot::is_same;
 use crate::table::Table;
 use bf_reach::Reach;
 use bf_search::{Ask, Claim, Mark, Verdict};
@@ -42,13 +44,6 @@ pub struct Found {
     pub place: u32,
     pub left: u32,
     pub depth: usize,
-}
-
-/// Whether two paths are the same.
-fn is_same(path: &[Mark], other: &[Mark]) -> bool
-    ensures { IsTrue result ↔ (path.now ≡ other.now) }
-{
-    path == other
 }
 
 /// The node of a path.
@@ -95,7 +90,7 @@ fn look_at(ask: &Ask, table: &Table, claims: &[Claim]) -> Look
 pub(crate) fn child(
     alloc: Global,
     reach: &Reach,
-    nodes: &mut Vec<Node>,
+    nodes: &mut Nodes,
     index: usize,
     mark: Mark,
     place: u32,
@@ -106,14 +101,12 @@ pub(crate) fn child(
     ensures extends { nodes_.Extends reach.now nodes.old.items nodes.new.items }
     ensures child { IfOk result (nodes_.Follows nodes.old.items index mark nodes.new.items) }
 {
-    let mut path = Vec::from_slice(alloc, nodes[index].path.as_slice())?;
-    path.push(mark)?;
-    if let Some(found) = find(nodes.as_slice(), path.as_slice()) {
+    if let Some(found) = nodes.child(index, mark) {
         return Ok(found);
     }
     let child = grown(alloc, reach, &nodes[index], mark, place)?;
-    nodes.push(child)?;
-    Ok(nodes.len() - 1)
+    let number = nodes.add(index, mark, child)?;
+    Ok(number)
 }
 
 /// The better one of what was found below a good guess and below a bad one.
@@ -137,7 +130,7 @@ fn better(good: Option<Found>, bad: Option<Found>) -> Option<Found>
 fn settle(
     alloc: Global,
     reach: &Reach,
-    nodes: &mut Vec<Node>,
+    nodes: &mut Nodes,
     start: usize,
     table: &Table,
     claims: &[Claim],
@@ -163,7 +156,7 @@ fn settle(
 pub(crate) fn best_from(
     alloc: Global,
     reach: &Reach,
-    nodes: &mut Vec<Node>,
+    nodes: &mut Nodes,
     start: usize,
     table: &Table,
     claims: &[Claim],

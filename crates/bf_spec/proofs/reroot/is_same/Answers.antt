@@ -4,7 +4,7 @@ use Rattle.std.proofs.lemmas.Slice.Eq.{slice_eq-Decides}
 use Rattle.bf_search.specs.declared.outcomes.Mark.{Mark}
 use Rattle.bf_search.specs.declared.outcomes.Mark.TheVariants.{Good, Bad, Skip}
 use Rattle.bf_search.specs.contracts.outcomes.MarkPartialEq.TheImpl.{eq-value}
-use Rattle.bf_spec.proofs.walk.is_same.Goals as goal
+use Rattle.bf_spec.proofs.reroot.is_same.Goals as goal
 
 mark_eq : (a b : Mark) → Decides (eq-value.it a b) (a ≡ b)
 mark_eq Good Good = search rules
