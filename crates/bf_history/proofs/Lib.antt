@@ -1,3 +1,5 @@
+pub mod Alike
+pub mod Furnishing
 pub mod Meant
 pub mod Steps
 mod Worked

@@ -17,6 +17,7 @@ means_refused view (faults.BadFrom line) meant is = is
 means_refused view (faults.BadMark line) meant is = is
 means_refused view (faults.BadPath line) meant is = is
 means_refused view (faults.Unsupported line) meant is = is
+means_refused view (faults.NoContent line) meant is = is
 means_refused view (faults.TooLarge what) meant is = is
 means_refused view faults.NoMemory meant is = tt
 
@@ -28,6 +29,7 @@ means_alike view other (faults.BadFrom line) meant again alike means = alike mea
 means_alike view other (faults.BadMark line) meant again alike means = alike means
 means_alike view other (faults.BadPath line) meant again alike means = alike means
 means_alike view other (faults.Unsupported line) meant again alike means = alike means
+means_alike view other (faults.NoContent line) meant again alike means = alike means
 means_alike view other (faults.TooLarge what) meant again alike means = alike means
 means_alike view other faults.NoMemory meant again alike means = tt
 

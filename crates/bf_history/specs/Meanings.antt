@@ -196,11 +196,12 @@ is_no_name text = length text == 40 && list_all (λ byte. byte == 48) text
 
 -- ---- commands
 
-unfoldable pub after_commit : Limits → Loading → given.Commit → Result Loading ImportFault
-after_commit limits loading given = do
+-- what a commit does whose edits mean this
+abbrev pub after_edits : Limits → Loading → given.Commit → Result (List Edit) ImportFault → Result Loading ImportFault
+after_edits limits loading given meant = do
   first ← begins_with loading given.branch given.from
   others ← each_of (place_of_target BadFrom loading) given.merges
-  edits ← each_of (edit_of loading.marks) given.changes
+  edits ← meant
   let files : Files = edited (files_from loading.history first) edits
   let commit : Commit = commit_on loading.history (option_to_list first ++ others) files given.header
   history ← within_limits limits (with_commit loading.history commit)
@@ -209,6 +210,9 @@ after_commit limits loading given = do
     history = with_ref given.branch place history;
     marks = with_mark given.mark (marked.Commit place) loading.marks;
   })
+
+unfoldable pub after_commit : Limits → Loading → given.Commit → Result Loading ImportFault
+after_commit limits loading given = after_edits limits loading given (each_of (edit_of loading.marks) given.changes)
 
 unfoldable pub after_reset : Loading → List ℕ → Option Target → Result Loading ImportFault
 after_reset loading branch None = Ok (record loading { history = without_ref branch loading.history })

@@ -26,6 +26,10 @@ pub enum ImportFault {
     /// A target outside the stream, or a tag of something other than a commit.
     #[error("line {line}: unsupported")]
     Unsupported { line: u64 },
+    /// A file that is no submodule, whose path is not UTF-8 or whose content is no blob of the stream so
+    /// far. An import that keeps no contents never says so.
+    #[error("line {line}: no content")]
+    NoContent { line: u64 },
     /// The limit on commits or on the entries of trees was passed.
     #[error("too large: {what:?}")]
     TooLarge { what: Limit },

@@ -3,7 +3,9 @@
 #![tactic(auto)]
 
 mod fault;
+mod law;
 mod marked;
 
 pub use fault::ImportFault;
+pub use law::{all_contents, one_history};
 pub use marked::Marked;

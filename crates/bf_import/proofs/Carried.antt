@@ -1,8 +1,10 @@
 -- How commands are carried out, each lemma for one way in which a call may end.
-use Rattle.std.proofs.Common.{◌≡◌, ℕ, ◌<◌, true, false, List, ◌++◌, codes, Option, Some, None, IfSome, Result, Ok, Err, IfOk, refl, sym, ◌∙◌, ap, subst}
+use Rattle.std.proofs.Common.{◌≡◌, ℕ, ◌<◌, true, false, List, ◌++◌, codes, Option, Some, None, IfSome, Result, Ok, Err, IfOk, OnOk, refl, sym, ◌∙◌, ap, subst}
 use Rattle.std.specs.Option.{option_to_list, ok_or}
 use Rattle.std.specs.Result.{IsErrAnd}
+use Rattle.std.proofs.lemmas.Result.{on_ok_weaker}
 use Rattle.bf_grammar.specs.declared.command.Command.{Command}
+use Rattle.bf_grammar.specs.declared.command.Command.TheVariants as command
 use Rattle.bf_grammar.specs.declared.command.Commit as given
 use Rattle.bf_grammar.specs.declared.command.Target.{Target}
 use Rattle.bf_grammar.specs.declared.fault.Limits.{Limits}
@@ -14,13 +16,15 @@ use Rattle.bf_history.specs.declared.fault.ImportFault.{ImportFault}
 use Rattle.bf_history.specs.declared.fault.ImportFault.TheVariants.{BadFrom, Unsupported}
 use Rattle.bf_history.specs.declared.marked.Marked.{Marked}
 use Rattle.bf_history.specs.declared.marked.Marked.TheVariants as marked
+use Rattle.bf_history.specs.Contents.{after_command_over, blobs_behind}
 use Rattle.bf_history.specs.Imports.{Means}
+use Rattle.bf_history.specs.Keeping.{Kept, command_meant, edits_meant, kept_behind, kept_behind_all, kept_with}
 use Rattle.bf_history.specs.Meanings.{History, Loading, ◌>>=◌, each_of, mark_in, ref_in, place_named, ref_of_target, commit_marked, place_by, place_of_target}
-use Rattle.bf_history.specs.Meanings.{edit_of, begins_with, place_of_commit, with_ref, without_ref, with_mark, is_no_name, after_command, after_commit}
+use Rattle.bf_history.specs.Meanings.{begins_with, place_of_commit, with_ref, without_ref, with_mark, is_no_name, after_command, after_commit, after_edits}
 use Rattle.bf_history.specs.Meanings.{after_reset}
 use Rattle.bf_history.proofs.Meant.{means_refused, means_same, means_passed_on, means_then}
 use Rattle.bf_import.specs.declared.targets.Role.{Role}
-use Rattle.bf_import.specs.Growing.{Importing, StandsBelow, after_parts, commit_from, joined, mark_set, parents_given, ref_set, with_place}
+use Rattle.bf_import.specs.Growing.{Importing, StandsBelow, after_parts, blob_name, commit_from, joined, mark_set, parents_given, ref_set, with_place}
 use Rattle.bf_import.specs.Roles.{said_of}
 
 -- what is meant exactly is meant
@@ -28,12 +32,80 @@ pub means_is : {X : Type 0} (result meant : Result X ImportFault) → result ≡
 means_is (Ok x) meant is = sym is
 means_is (Err fault) meant is = means_refused (λ x. x) fault meant (sym is)
 
+-- a command other than a commit means the same, whether contents are kept or not
+abbrev pub IsNoCommit : Command → Type 0
+IsNoCommit (command.Commit given) = ⊥
+IsNoCommit other = Unit {0}
+
+plainly : (limits : Limits) (kept : Kept) (loading : Loading) (asked : Command) → IsNoCommit asked
+    → after_command limits loading asked ≡ command_meant limits kept loading asked
+unfolding after_command_over
+plainly limits None loading asked plain = refl
+plainly limits (Some blobs) loading (command.Commit given) plain = absurd plain
+plainly limits (Some blobs) loading (command.Blob line mark content) plain = refl
+plainly limits (Some blobs) loading (command.Tag line name mark from) plain = refl
+plainly limits (Some blobs) loading (command.Reset line branch from) plain = refl
+plainly limits (Some blobs) loading (command.Progress line) plain = refl
+plainly limits (Some blobs) loading (command.Feature line) plain = refl
+
 -- what is meant by a command is meant by one that is the same
-pub commanded : {X : Type 0} (view : X → Loading) (limits : Limits) (loading : Loading) (given command : Command) (result : Result X ImportFault)
-    → given ≡ command
-    → Means view result (after_command limits loading command) → Means view result (after_command limits loading given)
-commanded view limits loading given command result is means = means_same view result (after_command limits loading command) (after_command limits loading given)
-    (sym (ap (after_command limits loading) is)) means
+pub commanded : {X : Type 0} (view : X → Loading) (limits : Limits) (kept : Kept) (loading : Loading) (asked same : Command) (result : Result X ImportFault)
+    → asked ≡ same → IsNoCommit same
+    → Means view result (after_command limits loading same) → Means view result (command_meant limits kept loading asked)
+commanded view limits kept loading asked same result is plain means =
+    means_same view result (after_command limits loading same) (command_meant limits kept loading asked)
+    (plainly limits kept loading same plain ∙ sym (ap (command_meant limits kept loading) is)) means
+
+commit_over : (limits : Limits) (kept : Kept) (loading : Loading) (commit : given.Commit)
+    → after_edits limits loading commit (edits_meant kept loading.marks commit.changes) ≡ command_meant limits kept loading (command.Commit commit)
+unfolding after_command after_commit after_command_over
+commit_over limits None loading commit = refl
+commit_over limits (Some blobs) loading commit = refl
+
+-- so is what is meant by a commit
+pub commanded_commit : {X : Type 0} (view : X → Loading) (limits : Limits) (kept : Kept) (loading : Loading) (asked : Command) (commit : given.Commit)
+    (result : Result X ImportFault) → asked ≡ command.Commit commit
+    → Means view result (after_edits limits loading commit (edits_meant kept loading.marks commit.changes))
+    → Means view result (command_meant limits kept loading asked)
+commanded_commit view limits kept loading asked commit result is means =
+    means_same view result (after_edits limits loading commit (edits_meant kept loading.marks commit.changes)) (command_meant limits kept loading asked)
+    (commit_over limits kept loading commit ∙ sym (ap (command_meant limits kept loading) is)) means
+
+-- what is kept behind a command
+pub keeps_blob : {T : Type 0} (result : Result T ImportFault) (kept more : Kept) (asked : Command) (line : ℕ) (mark : Option ℕ) (content : List ℕ)
+    → asked ≡ command.Blob line mark content → OnOk result (more ≡ kept_with kept (blob_name content) content) → OnOk result (more ≡ kept_behind kept asked)
+unfolding blobs_behind
+keeps_blob result kept more asked line mark content is keeps =
+    on_ok_weaker result (λ (one : more ≡ kept_with kept (blob_name content) content). one ∙ sym (ap (kept_behind kept) is)) keeps
+
+pub keeps_commit : {T : Type 0} (result : Result T ImportFault) (kept more : Kept) (asked : Command) (commit : given.Commit) → asked ≡ command.Commit commit
+    → OnOk result (more ≡ kept_behind_all kept commit.changes) → OnOk result (more ≡ kept_behind kept asked)
+unfolding blobs_behind
+keeps_commit result kept more asked commit is keeps =
+    on_ok_weaker result (λ (all : more ≡ kept_behind_all kept commit.changes). all ∙ sym (ap (kept_behind kept) is)) keeps
+
+abbrev pub HasNoContent : Command → Type 0
+HasNoContent (command.Blob line mark content) = ⊥
+HasNoContent (command.Commit given) = ⊥
+HasNoContent other = Unit {0}
+
+keeps_on : (kept : Kept) (asked : Command) → HasNoContent asked → kept ≡ kept_behind kept asked
+unfolding blobs_behind
+keeps_on None asked none = refl
+keeps_on (Some blobs) (command.Blob line mark content) none = absurd none
+keeps_on (Some blobs) (command.Commit given) none = absurd none
+keeps_on (Some blobs) (command.Tag line name mark from) none = refl
+keeps_on (Some blobs) (command.Reset line branch from) none = refl
+keeps_on (Some blobs) (command.Progress line) none = refl
+keeps_on (Some blobs) (command.Feature line) none = refl
+
+pub keeps_all : {T : Type 0} (result : Result T ImportFault) (kept : Kept) (asked same : Command) → asked ≡ same → HasNoContent same
+    → OnOk result (kept ≡ kept_behind kept asked)
+keeps_all result kept asked same is none = go result (keeps_on kept same none ∙ sym (ap (kept_behind kept) is))
+  where
+    go : {T A : Type 0} (result : Result T ImportFault) → A → OnOk result A
+    go (Ok done) here = here
+    go (Err fault) here = tt
 
 -- ---- targets
 
@@ -126,16 +198,16 @@ parted : {X Y Z : Type 0} (first : Result X ImportFault) (make : X → Y) (next 
 parted (Ok x) make next = refl
 parted (Err fault) make next = refl
 
-module _ (limits : Limits) (loading : Loading) (given : given.Commit) where
+module _ (limits : Limits) (loading : Loading) (given : given.Commit) (meant : Result (List Edit) ImportFault) where
   -- the edits, and the rest of a commit
   with_parents : Option ℕ → List ℕ → Result Loading ImportFault
-  with_parents first parents = each_of (edit_of loading.marks) given.changes >>= λ edits. after_parts limits loading given first parents edits
+  with_parents first parents = meant >>= λ edits. after_parts limits loading given first parents edits
 
   with_first : Option ℕ → Result Loading ImportFault
   with_first first = parents_given loading first given.merges >>= with_parents first
 
-  commit_meant : (begins_with loading given.branch given.from >>= with_first) ≡ after_commit limits loading given
-  unfolding after_commit with_first with_parents
+  commit_meant : (begins_with loading given.branch given.from >>= with_first) ≡ after_edits limits loading given meant
+  unfolding with_first with_parents
   commit_meant = go (begins_with loading given.branch given.from)
     where
       go : (begun : Result (Option ℕ) ImportFault) → (begun >>= with_first)
@@ -144,52 +216,52 @@ module _ (limits : Limits) (loading : Loading) (given : given.Commit) where
       go (Err fault) = refl
 
   module _ {X : Type 0} (view : X → Loading) (result : Result X ImportFault) where
-    commit_same : Means view result (begins_with loading given.branch given.from >>= with_first) → Means view result (after_commit limits loading given)
-    commit_same = means_same view result (begins_with loading given.branch given.from >>= with_first) (after_commit limits loading given) commit_meant
+    commit_same : Means view result (begins_with loading given.branch given.from >>= with_first) → Means view result (after_edits limits loading given meant)
+    commit_same = means_same view result (begins_with loading given.branch given.from >>= with_first) (after_edits limits loading given meant) commit_meant
 
     pub first_refused : (fault : ImportFault) → IsErrAnd result (λ other. other ≡ fault)
         → Means (λ (place : Option ℕ). place) (Err fault) (begins_with loading given.branch given.from)
-        → Means view result (after_commit limits loading given)
+        → Means view result (after_edits limits loading given meant)
     first_refused fault exit means = commit_same (means_passed_on (λ (place : Option ℕ). place) view (begins_with loading given.branch given.from) with_first
         fault result exit means)
 
     module _ (first : Option ℕ) (first_is : begins_with loading given.branch given.from ≡ Ok first) where
-      from_first : Means view result (with_first first) → Means view result (after_commit limits loading given)
+      from_first : Means view result (with_first first) → Means view result (after_edits limits loading given meant)
       from_first means = commit_same (means_then (λ (place : Option ℕ). place) view (begins_with loading given.branch given.from) with_first first result
           first_is means)
 
       pub parents_refused : {V : Type 0} (other : V → List ℕ) (fault : ImportFault) → IsErrAnd result (λ other. other ≡ fault)
           → Means other (Err fault) (parents_given loading first given.merges)
-          → Means view result (after_commit limits loading given)
+          → Means view result (after_edits limits loading given meant)
       unfolding with_first
       parents_refused other fault exit means = from_first
           (means_passed_on other view (parents_given loading first given.merges) (with_parents first) fault result exit means)
 
       module _ (parents : List ℕ) (parents_are : parents_given loading first given.merges ≡ Ok parents) where
-        from_parents : Means view result (with_parents first parents) → Means view result (after_commit limits loading given)
+        from_parents : Means view result (with_parents first parents) → Means view result (after_edits limits loading given meant)
         unfolding with_first
         from_parents means = from_first (means_then (λ (places : List ℕ). places) view (parents_given loading first given.merges) (with_parents first) parents
             result parents_are means)
 
         pub edits_refused : {V : Type 0} (other : V → List Edit) (fault : ImportFault) → IsErrAnd result (λ other. other ≡ fault)
-            → Means other (Err fault) (each_of (edit_of loading.marks) given.changes)
-            → Means view result (after_commit limits loading given)
+            → Means other (Err fault) meant
+            → Means view result (after_edits limits loading given meant)
         unfolding with_parents
         edits_refused other fault exit means =
-            from_parents (means_passed_on other view (each_of (edit_of loading.marks) given.changes)
+            from_parents (means_passed_on other view meant
             (λ edits. after_parts limits loading given first parents edits) fault result exit means)
 
-        module _ (edits : List Edit) (edits_are : each_of (edit_of loading.marks) given.changes ≡ Ok edits) where
-          pub from_edits : Means view result (after_parts limits loading given first parents edits) → Means view result (after_commit limits loading given)
+        module _ (edits : List Edit) (edits_are : meant ≡ Ok edits) where
+          pub from_edits : Means view result (after_parts limits loading given first parents edits) → Means view result (after_edits limits loading given meant)
           unfolding with_parents
           from_edits means =
-              from_parents (means_then (λ (all : List Edit). all) view (each_of (edit_of loading.marks) given.changes)
+              from_parents (means_then (λ (all : List Edit). all) view meant
               (λ edits. after_parts limits loading given first parents edits) edits result edits_are means)
 
           -- the commit is past a limit
           pub limits_passed : {V : Type 0} (other : V → History) (fault : ImportFault) → IsErrAnd result (λ other. other ≡ fault)
               → Means other (Err fault) (joined limits loading.history (commit_from loading.history first parents edits given.header))
-              → Means view result (after_commit limits loading given)
+              → Means view result (after_edits limits loading given meant)
           limits_passed other fault exit means =
               let commit = commit_from loading.history first parents edits given.header in
               from_edits (means_passed_on other view (joined limits loading.history commit)

@@ -1,3 +1,5 @@
+mod Answered
+mod Placed
 pub mod Carried
 pub mod Keeping
 mod Loaded

@@ -8,6 +8,9 @@ use Rattle.bf_grammar.specs.declared.command.Header.{Header}
 use Rattle.bf_grammar.specs.declared.command.Target.{Target}
 use Rattle.bf_grammar.specs.declared.fault.Limit.TheVariants.{Commits, Entries}
 use Rattle.bf_grammar.specs.declared.fault.Limits.{Limits}
+use Rattle.bf_oid.specs.declared.object.Kind.TheVariants as kind
+use Rattle.bf_oid.specs.declared.object.Oid.{Oid}
+use Rattle.bf_oid.specs.Object.{name_of}
 use Rattle.bf_forest.specs.declared.edits.Edit.{Edit}
 use Rattle.bf_forest.specs.declared.trees.ForestFault.{ForestFault}
 use Rattle.bf_forest.specs.declared.trees.ForestFault.TheVariants as faults
@@ -18,7 +21,8 @@ use Rattle.bf_history.specs.declared.fault.ImportFault.TheVariants.{BadFrom, Too
 use Rattle.bf_history.specs.declared.marked.Marked.{Marked}
 use Rattle.bf_history.specs.declared.marked.Marked.TheVariants as marked
 use Rattle.bf_history.specs.Imports.{Means}
-use Rattle.bf_history.specs.Meanings.{History, Loading, Commit, after_command, after_commit, commit_on, each_of, files_from, nothing_loaded}
+use Rattle.bf_history.specs.Keeping.{Kept, command_meant, edits_meant}
+use Rattle.bf_history.specs.Meanings.{History, Loading, Commit, after_edits, commit_on, each_of, files_from, nothing_loaded}
 use Rattle.bf_history.specs.Meanings.{place_named, place_of_commit, place_of_target, stood, with_commit, with_mark, with_ref, within_limits, without_ref, ◌>>=◌}
 
 -- a history that grows, and its limits
@@ -50,12 +54,12 @@ HasPlace history = λ place. place < length history.parents
 abbrev pub Leaves : {X : Type 0} → Importing → Result X ImportFault → Result Loading ImportFault → Type 0
 Leaves after result meant = Means (λ _. after.loading) result meant
 
--- what is meant by a command, and by that of a commit
-abbrev pub meant_by : Importing → Command → Result Loading ImportFault
-meant_by before command = after_command before.limits before.loading command
+-- what is meant by a command, and by that of a commit, by what is kept of contents
+abbrev pub meant_by : Kept → Importing → Command → Result Loading ImportFault
+meant_by kept before command = command_meant before.limits kept before.loading command
 
-abbrev pub committed : Importing → given.Commit → Result Loading ImportFault
-committed before given = after_commit before.limits before.loading given
+abbrev pub committed : Kept → Importing → given.Commit → Result Loading ImportFault
+committed kept before given = after_edits before.limits before.loading given (edits_meant kept before.loading.marks given.changes)
 
 -- ---- commits
 
@@ -118,6 +122,10 @@ after_parts limits loading given first parents edits = do
   Ok (with_place loading given (place_of_commit loading.history commit) history)
 
 -- ---- refs and marks
+
+-- the name of a blob
+abbrev pub blob_name : List ℕ → Oid
+blob_name content = record { 0 = name_of kind.Blob content }
 
 -- an import with a ref set or removed, or with a mark set
 abbrev pub ref_set : List ℕ → ℕ → Importing → Importing

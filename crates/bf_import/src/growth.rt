@@ -1,15 +1,15 @@
 //! A history that grows by its commits and refs.
-ghost use Rattle.std.specs.Prelude.{◌≡◌, ◌≤◌, ◌<◌, [], ◌∷◌, ◌++◌, if◌then◌else◌, length, is_none, All, IfOk, IfSome, OnOk, OnErr, IsErrOf};
+ghost use Rattle.std.specs.Prelude.{◌≡◌, ◌≤◌, ◌<◌, [], ◌∷◌, ◌++◌, if◌then◌else◌, length, is_none, All, IfOk, IfSome, IsTrue, OnOk, OnErr, IsErrOf};
 ghost use Rattle.std.specs.List.{slice_index_or};
 ghost use Rattle.bf_forest.specs.declared.trees.ForestFault.TheVariants as faults;
-ghost use Rattle.bf_forest.specs.Files.{edited};
+ghost use Rattle.bf_forest.specs.Files.{edited, is_tree};
 ghost use Rattle.bf_forest.specs.Trees.{tree_name, entries_of, files_at};
 ghost use Rattle.bf_grammar.specs.Limits.{IsWithin};
 ghost use Rattle.bf_history.specs.Meanings.{nothing_loaded, files_from, place_named, ref_in, with_ref, without_ref};
 ghost use Rattle.bf_import.specs.Growing.{HasPlace, begun_with, edited_files, nothing_grown, with_edits, with_named};
 ghost use Rattle.bf_tables.specs.Named.{with_name};
 
-use bf_forest::{Edit, Forest, ForestFault};
+use bf_forest::{Edit, FileEntry, Forest, ForestFault};
 use bf_grammar::Limits;
 use bf_graph::Graph;
 use bf_io::Bytes;
@@ -17,6 +17,9 @@ use bf_oid::Oid;
 use bf_tables::{Names, Refs};
 use std::alloc::{AllocError, Global};
 use std::marker::Model;
+
+/// The number of the tree without files.
+const EMPTY_TREE: u32 = 0;
 
 /// The commits so far, by place, the refs, the trees of the commits, and the limits.
 #[derive(Drop)]
@@ -65,6 +68,7 @@ impl Growth {
         ensures len { result ≡ length self.now.history.parents }
         ensures few { result ≤ self.now.limits.commits }
         ensures names { length self.now.history.names ≡ length self.now.history.parents }
+        ensures files { length self.now.history.files ≡ length self.now.history.parents }
     {
         self.graph.len()
     }
@@ -107,12 +111,35 @@ impl Growth {
         self.forest.apply(tree, edits)
     }
 
+    /// The number of the tree of a commit; that of the tree without files at a place past the last.
+    pub(crate) fn tree_of(&self, place: u32) -> u32
+        ensures stands { result < length self.now.history.directories }
+        ensures files { files_at self.now.history.directories result
+            ≡ slice_index_or self.now.history.files place [] }
+    {
+        if place < self.len() {
+            self.trees[place as usize]
+        } else {
+            EMPTY_TREE
+        }
+    }
+
     /// The name of a tree, as git names it.
     pub(crate) fn tree_name(&self, tree: u32) -> Oid
         requires { tree < length self.now.history.directories }
         ensures { result.0 ≡ tree_name (files_at self.now.history.directories tree) }
     {
         self.forest.name(tree)
+    }
+
+    /// The files of a tree, in order of their paths' bytes. No path is another one, nor leads to it.
+    pub(crate) fn files(&self, tree: u32) -> Result<Vec<FileEntry>, AllocError>
+        requires { tree < length self.now.history.directories }
+        ensures value { IfOk result
+            (λ files. files.items ≡ files_at self.now.history.directories tree) }
+        ensures ordered { IfOk result (λ files. IsTrue (is_tree files.items)) }
+    {
+        self.forest.files(tree)
     }
 
     /// The names of the commits, by place.
@@ -221,6 +248,6 @@ fn tree_at(trees: &[u32], place: Option<u32>) -> u32
 {
     match place {
         Some(place) => trees[place as usize],
-        None => 0,
+        None => EMPTY_TREE,
     }
 }

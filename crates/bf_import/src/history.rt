@@ -11,13 +11,15 @@ use bf_graph::Graph;
 use bf_io::Bytes;
 use bf_oid::Oid;
 use bf_tables::Refs;
-use std::alloc::AllocError;
+use std::alloc::{AllocError, Global};
 use std::marker::Model;
+use std::sync::Arc;
 
 /// The commits of a stream and its refs. A commit is named by its place, the number of the commit in the
-/// order of the stream, from 0; commits of one name are one, at the place of the first.
+/// order of the stream, from 0; commits of one name are one, at the place of the first. A history that is
+/// shared is kept once.
 pub struct History {
-    growth: Growth,
+    growth: Arc<Growth>,
 }
 
 /// Written out, so that it is proved once: what is derived is proved anew on each way out of each function
@@ -33,30 +35,48 @@ impl Model for History {
 
     ghost Value = { History };
 
-    ghost view = { λ h. h.growth.history };
+    ghost view = { λ h. h.growth.value.history };
 }
 
 impl History {
     /// A history that grows no more.
-    pub(crate) fn of(growth: Growth) -> History
-        ensures { result ≡ growth.history }
+    pub(crate) fn of(alloc: Global, growth: Growth) -> Result<History, AllocError>
+        ensures { IfOk result (λ history. history ≡ growth.history) }
     {
-        History { growth }
+        Ok(History {
+            growth: Arc::new(alloc, growth)?,
+        })
+    }
+
+    /// The same history, for another owner. Nothing of it is copied.
+    pub fn share(&self) -> Result<History, AllocError>
+        ensures { IfOk result (λ history. history ≡ self.now) }
+    {
+        Ok(History {
+            growth: self.growth.clone()?,
+        })
+    }
+
+    fn growth(&self) -> &Growth
+        ensures { result.now.history ≡ self.now }
+    {
+        &self.growth
     }
 
     /// The parents of each commit, by place, in the order in which the stream gave them.
     pub fn graph(&self) -> &Graph
         ensures { result.now ≡ self.now.parents }
     {
-        let growth = &self.growth;
+        let growth = self.growth();
         &growth.graph
     }
 
-    /// The number of commits.
+    /// The number of commits. There is one list of files for each.
     pub fn len(&self) -> u32
-        ensures { result ≡ length self.now.parents }
+        ensures len { result ≡ length self.now.parents }
+        ensures files { length self.now.files ≡ length self.now.parents }
     {
-        self.growth.len()
+        self.growth().len()
     }
 
     /// The names of the commits, by place. No two are the same.
@@ -64,7 +84,7 @@ impl History {
         ensures value { result.now ≡ self.now.names }
         ensures len { length result.now ≡ length self.now.parents }
     {
-        self.growth.names()
+        self.growth().names()
     }
 
     /// The subjects of the commits, by place: the first line of a message that has a byte, without its LF.
@@ -72,7 +92,7 @@ impl History {
         ensures value { result.now ≡ self.now.subjects }
         ensures len { length result.now ≡ length self.now.parents }
     {
-        let growth = &self.growth;
+        let growth = self.growth();
         growth.subjects.as_slice()
     }
 
@@ -81,7 +101,7 @@ impl History {
         ensures value { result.now ≡ self.now.refs }
         ensures places { All (λ ref. ref.1 < length self.now.parents) result.now }
     {
-        let growth = &self.growth;
+        let growth = self.growth();
         &growth.refs
     }
 
@@ -90,26 +110,26 @@ impl History {
         ensures value { result ≡ place_named self.now.names name }
         ensures within { IfSome result (λ place. place < length self.now.parents) }
     {
-        self.growth.place_named(name)
+        self.growth().place_named(name)
     }
 
-    /// The name of the tree of a commit, as git names it.
+    /// The name of the tree of a commit, as git names it; at a place past the last that of the tree without
+    /// files.
     pub fn tree_name(&self, place: u32) -> Oid
-        requires { place < length self.now.parents }
         ensures { result.0 ≡ tree_name (slice_index_or self.now.files place []) }
     {
-        let growth = &self.growth;
-        growth.forest.name(growth.trees[place as usize])
+        let growth = self.growth();
+        growth.tree_name(growth.tree_of(place))
     }
 
-    /// The files of a commit, in order of their paths' bytes. No path is another one, nor leads to it.
+    /// The files of a commit, in order of their paths' bytes; none at a place past the last. No path is
+    /// another one, nor leads to it.
     pub fn files(&self, place: u32) -> Result<Vec<FileEntry>, AllocError>
-        requires { place < length self.now.parents }
         ensures value { IfOk result
             (λ files. files.items ≡ slice_index_or self.now.files place []) }
         ensures ordered { IfOk result (λ files. IsTrue (is_tree files.items)) }
     {
-        let growth = &self.growth;
-        growth.forest.files(growth.trees[place as usize])
+        let growth = self.growth();
+        growth.files(growth.tree_of(place))
     }
 }

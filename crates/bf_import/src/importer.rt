@@ -1,22 +1,21 @@
 //! An import under way.
 ghost use Rattle.std.specs.Prelude.{◌≡◌, ◌==◌, ◌<◌, ◌++◌, codes, length, All, IfOk, IfSome, OnOk};
 ghost use Rattle.std.specs.List.{list_all};
-ghost use Rattle.bf_oid.specs.declared.object.Kind.TheVariants as kind;
 ghost use Rattle.bf_grammar.specs.Limits.{IsWithin};
-ghost use Rattle.bf_oid.specs.Object.{name_of};
 ghost use Rattle.bf_history.specs.declared.marked.Marked.TheVariants as marked;
 ghost use Rattle.bf_history.specs.Imports.{Means};
-ghost use Rattle.bf_history.specs.Meanings.{after_reset, after_tag, each_of, edit_of, is_no_name};
+ghost use Rattle.bf_history.specs.Keeping.{edits_meant, kept_behind, kept_behind_all, kept_with};
+ghost use Rattle.bf_history.specs.Meanings.{after_reset, after_tag, is_no_name};
 ghost use Rattle.bf_history.specs.Meanings.{place_of_commit, with_mark};
-ghost use Rattle.bf_import.specs.Growing.{HasPlace, Leaves, StandsBelow, commit_from, committed, joined, mark_set, meant_by, nothing_imported};
+ghost use Rattle.bf_import.specs.Growing.{HasPlace, Leaves, StandsBelow, blob_name, commit_from, committed, joined, mark_set, meant_by, nothing_imported};
 ghost use Rattle.bf_import.specs.Growing.{ref_removed, ref_set};
 
 use crate::growth::Growth;
 use crate::history::History;
 use crate::targets::Role;
-use bf_commits::edits_of;
+use bf_commits::{Contents, edits_of};
 use bf_forest::Edit;
-use bf_grammar::{Change, Command, Commit, Header, Limits, Target};
+use bf_grammar::{Changes, Command, Commit, Header, Limits, Target};
 use bf_history::{ImportFault, Marked};
 use bf_io::Bytes;
 use bf_oid::{Kind, object_name};
@@ -58,10 +57,10 @@ impl Importer {
     }
 
     /// The history of the commands so far.
-    pub(crate) fn into_history(self) -> History
-        ensures { result ≡ self.loading.history }
+    pub(crate) fn into_history(self) -> Result<History, AllocError>
+        ensures { IfOk result (λ history. history ≡ self.loading.history) }
     {
-        History::of(self.growth)
+        History::of(self.alloc, self.growth)
     }
 
     /// The allocator that the import grows by.
@@ -69,14 +68,21 @@ impl Importer {
         self.alloc
     }
 
-    /// Carries out a command, or refuses it.
-    pub(crate) fn take(&mut self, command: Command) -> Result<(), ImportFault>
-        ensures loading { Leaves self.new result (meant_by self.old command) }
+    /// Carries out a command, or refuses it. The contents take those that stand in it.
+    pub(crate) fn take<C: Contents>(
+        &mut self,
+        contents: &mut C,
+        command: Command,
+    ) -> Result<(), ImportFault>
+        ensures loading { let kept = C.kept contents.old in
+            Leaves self.new result (meant_by kept self.old command) }
+        ensures kept { OnOk result
+            (C.kept contents.new ≡ kept_behind (C.kept contents.old) command) }
         ensures limits { OnOk result (self.new.limits ≡ self.old.limits) }
     {
         match command {
-            Command::Blob { mark, content, .. } => self.take_blob(mark, content.as_slice()),
-            Command::Commit(commit) => self.take_commit(commit),
+            Command::Blob { mark, content, .. } => self.take_blob(contents, mark, content),
+            Command::Commit(commit) => self.take_commit(contents, commit),
             Command::Tag {
                 name,
                 mark,
@@ -89,19 +95,35 @@ impl Importer {
         }
     }
 
-    fn take_blob(&mut self, mark: Option<u64>, content: &[u8]) -> Result<(), ImportFault>
-        ensures loading { let blob = marked.Blob (record { 0 = name_of kind.Blob content.now }) in
+    fn take_blob<C: Contents>(
+        &mut self,
+        contents: &mut C,
+        mark: Option<u64>,
+        content: Bytes,
+    ) -> Result<(), ImportFault>
+        ensures loading { let blob = marked.Blob (blob_name content) in
             let loading = self.old.loading in
             let meant = record loading { marks = with_mark mark blob loading.marks } in
             Leaves self.new result (Ok meant) }
+        ensures kept { let kept = C.kept contents.old in
+            OnOk result (C.kept contents.new ≡ kept_with kept (blob_name content) content) }
         ensures limits { OnOk result (self.new.limits ≡ self.old.limits) }
     {
-        self.set_mark(mark, Marked::Blob(object_name(Kind::Blob, content)))?;
+        let name = object_name(Kind::Blob, content.as_slice());
+        self.set_mark(mark, Marked::Blob(name))?;
+        contents.add(name, content)?;
         Ok(())
     }
 
-    fn take_commit(&mut self, commit: Commit) -> Result<(), ImportFault>
-        ensures loading { Leaves self.new result (committed self.old commit) }
+    fn take_commit<C: Contents>(
+        &mut self,
+        contents: &mut C,
+        commit: Commit,
+    ) -> Result<(), ImportFault>
+        ensures loading { let kept = C.kept contents.old in
+            Leaves self.new result (committed kept self.old commit) }
+        ensures kept { OnOk result
+            (C.kept contents.new ≡ kept_behind_all (C.kept contents.old) commit.changes) }
         ensures limits { OnOk result (self.new.limits ≡ self.old.limits) }
     {
         let Commit {
@@ -115,18 +137,25 @@ impl Importer {
         } = commit;
         let first = self.first_parent(&branch, from)?;
         let parents = self.parents(first, merges.as_slice())?;
-        let edits = self.edits(changes.as_slice())?;
+        let edits = self.edits(contents, changes)?;
         let place = self.add_commit(first, parents.as_slice(), edits.as_slice(), header)?;
         self.set_ref(branch, place)?;
         self.set_mark(mark, Marked::Commit(place))?;
         Ok(())
     }
 
-    fn edits(&self, changes: &[Change]) -> Result<Vec<Edit>, ImportFault>
-        ensures { let marks = self.now.loading.marks in
-            Means (λ edits. edits.items) result (each_of (edit_of marks) changes.now) }
+    fn edits<C: Contents>(
+        &self,
+        contents: &mut C,
+        changes: Changes,
+    ) -> Result<Vec<Edit>, ImportFault>
+        ensures edits { let marks = self.now.loading.marks in
+            let kept = C.kept contents.old in
+            Means (λ edits. edits.items) result (edits_meant kept marks changes) }
+        ensures kept { OnOk result
+            (C.kept contents.new ≡ kept_behind_all (C.kept contents.old) changes) }
     {
-        edits_of(self.alloc, &self.marks, changes)
+        edits_of(self.alloc, &self.marks, contents, changes)
     }
 
     /// Adds a commit with these parents and edits, and gives its place.

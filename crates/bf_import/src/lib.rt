@@ -3,6 +3,7 @@
 #![tactic(auto)]
 
 mod adding;
+mod content;
 mod growth;
 mod history;
 mod importer;
@@ -12,5 +13,7 @@ mod targets;
 pub use bf_grammar::{Limit, Limits, StreamFault};
 pub use bf_history::ImportFault;
 pub use bf_oid::Oid;
+pub use bf_tables::Blobs;
+pub use content::Content;
 pub use history::History;
-pub use loading::import;
+pub use loading::{import, import_with_blobs};

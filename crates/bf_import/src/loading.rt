@@ -1,18 +1,23 @@
 //! From a stream to its history.
-ghost use Rattle.std.specs.Prelude.{◌≡◌, false, IfErr, IsErrOf};
+ghost use Rattle.std.specs.Prelude.{◌≡◌, false, IfErr, IfOk, IsErrOf, OnOk};
 ghost use Rattle.bf_grammar.specs.Limits.{IsWithin};
+ghost use Rattle.bf_history.specs.Contents.{MayFurnish};
 ghost use Rattle.bf_history.specs.Imports.{MayImport};
-ghost use Rattle.bf_import.specs.Faults.{IsImportFault, refusal_of_stream};
-ghost use Rattle.bf_import.specs.Loading.{LoadsRest};
+ghost use Rattle.bf_history.specs.Meanings.{nothing_loaded};
+ghost use Rattle.bf_import.specs.Faults.{IsFaultOf, IsFurnishingFault, IsImportFault, refusal_of_stream};
+ghost use Rattle.bf_import.specs.Loading.{IsFurnishedBy, LoadsRest, MayLoad, ended, loaded_by};
 ghost use Rattle.bf_io.specs.Causes.{FailsOnlyAt};
 ghost use Rattle.bf_stream.specs.Standing.{is_over, limits_of, reader_faults, source_of};
 
+use crate::content::Content;
 use crate::history::History;
 use crate::importer::Importer;
+use bf_commits::{Contents, LetGo};
 use bf_grammar::{Limits, StreamFault};
 use bf_history::ImportFault;
 use bf_io::Source;
 use bf_stream::{Reader, Window};
+use bf_tables::Blobs;
 use std::alloc::Global;
 
 /// The history that the commands of a stream make (git-fast-import(1)). The source is read to its end, or to the
@@ -32,25 +37,70 @@ pub fn import<S: Source>(
     ensures own { IsErrOf result (ImportFault.Stream StreamFault.NoMemory) → ⊥ }
     ensures known { IfErr result (λ fault. IsImportFault fault) }
 {
+    let (importer, _) = imported(alloc, source, limits, LetGo)?;
+    Ok(importer.into_history()?)
+}
+
+/// The history that the commands of a stream make, with its contents: the blobs and the parts inline, each
+/// content once. It is refused as by `import`, and with `NoContent` at the first file, submodules aside, whose
+/// path is not UTF-8, or whose content is named by its digits and not among those so far.
+pub fn import_with_blobs<S: Source>(
+    alloc: Global,
+    source: &mut S,
+    limits: Limits,
+) -> Result<Content, ImportFault>
+    requires { IsWithin limits }
+    ensures content { MayFurnish (S.left source.old) limits result }
+    ensures cause { FailsOnlyAt (ImportFault.Stream StreamFault.Read)
+        (S.faults source.old) (S.faults source.new) result }
+    ensures known { IfErr result (λ fault. IsFurnishingFault fault) }
+{
+    let (importer, blobs) = imported(alloc, source, limits, Blobs::new(alloc))?;
+    Ok(Content::of(importer.into_history()?, blobs))
+}
+
+/// An import that carried out the commands of a stream, and what its contents have become.
+fn imported<S: Source, C: Contents + Drop>(
+    alloc: Global,
+    source: &mut S,
+    limits: Limits,
+    mut contents: C,
+) -> Result<(Importer, C), ImportFault>
+    requires { IsWithin limits }
+    ensures loads { let left = S.left source.old in
+        MayLoad left limits (C.kept contents) (loaded_by C.kept result) }
+    ensures furnished { let before = IsFurnishedBy (C.kept contents) nothing_loaded in
+        IfOk result (λ both. before → IsFurnishedBy (C.kept both.1) both.0.loading) }
+    ensures cause { FailsOnlyAt (ImportFault.Stream StreamFault.Read)
+        (S.faults source.old) (S.faults source.new) result }
+    ensures known { IfErr result (IsFaultOf (C.kept contents)) }
+{
     let window = Window::new(alloc, limits.stream)?;
     let mut importer = Importer::new(alloc, limits)?;
     let mut reader = Reader::with_window(alloc, window, source, limits);
-    let loaded = load(&mut reader, &mut importer);
+    let loaded = load(&mut reader, &mut importer, &mut contents);
     let _ = reader.close();
     match loaded {
-        Ok(()) => Ok(importer.into_history()),
+        Ok(()) => Ok((importer, contents)),
         Err(fault) => Err(fault),
     }
 }
 
 /// Carries out the commands that are left.
-fn load<S: Source>(reader: &mut Reader<'_, S>, importer: &mut Importer) -> Result<(), ImportFault>
+fn load<S: Source, C: Contents>(
+    reader: &mut Reader<'_, S>,
+    importer: &mut Importer,
+    contents: &mut C,
+) -> Result<(), ImportFault>
     requires going_on { is_over reader.old ≡ false }
     requires limits { limits_of reader.old ≡ importer.old.limits }
-    ensures loads { LoadsRest S.left reader.old importer.old importer.new result }
+    ensures loads { let answer = ended result importer.new (C.kept contents.new) in
+        LoadsRest S.left reader.old importer.old (C.kept contents.old) answer }
+    ensures furnished { let before = IsFurnishedBy (C.kept contents.old) importer.old.loading in
+        OnOk result (before → IsFurnishedBy (C.kept contents.new) importer.new.loading) }
     ensures cause { FailsOnlyAt (ImportFault.Stream StreamFault.Read)
         (reader_faults S.faults reader.old) (reader_faults S.faults reader.new) result }
-    ensures known { IfErr result (λ fault. IsImportFault fault) }
+    ensures known { IfErr result (IsFaultOf (C.kept contents.old)) }
     ensures source { source_of reader.new ≡ source_of reader.old }
 {
     'commands: loop {
@@ -59,7 +109,7 @@ fn load<S: Source>(reader: &mut Reader<'_, S>, importer: &mut Importer) -> Resul
             Err(fault) => return Err(refused(fault)),
         };
         match next {
-            Some(command) => importer.take(command)?,
+            Some(command) => importer.take(contents, command)?,
             None => return Ok(()),
         }
     }

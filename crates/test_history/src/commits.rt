@@ -236,9 +236,9 @@ fn become_edits(
     rt: &impl Abort,
     alloc: Global,
     marks: &Marks,
-    changes: &Changes,
+    changes: Changes,
 ) -> Result<(), Fail> {
-    let edits = edits_of(alloc, marks, changes.as_slice())?;
+    let edits = edits_of(alloc, marks, &mut LetGo, changes)?;
     assert_eq!(rt;
         listing(alloc, edits.as_slice())?.as_slice(),
         b"clear
@@ -257,7 +257,7 @@ fn changes_become_edits_in_order(rt: HostRuntime) -> Result<(), Fail> {
     let marks = marks(rt.alloc())?;
     let mut changes = Changes::new(rt.alloc());
     push_some(rt.alloc(), &mut changes)?;
-    become_edits(&rt, rt.alloc(), &marks, &changes)
+    become_edits(&rt, rt.alloc(), &marks, changes)
 }
 
 /// The fault of a change that sets a file, if it has one.
@@ -270,7 +270,7 @@ fn fault_of(
 ) -> Result<Option<ImportFault>, AllocError> {
     let mut changes = Changes::new(alloc);
     push_file(alloc, &mut changes, mode, dataref, path)?;
-    Ok(edits_of(alloc, marks, changes.as_slice()).err())
+    Ok(edits_of(alloc, marks, &mut LetGo, changes).err())
 }
 
 fn are_refused(rt: &impl Abort, alloc: Global, marks: &Marks) -> Result<(), AllocError> {

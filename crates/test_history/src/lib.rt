@@ -5,6 +5,8 @@
 #[cfg(test)]
 mod commits;
 #[cfg(test)]
+mod contents;
+#[cfg(test)]
 mod forest;
 #[cfg(test)]
 mod forest_plain;

@@ -1,12 +1,18 @@
 use Rattle.std.proofs.Common.{◌≡◌, ◌≤◌, ℕ, List, Option, false}
+use Rattle.bf_history.specs.Keeping.{Kept}
 use Rattle.bf_stream.specs.Standing as standing
-use Rattle.bf_import.specs.Loading.{LoadsOn}
+use Rattle.bf_import.specs.Faults.{IsSameKind}
+use Rattle.bf_import.specs.Loading.{IsFurnishedBy, LoadsOn}
 use Rattle.bf_import.proofs.loading.load.Given as goal
 
 abbrev pub invariant-commands : goal.invariant-commands
 invariant-commands g l = record {
-  loads : (bytes : Option (List ℕ)) → LoadsOn l.fn.importer.limits bytes (standing.reader_place g.S.Source.left l.fn.reader) l.fn.importer.loading
-      → LoadsOn l.fn.importer.limits bytes (standing.reader_place g.S.Source.left l.reader) l.importer.loading;
+  loads : (start : Kept) (bytes : Option (List ℕ))
+      → LoadsOn l.fn.importer.limits start bytes (standing.reader_place g.S.Source.left l.fn.reader) (g.C.Contents.kept l.fn.contents)
+      l.fn.importer.loading
+      → LoadsOn l.fn.importer.limits start bytes (standing.reader_place g.S.Source.left l.reader) (g.C.Contents.kept l.contents) l.importer.loading;
+  furnished : IsFurnishedBy (g.C.Contents.kept l.fn.contents) l.fn.importer.loading → IsFurnishedBy (g.C.Contents.kept l.contents) l.importer.loading;
+  same_kind : IsSameKind (g.C.Contents.kept l.fn.contents) (g.C.Contents.kept l.contents);
   limits : l.importer.limits ≡ l.fn.importer.limits;
   read_under : standing.limits_of l.reader ≡ l.fn.importer.limits;
   going_on : standing.is_over l.reader ≡ false;
