@@ -5,3 +5,4 @@ pub mod Plans
 pub mod Replies
 pub mod Scripts
 pub mod Shown
+pub mod Tests

@@ -24,6 +24,16 @@ impl Answer {
     }
 }
 
+/// A test that was made in a folder: at this place of a history, where the folder had the files of the tree
+/// of this name.
+#[derive(Clone, Copy, Debug, PartialEq, Eq)]
+pub struct Tested {
+    /// The place of the commit in its history.
+    pub place: u32,
+    /// The name of the tree.
+    pub tree: Oid,
+}
+
 /// What a tester replies to a request for a test.
 #[derive(Clone, Copy, Debug, PartialEq, Eq)]
 pub enum TestReply {

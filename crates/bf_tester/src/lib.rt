@@ -13,8 +13,9 @@ mod stop;
 mod tester;
 mod words;
 
-pub use answer::{Answer, TestReply};
+pub use answer::{Answer, TestReply, Tested};
 pub use host::Host;
+pub use notes::Notes;
 pub use plan_tester::PlanTester;
 pub use process::ProcessTester;
 pub use script::{FailRule, Gate, ScriptTester, Side};

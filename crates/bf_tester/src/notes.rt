@@ -15,7 +15,7 @@ use std::marker::Model;
 /// The command of a tester, its answers, whether it reads outcomes leniently, and whether it was made by
 /// a split.
 #[derive(Drop)]
-pub(crate) struct Notes {
+pub struct Notes {
     alloc: Global,
     command: Words,
     answers: Vec<Answer>,
@@ -38,7 +38,7 @@ impl Model for Notes {
 
 impl Notes {
     /// The notes of a new tester. It takes no memory.
-    pub(crate) fn new(alloc: Global) -> Notes
+    pub fn new(alloc: Global) -> Notes
         ensures { result ≡ first_notes }
     {
         Notes {
@@ -51,7 +51,7 @@ impl Notes {
     }
 
     /// Takes a command, and reads outcomes leniently from now on where that is asked.
-    pub(crate) fn prepare(&mut self, words: &[Word], leniently: bool) -> Result<(), AllocError>
+    pub fn prepare(&mut self, words: &[Word], leniently: bool) -> Result<(), AllocError>
         ensures ok { OnOk result (self.new ≡ prepared_by self.old words.now leniently) }
         ensures err { OnErr result (self.new ≡ self.old) }
     {
@@ -61,7 +61,7 @@ impl Notes {
     }
 
     /// Adds an answer.
-    pub(crate) fn note(&mut self, answer: Answer) -> Result<(), AllocError>
+    pub fn note(&mut self, answer: Answer) -> Result<(), AllocError>
         ensures ok { OnOk result (self.new ≡ with_more self.old (answer ∷ [])) }
         ensures err { OnErr result (self.new ≡ self.old) }
     {
@@ -70,7 +70,7 @@ impl Notes {
     }
 
     /// Notes that the test of a commit ended so, and makes the reply.
-    pub(crate) fn done(&mut self, place: u32, name: Oid, outcome: Outcome) -> TestReply
+    pub fn done(&mut self, place: u32, name: Oid, outcome: Outcome) -> TestReply
         ensures reply { (result ≡ TestReply.Done outcome) ⊎ (result ≡ TestReply.NoMemory) }
         ensures read { RepliesAsRead self.old.is_lenient outcome result }
         ensures noted { self.new ≡ notes_after self.old result place name }
@@ -86,7 +86,7 @@ impl Notes {
     }
 
     /// The notes of a tester that is split off.
-    pub(crate) fn split(&self) -> Result<Notes, AllocError>
+    pub fn split(&self) -> Result<Notes, AllocError>
         ensures { IfOk result (λ notes. notes ≡ split_notes self.now) }
     {
         Ok(Notes {
@@ -99,7 +99,7 @@ impl Notes {
     }
 
     /// Adds the answers of other notes.
-    pub(crate) fn absorb(&mut self, other: Notes) -> Result<(), Notes>
+    pub fn absorb(&mut self, other: Notes) -> Result<(), Notes>
         ensures ok { OnOk result (self.new ≡ with_more self.old other.answers) }
         ensures err { IfErr result (λ notes. (notes ≡ other) × (self.new ≡ self.old)) }
     {
@@ -112,28 +112,28 @@ impl Notes {
     }
 
     /// The answer at an index, counted from 0.
-    pub(crate) fn answer(&self, index: usize) -> Option<Answer>
+    pub fn answer(&self, index: usize) -> Option<Answer>
         ensures { result ≡ slice_get self.now.answers index }
     {
         self.answers.get(index).copied()
     }
 
     /// The words of the command.
-    pub(crate) fn command(&self) -> &[Word]
+    pub fn command(&self) -> &[Word]
         ensures { result.now ≡ self.now.command }
     {
         self.command.as_slice()
     }
 
     /// Whether outcomes are read leniently.
-    pub(crate) fn is_lenient(&self) -> bool
+    pub fn is_lenient(&self) -> bool
         ensures { result ≡ self.now.is_lenient }
     {
         self.is_lenient
     }
 
     /// Whether these are the notes of a tester that was split off.
-    pub(crate) fn is_split(&self) -> bool
+    pub fn is_split(&self) -> bool
         ensures { result ≡ self.now.is_split }
     {
         self.is_split

@@ -1,11 +1,13 @@
 //! A tester that starts a command.
-ghost use Rattle.std.specs.Prelude.{◌≡◌, ℕ, ◌≤◌, true, false, List, [], None, IfOk};
+ghost use Rattle.std.specs.Prelude.{◌≡◌, ℕ, ◌≤◌, ◌++◌, true, false, List, [], None, IfOk, OnOk, IfErr};
 ghost use Rattle.bf_search.specs.declared.outcomes.Outcome.{Outcome};
 ghost use Rattle.bf_tester.specs.declared.answer.Answer.{Answer};
 ghost use Rattle.bf_tester.specs.Grounds.{Ground};
+ghost use Rattle.bf_tester.specs.Looks.{SawRaised};
 ghost use Rattle.bf_tester.specs.Shown.{ShowsSame};
+ghost use Rattle.bf_tester.specs.Tests.{NotesReply, HasCauseOf, KeepsManner, KeepsFaults, AreOfOneKind, tested_after, tested_by};
 
-use crate::answer::{Answer, TestReply};
+use crate::answer::{Answer, TestReply, Tested};
 use crate::host::Host;
 use crate::notes::Notes;
 use crate::plan::read;
@@ -37,6 +39,7 @@ impl From<AllocError> for RunFault {
 pub struct ProcessTester {
     alloc: Global,
     notes: Notes,
+    tested: Vec<Tested>,
     faults: u64,
     failed: Option<u32>,
     is_silent: bool,
@@ -52,10 +55,12 @@ impl ProcessTester {
         ensures faults { ⟦<ProcessTester as Tester>⟧.faults result ≡ 0 }
         ensures is_split { ⟦<ProcessTester as Tester>⟧.is_split result ≡ false }
         ensures is_lenient { ⟦<ProcessTester as Tester>⟧.is_lenient result ≡ false }
+        ensures tested { tested_by result ≡ [] }
     {
         ProcessTester {
             alloc,
             notes: Notes::new(alloc),
+            tested: Vec::new(alloc),
             faults: 0,
             failed: None,
             is_silent: false,
@@ -66,27 +71,165 @@ impl ProcessTester {
     pub fn silent(self) -> ProcessTester
         ensures told { ⟦<ProcessTester as Tester>⟧.told result ≡ None }
         ensures shown { ShowsSame ⟦<ProcessTester as Tester>⟧ self result }
+        ensures tested { tested_by result ≡ tested_by self }
     {
         ProcessTester {
             is_silent: true,
             ..self
         }
     }
+
+    /// The allocator that the tester grows by.
+    pub fn allocator(&self) -> Global {
+        self.alloc
+    }
+
+    /// Tests as `test` does, in a folder that has the files of the tree of this name: the command gets the
+    /// folder's name and the commit's as its last two arguments. A test that was done is also noted with
+    /// its tree.
+    pub fn test_with<R: Processes + Eprint>(
+        &mut self,
+        rt: &R,
+        place: u32,
+        name: Oid,
+        folder: &[u8],
+        tree: Oid,
+        stop: &mut StopView<'_>,
+    ) -> TestReply
+        ensures noted { NotesReply ⟦<ProcessTester as Tester>⟧ self.old self.new place name result }
+        ensures tested { tested_by self.new ≡ tested_after result (tested_by self.old) place tree }
+        ensures dropped { result ≡ TestReply.Dropped → SawRaised stop.new }
+        ensures bare { stop.new.bare ≡ stop.old.bare }
+        ensures cause { HasCauseOf ⟦<ProcessTester as Tester>⟧ self.old self.new result }
+        ensures manner { KeepsManner ⟦<ProcessTester as Tester>⟧ self.old self.new }
+    {
+        // Room first, so that a test is noted with its tree or not at all.
+        if self.tested.reserve(1).is_err() {
+            return TestReply::NoMemory;
+        }
+        let reply = self.test_in_folder(rt, place, name, Some(folder), stop);
+        if let TestReply::Done(_) = reply {
+            self.tested.push_reserved(Tested { place, tree });
+        }
+        reply
+    }
+
+    /// Adds the answers of another tester as `absorb` does, and the tests that it made in folders.
+    pub fn absorb_with(&mut self, other: ProcessTester) -> Result<(), ProcessTester>
+        requires { AreOfOneKind ⟦<ProcessTester as Tester>⟧ self.old other }
+        ensures ok { OnOk result (⟦<ProcessTester as Tester>⟧.answers self.new
+            ≡ ⟦<ProcessTester as Tester>⟧.answers self.old
+            ++ ⟦<ProcessTester as Tester>⟧.answers other) }
+        ensures tested_ok { OnOk result
+            (tested_by self.new ≡ tested_by self.old ++ tested_by other) }
+        ensures err { IfErr result (λ t. (t ≡ other) × (⟦<ProcessTester as Tester>⟧.answers self.new
+            ≡ ⟦<ProcessTester as Tester>⟧.answers self.old)) }
+        ensures tested_err { IfErr result (λ _. tested_by self.new ≡ tested_by self.old) }
+        ensures manner { KeepsManner ⟦<ProcessTester as Tester>⟧ self.old self.new }
+        ensures faults { KeepsFaults ⟦<ProcessTester as Tester>⟧ self.old self.new }
+    {
+        if self.tested.reserve(other.tested.len()).is_err() {
+            return Err(other);
+        }
+        let ProcessTester {
+            alloc,
+            notes,
+            mut tested,
+            faults,
+            failed,
+            is_silent,
+        } = other;
+        match self.notes.absorb(notes) {
+            Ok(()) => {
+                self.tested.append(&mut tested).unwrap();
+                Ok(())
+            }
+            Err(notes) => Err(ProcessTester {
+                alloc,
+                notes,
+                tested,
+                faults,
+                failed,
+                is_silent,
+            }),
+        }
+    }
+
+    /// Looks at the flag once, and is dropped exactly where that look finds it raised. A command that
+    /// cannot be started or waited for fails.
+    fn test_in_folder<R: Processes + Eprint>(
+        &mut self,
+        rt: &R,
+        place: u32,
+        name: Oid,
+        folder: Option<&[u8]>,
+        stop: &mut StopView<'_>,
+    ) -> TestReply
+        ensures noted { NotesReply ⟦<ProcessTester as Tester>⟧ self.old self.new place name result }
+        ensures tested { self.new.tested ≡ self.old.tested }
+        ensures dropped { result ≡ TestReply.Dropped → SawRaised stop.new }
+        ensures bare { stop.new.bare ≡ stop.old.bare }
+        ensures cause { HasCauseOf ⟦<ProcessTester as Tester>⟧ self.old self.new result }
+        ensures manner { KeepsManner ⟦<ProcessTester as Tester>⟧ self.old self.new }
+    {
+        if stop.raised() {
+            return TestReply::Dropped;
+        }
+        match self.run_on(rt, name, folder) {
+            Ok(outcome) => {
+                let outcome = read(self.notes.is_lenient(), outcome);
+                self.notes.done(place, name, outcome)
+            }
+            Err(RunFault::Failed) => {
+                self.faults = self.faults.saturating_add(1);
+                self.failed = Some(place);
+                TestReply::Failed
+            }
+            Err(RunFault::NoMemory) => TestReply::NoMemory,
+        }
+    }
+
+    /// Starts the command on the commit of this name, and tells of it where that is asked.
+    fn run_on<R: Processes + Eprint>(
+        &self,
+        rt: &R,
+        name: Oid,
+        folder: Option<&[u8]>,
+    ) -> Result<Outcome, RunFault> {
+        let mut digits = [0; 40];
+        oid_hex(name, &mut digits);
+        let Ok(name) = std::str::from_utf8(digits.as_slice()) else {
+            return Err(RunFault::Failed);
+        };
+        let words = self.notes.command();
+        if self.is_silent {
+            return run_command(rt, self.alloc, words, folder, name);
+        }
+        tell_start(rt, name);
+        let outcome = run_command(rt, self.alloc, words, folder, name)?;
+        tell_end(rt, name, outcome);
+        Ok(outcome)
+    }
 }
 
-/// Starts a command with a last argument, and waits for its end.
+/// Starts a command with the name of a folder, where one is given, and a last argument, and waits for its
+/// end.
 fn run_command<R: Processes>(
     rt: &R,
     alloc: Global,
     words: &[Word],
+    folder: Option<&[u8]>,
     last: &str,
 ) -> Result<Outcome, RunFault> {
     let Some((program, others)) = words.split_first() else {
         return Err(RunFault::Failed);
     };
-    let mut command = Command::new(alloc, text_of(program)?)?;
+    let mut command = Command::new(alloc, text_of(program.as_slice())?)?;
     for word in others {
-        command.arg(text_of(word)?)?;
+        command.arg(text_of(word.as_slice())?)?;
+    }
+    if let Some(folder) = folder {
+        command.arg(text_of(folder)?)?;
     }
     command.arg(last)?;
     command.stdin(Stdio::null()).stdout(Stdio::null());
@@ -103,8 +246,8 @@ fn run_command<R: Processes>(
 }
 
 /// The text of a word. One that is no text cannot be handed to a program.
-fn text_of(word: &Word) -> Result<&str, RunFault> {
-    match std::str::from_utf8(word.as_slice()) {
+fn text_of(word: &[u8]) -> Result<&str, RunFault> {
+    match std::str::from_utf8(word) {
         Ok(text) => Ok(text),
         Err(_) => Err(RunFault::Failed),
     }
@@ -121,26 +264,6 @@ fn tell_end<R: Eprint>(rt: &R, name: &str, outcome: Outcome) {
         Outcome::Exit(status) => eprintln!(rt; "{name} exit {status}"),
         Outcome::Killed => eprintln!(rt; "{name} killed"),
     };
-}
-
-/// Tests the commit whose name has these digits, and tells of it where that is asked.
-fn run_told<R: Processes + Eprint>(
-    rt: &R,
-    alloc: Global,
-    words: &[Word],
-    digits: &[u8],
-    is_silent: bool,
-) -> Result<Outcome, RunFault> {
-    let Ok(name) = std::str::from_utf8(digits) else {
-        return Err(RunFault::Failed);
-    };
-    if is_silent {
-        return run_command(rt, alloc, words, name);
-    }
-    tell_start(rt, name);
-    let outcome = run_command(rt, alloc, words, name)?;
-    tell_end(rt, name, outcome);
-    Ok(outcome)
 }
 
 impl Tester for ProcessTester {
@@ -175,30 +298,14 @@ impl Tester for ProcessTester {
         name: Oid,
         stop: &mut StopView<'_>,
     ) -> TestReply {
-        if stop.raised() {
-            return TestReply::Dropped;
-        }
-        let mut digits = [0; 40];
-        oid_hex(name, &mut digits);
-        let words = self.notes.command();
-        match run_told(rt, self.alloc, words, digits.as_slice(), self.is_silent) {
-            Ok(outcome) => {
-                let outcome = read(self.notes.is_lenient(), outcome);
-                self.notes.done(place, name, outcome)
-            }
-            Err(RunFault::Failed) => {
-                self.faults = self.faults.saturating_add(1);
-                self.failed = Some(place);
-                TestReply::Failed
-            }
-            Err(RunFault::NoMemory) => TestReply::NoMemory,
-        }
+        self.test_in_folder(rt, place, name, None, stop)
     }
 
     fn split(&self) -> Result<ProcessTester, AllocError> {
         Ok(ProcessTester {
             alloc: self.alloc,
             notes: self.notes.split()?,
+            tested: Vec::new(self.alloc),
             faults: 0,
             failed: None,
             is_silent: self.is_silent,
@@ -209,6 +316,7 @@ impl Tester for ProcessTester {
         let ProcessTester {
             alloc,
             notes,
+            tested,
             faults,
             failed,
             is_silent,
@@ -218,6 +326,7 @@ impl Tester for ProcessTester {
             Err(notes) => Err(ProcessTester {
                 alloc,
                 notes,
+                tested,
                 faults,
                 failed,
                 is_silent,

@@ -1,0 +1,17 @@
+//! Folders, and testers that test each commit in a folder with exactly its files.
+#![tactic(auto)]
+
+mod folder;
+mod look;
+mod memory;
+mod process;
+mod real;
+mod tester;
+mod workshop;
+
+pub use folder::{Folder, FolderFault};
+pub use look::LookTester;
+pub use memory::MemFolder;
+pub use real::DirFolder;
+pub use tester::FolderTester;
+pub use workshop::Workshop;
