@@ -1,0 +1,11 @@
+mod Filled
+mod Fitting
+mod Images
+mod Looking
+mod Making
+pub mod Moments
+mod Opening
+mod Slots
+mod StepLemmas
+mod Surely
+mod Worked
