@@ -1,0 +1,13 @@
+pub mod Lists
+pub mod Stepping
+pub mod Nexts
+pub mod Picking
+pub mod Apart
+pub mod Claimed
+pub mod Starting
+pub mod Pairs
+pub mod Helping
+pub mod Redoing
+pub mod Ending
+pub mod Lengths
+pub mod Fresh
