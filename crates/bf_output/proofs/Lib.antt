@@ -12,3 +12,4 @@ pub mod Runs
 mod Skips
 mod Started
 mod Unused
+pub mod Inputs

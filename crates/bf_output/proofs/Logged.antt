@@ -28,8 +28,9 @@ use Rattle.bf_output.specs.Beginning.{Begun, name_or_refusal, named, named_if_gi
 use Rattle.bf_output.specs.Beginning.{begun_by_words, begun_by_log, begun_by, with_ends, begun_with_skips, has_ends, log_on}
 use Rattle.bf_output.specs.Logged.{EndsSearch, file_given, outcomes_written, IsLogged}
 use Rattle.bf_output.specs.Logs.{file_or_refusal, lines_or_refusal, replayed_or_refusal, replayed_log}
-use Rattle.bf_output.specs.Output.{Given, IsOverFile, IsOverLog, IsOverLoaded, IsOverStream, IsOutput, IsOutputFor, IsOutputOf, IsSearchedFrom, file_of}
-use Rattle.bf_output.specs.Refusals.{name_refused, refused_at, waiting, refusal, too_large, log_refused}
+use Rattle.bf_output.specs.Output.{Given, IsOverFile, IsOverLog, IsOverLoaded, IsOverStream, IsOutput, IsOutputFor, IsOutputOf, IsSearchedFrom}
+use Rattle.bf_output.specs.Inputs.{file_of}
+use Rattle.bf_output.specs.Refusals.{name_refused, no_content, refused_at, waiting, refusal, too_large, log_refused}
 use Rattle.bf_output.specs.Returning.{FileGiven}
 use Rattle.bf_output.specs.Simulate.{IsRunTold, IsSimulated, plan_of, run_over}
 use Rattle.bf_output.specs.Tested.{Tested}
@@ -138,12 +139,13 @@ stream_ends (stream.TooLarge what) = λ e. e
 stream_ends stream.NoMemory = λ e. e
 
 import_ends : (fault : ImportFault) → IsNoEnd (refusal fault)
-unfolding refused_at too_large
+unfolding refused_at too_large no_content
 import_ends (faults.Stream fault) = stream_ends fault
 import_ends (faults.BadFrom line) = λ e. e
 import_ends (faults.BadMark line) = λ e. e
 import_ends (faults.BadPath line) = λ e. e
 import_ends (faults.Unsupported line) = λ e. e
+import_ends (faults.NoContent line) = λ e. e
 import_ends (faults.TooLarge what) = λ e. e
 import_ends faults.NoMemory = λ e. e
 

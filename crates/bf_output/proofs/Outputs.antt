@@ -31,7 +31,8 @@ use Rattle.bf_tester.specs.declared.answer.Answer.{Answer}
 use Rattle.bf_output.specs.Beginning.{Begun, begun_with_skips}
 use Rattle.bf_output.specs.Gen.{generated, made_stream}
 use Rattle.bf_output.specs.Next.{next_told}
-use Rattle.bf_output.specs.Output.{Given, given_to, IsOverFile, IsOverLog, IsOverLoaded, file_of, IsOverBytes, IsSearchedFrom, IsOutputOf, IsOutputFor, is_run}
+use Rattle.bf_output.specs.Output.{Given, given_to, IsOverFile, IsOverLog, IsOverLoaded, IsOverBytes, IsSearchedFrom, IsOutputOf, IsOutputFor, is_run}
+use Rattle.bf_output.specs.Inputs.{file_of}
 use Rattle.bf_output.specs.Output.{tests, traces}
 use Rattle.bf_output.specs.Refusals.{usage, refusal}
 use Rattle.bf_output.specs.Replay.{replay_told}
@@ -43,7 +44,7 @@ use Rattle.bf_output.specs.Traces.{course_of, traced_if}
 use Rattle.bf_output.proofs.Unused.{none_used, same_end}
 use Rattle.bf_output.specs.Told.{Told, told_by}
 
-one_loading : (bytes : List ℕ) (limits : Limits) (one other : Result History ImportFault) → Loads bytes limits one → Loads bytes limits other → one ≡ other
+pub one_loading : (bytes : List ℕ) (limits : Limits) (one other : Result History ImportFault) → Loads bytes limits one → Loads bytes limits other → one ≡ other
 one_loading bytes limits one other (commands, end, goes, is) (others, last, also, gives) =
     let same = one_continuation limits commands others end last (start_of limits.stream bytes) goes also in
     is
@@ -51,7 +52,7 @@ one_loading bytes limits one other (commands, end, goes, is) (others, last, also
     ∙ ap (λ (e : Option StreamFault). loaded limits nothing_loaded others e) same.1
     ∙ sym gives
 
-some_loading : (bytes : List ℕ) (limits : Limits) → (result : Result History ImportFault) × Loads bytes limits result
+pub some_loading : (bytes : List ℕ) (limits : Limits) → (result : Result History ImportFault) × Loads bytes limits result
 some_loading bytes limits =
     let place = start_of limits.stream bytes in
     let (commands, end, goes) = some_continuation limits (suc (length place.rest)) place (omega arith) in

@@ -8,6 +8,7 @@ pub mod Next
 pub mod Gen
 pub mod Sample
 pub mod Tested
+pub mod Inputs
 pub mod Output
 pub mod Logs
 pub mod Replay

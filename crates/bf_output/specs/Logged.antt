@@ -10,7 +10,7 @@ use Rattle.bf_words.specs.declared.request.Request.{Request}
 use Rattle.bf_output.specs.declared.status.Status.{Status}
 use Rattle.bf_output.specs.declared.status.Status.TheVariants as status
 use Rattle.bf_output.specs.Beginning.{Begun, begun_with_skips, log_on}
-use Rattle.bf_output.specs.Output.{file_of}
+use Rattle.bf_output.specs.Inputs.{file_of}
 use Rattle.bf_output.specs.Returning.{FileGiven, LogGivesBack, GoesOnFromStart, GoesOnFromParts}
 use Rattle.bf_output.specs.Simulate.{plan_of, run_over}
 
@@ -34,6 +34,11 @@ EndsSearch status.ShelfFault = ⊥
 EndsSearch status.NoMemory = ⊥
 EndsSearch status.NoFile = ⊥
 EndsSearch status.Waiting = ⊥
+EndsSearch (status.NoContent line) = ⊥
+EndsSearch (status.CertRefused line) = ⊥
+EndsSearch (status.JournalRefused kept) = ⊥
+EndsSearch status.JournalFault = ⊥
+EndsSearch (status.ListRefused line) = ⊥
 
 -- what the shelf gives for the word of --replay
 abbrev pub file_given : Request → List (List ℕ) → List ShelfFile → FileGiven

@@ -1,22 +1,19 @@
 -- What the program answers for its words, its stream and its files, in the order of its refusals: the words, the stream to its
 -- end, the log that is replayed, the names, an end that is missing, and then the run.
-use Rattle.std.specs.Prelude.{◌≡◌, ◌⊎◌, ℕ, Bool, true, false, List, Option, Some, None, IfSome, is_some, Result, Ok, Err}
-use Rattle.bf_grammar.specs.Limits.{standard_limits}
+use Rattle.std.specs.Prelude.{◌≡◌, ◌⊎◌, ℕ, Bool, true, false, List, Option, Some, None, is_some, Result, Ok, Err}
 use Rattle.bf_history.specs.declared.fault.ImportFault.{ImportFault}
-use Rattle.bf_history.specs.Imports.{Loads}
 use Rattle.bf_history.specs.Meanings.{History}
 use Rattle.bf_words.specs.declared.request.Request.{Request}
 use Rattle.bf_words.specs.declared.verb.Verb.{Verb}
 use Rattle.bf_words.specs.declared.verb.Verb.TheVariants.{Simulate, Run, Next, Replay, Gen, Sample}
 use Rattle.bf_shelf.specs.declared.shelf.LoadFault.{LoadFault}
 use Rattle.bf_shelf.specs.declared.shelf.ShelfFile.{ShelfFile}
-use Rattle.bf_shelf.specs.Files.{loaded}
-use Rattle.bf_words.specs.Words.{request, word_at}
+use Rattle.bf_words.specs.Words.{request}
 use Rattle.bf_output.specs.Beginning.{Begun, begun_with_skips}
 use Rattle.bf_output.specs.Gen.{generated, made_stream}
-use Rattle.bf_output.specs.Logs.{longest_log}
+use Rattle.bf_output.specs.Inputs.{IsFiled, IsReadAs, IsStreamed, IsToldOver}
 use Rattle.bf_output.specs.Next.{next_told}
-use Rattle.bf_output.specs.Refusals.{usage, refusal}
+use Rattle.bf_output.specs.Refusals.{usage}
 use Rattle.bf_output.specs.Replay.{replay_told}
 use Rattle.bf_output.specs.Sample.{sampled}
 use Rattle.bf_output.specs.Simulate.{IsSimulated}
@@ -61,31 +58,24 @@ IsOverFile Replay request words tested file history told = told ≡ told_by (rep
 IsOverFile Gen request words tested file history told = told ≡ generated request
 IsOverFile Sample request words tested file history told = told ≡ sampled request history
 
--- what the shelf gives for the word of a log
-abbrev pub file_of : List (List ℕ) → ℕ → List ShelfFile → Result (List ℕ) LoadFault
-file_of words i files = loaded files (word_at words i) longest_log
-
 -- Where the words name a log, the shelf gives it; where it does not tell its files, nothing is said of the answer.
 abbrev pub IsOverLog : Option ℕ → Request → Given → History → Told → Type 0
 IsOverLog None request given history told = IsOverFile request.verb request given.words given.tested None history told
 IsOverLog (Some i) request given history told =
-    IfSome given.files (λ files. IsOverFile request.verb request given.words given.tested (Some (file_of given.words i files)) history told)
+    IsFiled (λ file told. IsOverFile request.verb request given.words given.tested (Some file) history told) given.words i given.files told
 
 abbrev pub IsOver : Request → Given → History → Told → Type 0
 IsOver request given history told = IsOverLog request.replay request given history told
 
 abbrev pub IsOverLoaded : Request → Given → Result History ImportFault → Told → Type 0
-IsOverLoaded request given (Ok history) told = IsOver request given history told
-IsOverLoaded request given (Err fault) told = told ≡ refusal fault
+IsOverLoaded request given result told = IsToldOver (IsOver request given) result told
 
 -- the bytes of a stream are read to its end
 abbrev pub IsOverBytes : Request → Given → List ℕ → Told → Type 0
-IsOverBytes request given bytes told =
-    (result : Result History ImportFault) × Loads bytes standard_limits result × IsOverLoaded request given result told
+IsOverBytes request given bytes told = IsReadAs (IsOver request given) bytes told
 
--- where the stream is not told, nothing is said of the answer
 abbrev pub IsOverStream : Request → Given → Option (List ℕ) → Told → Type 0
-IsOverStream request given stream told = IfSome stream (λ bytes. IsOverBytes request given bytes told)
+IsOverStream request given stream told = IsStreamed (IsOver request given) stream told
 
 -- ---- by the words
 

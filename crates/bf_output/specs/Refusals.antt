@@ -42,6 +42,9 @@ read_fault = record { status = status.ReadFault; text = codes "read fault\n" }
 unfoldable pub log_refused : ℕ → Told
 log_refused line = record { status = status.LogRefused line; text = text_line (codes "log refused at line " ++ decimal line) }
 
+unfoldable pub no_content : ℕ → Told
+no_content line = record { status = status.NoContent line; text = text_line (codes "no content at line " ++ decimal line) }
+
 abbrev pub no_file : Told
 no_file = record { status = status.NoFile; text = codes "no such file\n" }
 
@@ -67,5 +70,6 @@ refusal (faults.BadFrom line) = refused_at line kind.BadFrom
 refusal (faults.BadMark line) = refused_at line kind.BadMark
 refusal (faults.BadPath line) = refused_at line kind.BadPath
 refusal (faults.Unsupported line) = refused_at line kind.Unsupported
+refusal (faults.NoContent line) = no_content line
 refusal (faults.TooLarge what) = too_large what
 refusal faults.NoMemory = no_memory

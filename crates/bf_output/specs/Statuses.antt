@@ -9,6 +9,7 @@ use Rattle.bf_output.specs.declared.status.Status.{Status}
 use Rattle.bf_output.specs.declared.status.Status.TheVariants.{Done, Usage, OnlySkipped, MergeBaseBad, GoodNotAncestor, BothSides, Aborted}
 use Rattle.bf_output.specs.declared.status.Status.TheVariants.{StreamRefused, NameRefused, TooLarge, LogRefused, TestFault, ReadFault, WriteFault}
 use Rattle.bf_output.specs.declared.status.Status.TheVariants.{ShelfFault, NoMemory, NoFile, Waiting}
+use Rattle.bf_output.specs.declared.status.Status.TheVariants.{NoContent, CertRefused, JournalRefused, JournalFault, ListRefused}
 use Rattle.bf_output.specs.declared.status.StreamKind.{StreamKind}
 use Rattle.bf_output.specs.declared.status.StreamKind.TheVariants as kind
 
@@ -31,6 +32,11 @@ number_of ShelfFault = 14
 number_of NoMemory = 15
 number_of NoFile = 16
 number_of Waiting = 17
+number_of (NoContent line) = 19
+number_of (CertRefused line) = 20
+number_of (JournalRefused kept) = 21
+number_of JournalFault = 22
+number_of (ListRefused line) = 23
 
 abbrev pub words_of_kind : StreamKind → List ℕ
 words_of_kind kind.Syntax = codes "syntax"

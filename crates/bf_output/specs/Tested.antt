@@ -75,14 +75,22 @@ pub record IsFrontOf (run whole : Run) : Type 0 where
 abbrev pub IsFrontIfTold : Option (List Outcome) → History → Begun → Run → Type 0
 IsFrontIfTold told history first run = IfSome told (λ plan. IsFrontOf run (run_over history first plan))
 
--- What is known is answered by the tester, with the names of the commits; the run on it is told, and behind it the events
--- of the workers where they are asked for. One worker tested what the run asked for, and nothing else.
-pub record IsTested (request : Request) (tested : Tested) (history : History) (first : Begun) (told : Told) : Type 0 where
+-- What is known is answered by the tester, with the names of the commits; one worker tested what the run asked for, and
+-- nothing else. The run on what is known is told, or the events of its legs with it.
+pub record IsTestedAs (IsTold : Legs → Run → Told → Type 0) (request : Request) (tested : Tested) (history : History)
+    (first : Begun) (told : Told) : Type 0 where
   pub table : List (Option Outcome)
   pub legs : Legs
   pub over : IsOver (course_of request history first) tested.plan tested.answers table legs (run_on history first table)
   pub planned : IsFrontIfTold tested.plan history first (run_on history first table)
-  pub tells : told ≡ traced_if request.trace history legs (told_of_run history first (run_on history first table))
+  pub tells : IsTold legs (run_on history first table) told
+
+-- a run by its log and how it ended, and behind it the events of the workers where they are asked for
+abbrev pub IsLogTold : Request → History → Begun → Legs → Run → Told → Type 0
+IsLogTold request history first legs run told = told ≡ traced_if request.trace history legs (told_of_run history first run)
+
+abbrev pub IsTested : Request → Tested → History → Begun → Told → Type 0
+IsTested request tested history first told = IsTestedAs (IsLogTold request history first) request tested history first told
 
 -- the answers are the first that a run used, in its order
 pub record AreFirstUsed (answers : List Answer) (run : Run) : Type 0 where

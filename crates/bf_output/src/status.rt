@@ -4,6 +4,7 @@ ghost use Rattle.bf_output.specs.Statuses.{number_of};
 
 use bf_grammar::Limit;
 use bf_names::NameFault;
+use bf_oid::Oid;
 
 /// Why a line of a stream is refused.
 #[derive(Clone, Copy, Debug, PartialEq, Eq)]
@@ -85,6 +86,28 @@ pub enum Status {
     NoFile,
     /// No bad or no good commit is known.
     Waiting,
+    /// A file of the stream has no content there, or a path that is no text.
+    NoContent {
+        /// The line, from 1.
+        line: u64,
+    },
+    /// The certificate is refused.
+    CertRefused {
+        /// The line, from 1.
+        line: u32,
+    },
+    /// The journal was kept for another run.
+    JournalRefused {
+        /// The identity of the run that it was kept for.
+        kept: Oid,
+    },
+    /// The journal could not be read or written.
+    JournalFault,
+    /// The list of searches is refused.
+    ListRefused {
+        /// The line, from 1.
+        line: u32,
+    },
 }
 
 impl Status {
@@ -111,6 +134,11 @@ impl Status {
             Status::NoMemory => 15,
             Status::NoFile => 16,
             Status::Waiting => 17,
+            Status::NoContent { .. } => 19,
+            Status::CertRefused { .. } => 20,
+            Status::JournalRefused { .. } => 21,
+            Status::JournalFault => 22,
+            Status::ListRefused { .. } => 23,
         }
     }
 }

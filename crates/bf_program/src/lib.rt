@@ -1,29 +1,17 @@
-//! The top call of the program: it reads the words and the stream, searches, and writes the log and the
+//! The top call of the program, `bisect_main`: it reads the words and the stream, searches, and writes the log and the
 //! answer. One contract says what it answers and writes, whatever its devices do.
+//!
+//! It stands on three crates that each have a part of the work: `bf_begin` leads from words to a search that has begun,
+//! `bf_searches` tests its commits and writes what it tells, and `bf_answers`, below both, has refusals and writing. Here
+//! are the order of these parts, and the commands that test nothing: `gen`, `next`, `replay` and `sample`.
 #![tactic(auto)]
 
-mod answer;
-mod begin;
-mod file;
-mod legs;
-mod line;
 mod made;
-mod named;
 mod next;
-mod plan;
 mod prepare;
-mod ready;
-mod refusals;
 mod replay;
 mod sample;
-mod search;
-mod skips;
-mod tell;
-mod telling;
 mod top;
-mod write;
 
-pub use bf_names::NameFault;
-pub use bf_output::{Status, StreamKind};
+pub use bf_answers::{NameFault, Status, StreamKind, say};
 pub use top::bisect_main;
-pub use write::say;

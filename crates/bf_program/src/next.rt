@@ -1,17 +1,14 @@
 //! The command `next`.
 ghost use Rattle.std.specs.Prelude.{◌≡◌, ◌++◌, length, IfOk, OnOk};
 ghost use Rattle.bf_output.specs.Next.{asked_entries};
-ghost use Rattle.bf_program.specs.Answers.{IsWholeAnswer};
-ghost use Rattle.bf_program.specs.Steps.{IsStep};
-ghost use Rattle.bf_program.specs.Lines.{asked_in, next_of_line};
-ghost use Rattle.bf_program.specs.Tellings.{begun_of, told_of, AreWithin, Says};
+ghost use Rattle.bf_answers.specs.Answers.{IsWholeAnswer};
+ghost use Rattle.bf_answers.specs.Steps.{IsStep};
+ghost use Rattle.bf_program.specs.Lines.{asked_from, next_of_line};
+ghost use Rattle.bf_answers.specs.Tellings.{begun_of, told_of, AreWithin, Says};
 ghost use Rattle.bf_search.specs.Ends.{end_entries};
 
-use crate::answer::{Answer, Stop};
-use crate::begin::{Beginning, begin};
-use crate::file::LogFile;
-use crate::line::Line;
-use crate::tell::{commits_of, sides_of, status_of_ask};
+use bf_answers::{Answer, Beginning, Line, Stop, commits_of, sides_of, status_of_ask};
+use bf_begin::{LogFile, begin};
 use bf_import::History;
 use bf_io::Bytes;
 use bf_log::{write_ask, write_more};
@@ -70,7 +67,7 @@ fn ask_once(
     requires reach { reach.now ≡ history.now.parents }
     requires len { first.old.state.len ≡ length history.now.parents }
     requires places { AreWithin first.old }
-    ensures tells { IfOk result (Says (asked_in history.now (begun_of first.old))) }
+    ensures tells { IfOk result (Says (asked_from history.now (begun_of first.old))) }
     ensures whole { IfOk result IsWholeAnswer }
 {
     // What the length tells is needed: the places of the search are places of the history.

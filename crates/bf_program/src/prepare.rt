@@ -2,19 +2,16 @@
 ghost use Rattle.std.specs.Prelude.{is_some, IfOk, IsErrOf, IsTrue};
 ghost use Rattle.bf_io.specs.Causes.{FailsOnlyAt};
 ghost use Rattle.bf_output.specs.Output.{reads_stream};
-ghost use Rattle.bf_program.specs.Devices.{IsLeftUnless};
+ghost use Rattle.bf_answers.specs.Devices.{IsLeftUnless};
 ghost use Rattle.bf_program.specs.Lines.{TellsOutput, TellsHistory, TellsFile, TellsMade, TellsStream};
-ghost use Rattle.bf_program.specs.Searching.{IsSound};
+ghost use Rattle.bf_answers.specs.Ready.{IsSound};
 
-use crate::answer::Fault;
-use crate::file::{LogFile, lent, load_file};
-use crate::line::Line;
 use crate::made::{generate, made_stream};
 use crate::next::next;
-use crate::ready::{Means, Ready, start, told};
-use crate::refusals::refusal;
 use crate::replay::replay_log;
 use crate::sample::sample;
+use bf_answers::{Fault, Line, Means, Ready, refusal};
+use bf_begin::{LogFile, lent, load_file, start, told};
 use bf_grammar::Limits;
 use bf_import::{History, import};
 use bf_io::{PlainSource, Source};

@@ -3,14 +3,13 @@ ghost use Rattle.std.specs.Prelude.{◌≡◌, ◌<◌, ◌++◌, length, count_
 ghost use Rattle.std.specs.Option.{ForSome};
 ghost use Rattle.bf_alone.specs.Within.{IsEndingWithin};
 ghost use Rattle.bf_output.specs.Sample as sample;
-ghost use Rattle.bf_program.specs.Answers.{IsWholeAnswer};
+ghost use Rattle.bf_answers.specs.Answers.{IsWholeAnswer};
 ghost use Rattle.bf_program.specs.Lines.{sampled_from, summary_of};
-ghost use Rattle.bf_program.specs.Tellings.{begun_of, IsBegun, Says};
+ghost use Rattle.bf_answers.specs.Tellings.{begun_of, IsBegun, Says};
 
-use crate::answer::Answer;
-use crate::begin::{Beginning, between_ends};
-use crate::tell::{commits_of, sides_of, status_of, write_end};
 use bf_alone::{Ran, run_plan};
+use bf_answers::{Answer, Beginning, commits_of, sides_of, status_of, write_end};
+use bf_begin::between_ends;
 use bf_import::History;
 use bf_io::{Bytes, put_decimal};
 use bf_log::{Commits, Sides};

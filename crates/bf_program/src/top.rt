@@ -3,22 +3,19 @@ ghost use Rattle.std.specs.Prelude.{◌≡◌, ◌≢◌, ℕ, [], false, IfOk};
 ghost use Rattle.bf_io.specs.Causes.{Rose};
 ghost use Rattle.bf_output.specs.Output.{asks_file, reads};
 ghost use Rattle.bf_words.specs.Words.{request};
-ghost use Rattle.bf_program.specs.Answers.{Answers, HasTestCauseBy, IsComplete, IsUntestedIfRefused, IsUsedBy};
-ghost use Rattle.bf_program.specs.Devices.{IsLeftUnless, met, met_shelf, met_sink, met_source, met_tester};
-ghost use Rattle.bf_program.specs.Lines.{HasTestCauseIn, IsUsedIn};
+ghost use Rattle.bf_program.specs.Answers.{Answers, HasTestCauseBy, IsComplete, IsUsedBy};
+ghost use Rattle.bf_answers.specs.Answers.{IsUntestedIfRefused};
+ghost use Rattle.bf_answers.specs.Devices.{IsLeftUnless, met, met_shelf, met_sink, met_source, met_tester};
+ghost use Rattle.bf_searches.specs.Lines.{HasTestCauseIn, IsUsedIn};
 ghost use Rattle.bf_program.specs.Printing.{PrintsLog};
-ghost use Rattle.bf_program.specs.Searching.{IsSound, ConcludesLine, IsRefused};
-ghost use Rattle.bf_program.specs.Steps.{HasPlan};
+ghost use Rattle.bf_answers.specs.Ready.{IsSound, ConcludesLine, IsRefused};
+ghost use Rattle.bf_answers.specs.Steps.{HasPlan};
 
-use crate::answer::Fault;
-use crate::line::Line;
 use crate::prepare::prepare;
-use crate::ready::Ready;
-use crate::refusals::usage;
-use crate::search::search;
-use crate::write::say;
+use bf_answers::{Fault, Line, Ready, say, say_answer, usage};
 use bf_io::{Sink, Source, Word};
 use bf_output::Status;
+use bf_searches::search;
 use bf_shelf::Shelf;
 use bf_tester::{Host, Tester};
 use bf_words::{WordFault, read_words};
@@ -122,9 +119,7 @@ fn conclude<R: Host, T: Tester, K: Sink>(
 {
     match ready {
         Ok(Ready::Search(started)) => search(rt, line, started, tester, out),
-        Ok(Ready::Told(answer)) => say(out, answer.text.as_slice(), answer.status),
-        Err(Fault::Read) => say(out, b"read fault\n", Status::ReadFault),
-        Err(Fault::Shelf) => say(out, b"file fault\n", Status::ShelfFault),
-        Err(Fault::NoMemory) => Status::NoMemory,
+        Ok(Ready::Told(answer)) => say_answer(out, Ok(answer)),
+        Err(fault) => say_answer(out, Err(fault)),
     }
 }

@@ -5,6 +5,7 @@
 #![tactic(auto)]
 
 mod checks;
+mod first;
 mod found;
 mod options;
 mod reading;
@@ -12,7 +13,8 @@ mod request;
 mod role;
 mod verb;
 
+pub use first::first_option;
 pub use options::{Choice, Form, OptionRow};
-pub use request::{Request, WordFault, read_words};
+pub use request::{Request, WordFault, read_words, read_words_behind};
 pub use role::Role;
-pub use verb::Verb;
+pub use verb::{Verb, verb_of};

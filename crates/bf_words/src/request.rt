@@ -1,6 +1,6 @@
 //! What the words ask for.
-ghost use Rattle.std.specs.Prelude.{◌≡◌, ◌≤◌, ◌<◌, length, [], drop, slice_get, IfOk};
-ghost use Rattle.bf_words.specs.Roles.{roles_of};
+ghost use Rattle.std.specs.Prelude.{◌≡◌, ◌≤◌, ◌<◌, length, [], drop, map, slice_get, All, IfOk, IfSome, OnOk};
+ghost use Rattle.std.specs.Option.{option_map};
 ghost use Rattle.bf_words.specs.Steps as steps;
 ghost use Rattle.bf_words.specs.Words as line;
 ghost use Rattle.bf_words.specs.declared.request.WordFault.TheVariants as faults;
@@ -245,5 +245,60 @@ pub fn read_words(alloc: Global, words: &[Word]) -> Result<Request, WordFault>
     match verb_of(word_at(words, 0)) {
         None => Err(fault_at(0)),
         Some(verb) => read_line(alloc, verb, words),
+    }
+}
+
+// The index behind one, where there is one.
+fn next_index(index: Option<u32>) -> Option<u32>
+    requires { IfSome index (λ i. i < 1000000) }
+    ensures { result ≡ option_map line.next_index index }
+{
+    match index {
+        Some(index) => Some(index + 1),
+        None => None,
+    }
+}
+
+// The indexes behind these.
+fn next_indexes(alloc: Global, indexes: &[u32]) -> Result<Places, AllocError>
+    requires { All (λ i. i < 1000000) indexes.now }
+    ensures { IfOk result (λ further. further ≡ map line.next_index indexes.now) }
+{
+    let mut further = Places::new(alloc);
+    for index in indexes {
+        further.push(*index + 1)?;
+    }
+    Ok(further)
+}
+
+impl Request {
+    // Moves the request one word further in its line. After an error some of it may be moved.
+    fn move_on(&mut self, alloc: Global) -> Result<(), AllocError>
+        requires { steps.IsIndexed 1000000 self.old }
+        ensures { OnOk result (self.new ≡ line.one_further self.old) }
+    {
+        self.bad = next_index(self.bad);
+        self.goods = next_indexes(alloc, self.goods.as_slice())?;
+        self.skips = next_indexes(alloc, self.skips.as_slice())?;
+        self.plan = next_index(self.plan);
+        self.tail = next_index(self.tail);
+        self.replay = next_index(self.replay);
+        Ok(())
+    }
+}
+
+/// Reads the words behind the first one as a line of their own. The indexes of the request, and of the word at
+/// fault, are those of the whole line.
+#[tactic(auto, unfolding(crate::specs::Words::request_behind))]
+pub fn read_words_behind(alloc: Global, words: &[Word]) -> Result<Request, WordFault>
+    ensures { line.IsRead (line.request_behind words.now) result }
+{
+    match read_words(alloc, words.get(1..).unwrap_or_default()) {
+        Ok(mut request) => {
+            request.move_on(alloc)?;
+            Ok(request)
+        }
+        Err(WordFault::At { word }) => Err(WordFault::At { word: word + 1 }),
+        Err(WordFault::NoMemory) => Err(WordFault::NoMemory),
     }
 }

@@ -1,0 +1,5 @@
+pub mod Gathering
+pub mod Skipping
+pub mod Refusing
+pub mod Ended
+pub mod Starting

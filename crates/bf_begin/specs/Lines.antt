@@ -1,0 +1,27 @@
+-- How the search begins that a line of words asks for.
+use Rattle.std.specs.Borrow.{Bor}
+use Rattle.std.specs.Prelude.{Option, Result}
+use Rattle.bf_history.specs.Meanings.{History}
+use Rattle.bf_output.specs.Beginning.{Begun, begun_by, begun_with_skips}
+use Rattle.bf_output.specs.Output.{IsSearchedFrom}
+use Rattle.bf_output.specs.Told.{Told}
+use Rattle.bf_begin.specs.Files.{file_given}
+use Rattle.bf_answers.specs.Ready.{AllTold, verb_of}
+use Rattle.bf_begin.specs.declared.file.LogFile.{LogFile}
+use Rattle.bf_answers.specs.declared.line.Line.{Line}
+use Rattle.bf_answers.specs.declared.started.Means.{Means}
+use Rattle.bf_answers.specs.declared.started.Ready.{Ready}
+
+-- by the words of the line, or by the log that they name
+abbrev pub begun_by_line : Line → Option (Bor LogFile) → History → Result Begun Told
+begun_by_line line file history = begun_by line.request.now line.words.now (file_given file) history
+
+-- and with the skips that they ask for
+abbrev pub begun_with_line : Line → Option (Bor LogFile) → History → Result Begun Told
+begun_with_line line file history = begun_with_skips line.request.now line.words.now (file_given file) history
+
+-- of the search that begins so, with these means
+abbrev pub TellsSearchFrom : Line → Option (Bor LogFile) → History → Means → Ready → Type 0
+TellsSearchFrom line file history means ready =
+    AllTold line.request.now line.words.now ready (λ tested told.
+    IsSearchedFrom (begun_with_line line file history) (verb_of means) line.request.now line.words.now tested history told)
