@@ -1,0 +1,5 @@
+pub mod Runs
+pub mod Certified
+pub mod Stream
+pub mod Accepted
+pub mod Asking

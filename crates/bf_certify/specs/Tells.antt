@@ -1,0 +1,66 @@
+-- Answers that tell what is to be told.
+use Rattle.std.specs.Borrow.{Bor}
+use Rattle.std.specs.Prelude.{ℕ, List, Option, None, Result, IsErrOf, ◌⊎◌}
+use Rattle.bf_answers.specs.declared.answer.Answer.{Answer}
+use Rattle.bf_answers.specs.declared.answer.Fault.{Fault}
+use Rattle.bf_answers.specs.declared.answer.Fault.TheVariants.{Read, Shelf}
+use Rattle.bf_answers.specs.declared.line.Line.{Line}
+use Rattle.bf_answers.specs.declared.started.Started.{Started}
+use Rattle.bf_answers.specs.Answers.{IsBeforeSearch, IsUntested, IsUntestedIfRefused}
+use Rattle.bf_answers.specs.Devices.{TesterMet}
+use Rattle.bf_answers.specs.Tellings.{begun_of, told_of}
+use Rattle.bf_begin.specs.declared.file.LogFile.{LogFile}
+use Rattle.bf_begin.specs.Files.{file_given}
+use Rattle.bf_commands.specs.Certify.{IsCertified, IsCertifiedBy, IsCertifiedOver, IsCertifyOutput, IsPlanCertified, IsTestCertified}
+use Rattle.bf_history.specs.Meanings.{History}
+use Rattle.bf_output.specs.Inputs.{IsStreamed}
+use Rattle.bf_output.specs.Output.{given_to}
+use Rattle.bf_output.specs.Tested.{Tested}
+use Rattle.bf_shelf.specs.declared.shelf.ShelfFile.{ShelfFile}
+
+-- of a search, by what the tester of its run shows
+abbrev pub TellsRun : Line → Started → Tested → Answer → Type 0
+TellsRun line started tested answer =
+    IsTestCertified line.request.now tested started.history (begun_of started.first) (told_of answer)
+
+-- over the plan of the words
+abbrev pub TellsPlanned : Line → Started → Answer → Type 0
+TellsPlanned line started answer =
+    IsPlanCertified line.request.now line.words.now started.history (begun_of started.first) (told_of answer)
+
+-- as the command of the line searches
+abbrev pub TellsSearch : Line → Started → Tested → Answer → Type 0
+TellsSearch line started tested answer =
+    IsCertified line.request.now.verb line.request.now line.words.now tested started.history (begun_of started.first)
+    (told_of answer)
+
+-- of the search that begins by the words, or by the log that they name
+abbrev pub TellsFile : Line → Option (Bor LogFile) → Tested → History → Answer → Type 0
+TellsFile line file tested history answer =
+    let given = given_to line.words.now None tested in
+    IsCertifiedBy line.request.now given (file_given file) history (told_of answer)
+
+abbrev pub TellsOver : Line → Option (List ShelfFile) → Tested → History → Answer → Type 0
+TellsOver line files tested history answer =
+    IsCertifiedOver line.request.now (given_to line.words.now files tested) history (told_of answer)
+
+abbrev pub TellsStream : Line → Option (List ShelfFile) → Tested → Option (List ℕ) → Answer → Type 0
+TellsStream line files tested left answer =
+    IsStreamed (IsCertifiedOver line.request.now (given_to line.words.now files tested)) left (told_of answer)
+
+abbrev pub TellsOutput : List (List ℕ) → Option (List ShelfFile) → Tested → Option (List ℕ) → Answer → Type 0
+TellsOutput words files tested left answer = IsCertifyOutput (given_to words files tested) left (told_of answer)
+
+-- ---- the tests
+
+-- the answer of a search, and no refusal
+abbrev pub IsOfSearch : Answer → Type 0
+IsOfSearch answer = IsBeforeSearch answer.status → ⊥
+
+-- with a refusal the tester is as it was
+abbrev pub LeavesRefused : TesterMet → Answer → Type 0
+LeavesRefused tester answer = IsUntestedIfRefused tester answer.status
+
+-- where a device fails before the search, the tester is as it was
+abbrev pub IsUntestedAt : TesterMet → Result Answer Fault → Type 0
+IsUntestedAt tester result = (IsErrOf result Read ⊎ IsErrOf result Shelf) → IsUntested tester

@@ -1,0 +1,242 @@
+//! The command `certify`.
+ghost use Rattle.std.specs.Prelude.{◌≡◌, ◌≢◌, false, [], is_some, IfOk, IsErrOf, IsTrue};
+ghost use Rattle.bf_io.specs.Causes.{FailsOnlyAt, Rose};
+ghost use Rattle.bf_answers.specs.Answers.{Answers, HasTestCause, IsCaused, IsComplete, IsUntestedIfRefused};
+ghost use Rattle.bf_answers.specs.Devices.{IsLeftUnless, met, met_shelf, met_sink, met_source, met_tester};
+ghost use Rattle.bf_answers.specs.Ready.{SaysAnswer, verb_of};
+ghost use Rattle.bf_answers.specs.Steps.{HasPlan};
+ghost use Rattle.bf_certify.specs.Certifying.{to_certify};
+ghost use Rattle.bf_certify.specs.Tells.{IsUntestedAt, LeavesRefused, TellsFile, TellsOutput, TellsOver, TellsStream};
+ghost use Rattle.bf_commands.specs.Orders.{is_search, request_to_certify};
+ghost use Rattle.bf_output.specs.Output.{IsUsedFor, asks_file, reads, tests};
+ghost use Rattle.bf_output.specs.Tested.{tested_by};
+ghost use Rattle.bf_searches.specs.Lines.{IsCausedIn, IsUsedIn};
+
+use crate::search::certify_search;
+use crate::words::read_to_certify;
+use bf_answers::{Answer, Fault, Line, Means, Started, Stop, refusal, say, usage};
+use bf_begin::{LogFile, begin, lent, load_file};
+use bf_grammar::Limits;
+use bf_import::{History, import};
+use bf_io::{Sink, Source, Word};
+use bf_output::Status;
+use bf_reach::Reach;
+use bf_shelf::Shelf;
+use bf_tester::{Host, Tester};
+use bf_words::{Request, Verb, WordFault};
+use std::alloc::Global;
+
+/// Searches as the words of `simulate` or `run` behind the first word ask for, and writes the certificate of the
+/// first bad commit, or how the search ended otherwise, and gives the status.
+///
+/// The words are read first: another command than these two is at fault at word 1 before all else, and the first
+/// word that asks for legs or for a trace is at fault once the words are accepted. Then the stream is read to its
+/// end, the log that the words name is loaded, and the search begins. Nothing is written before it has ended. The
+/// status is `ReadFault` only where the count of faults of the stream rose, `ShelfFault` only where that of the shelf
+/// did, `WriteFault` only where that of the sink did, and `TestFault` only in `certify run` where that of the tester
+/// did. Want of memory may be answered at any point.
+pub fn certify<R: Host, S: Source, F: Shelf, T: Tester, K: Sink>(
+    rt: &R,
+    alloc: Global,
+    words: &[Word],
+    stream: &mut S,
+    shelf: &mut F,
+    tester: &mut T,
+    out: &mut K,
+) -> Status
+    requires fresh { T.answers tester.old ≡ [] }
+    requires whole { T.is_split tester.old ≡ false }
+    ensures answers { let met = met words.now (met_source S.Source stream.old stream.new)
+        (met_shelf F.Shelf shelf.old shelf.new) (met_tester T.Tester tester.old tester.new)
+        (met_sink K.Sink out.old out.new) in
+        Answers (to_certify met) met result }
+    ensures complete { let met = met words.now (met_source S.Source stream.old stream.new)
+        (met_shelf F.Shelf shelf.old shelf.new) (met_tester T.Tester tester.old tester.new)
+        (met_sink K.Sink out.old out.new) in
+        IsComplete (to_certify met) met result }
+    ensures read { result ≡ Status.ReadFault → Rose (S.faults stream.old) (S.faults stream.new) }
+    ensures file { result ≡ Status.ShelfFault → Rose (F.faults shelf.old) (F.faults shelf.new) }
+    ensures write { result ≡ Status.WriteFault → Rose (K.faults out.old) (K.faults out.new) }
+    ensures test { HasTestCause (tests (request_to_certify words.now))
+        (met_tester T.Tester tester.old tester.new) result }
+    ensures used { IsUsedFor (request_to_certify words.now) words.now
+        (tested_by T.Tester tester.old) (tested_by T.Tester tester.new) }
+    ensures unread { IsLeftUnless (reads (request_to_certify words.now)) stream.old stream.new }
+    ensures unloaded { IsLeftUnless (asks_file (request_to_certify words.now)) shelf.old shelf.new }
+    ensures untested { IsUntestedIfRefused (met_tester T.Tester tester.old tester.new) result }
+    ensures is_split { T.is_split tester.new ≡ false }
+{
+    let answer = answer(rt, alloc, words, stream, shelf, tester);
+    say_tested(out, answer)
+}
+
+/// What is answered to these words, or why there is no answer.
+fn answer<R: Host, S: Source, F: Shelf, T: Tester>(
+    rt: &R,
+    alloc: Global,
+    words: &[Word],
+    stream: &mut S,
+    shelf: &mut F,
+    tester: &mut T,
+) -> Result<Answer, Fault>
+    requires fresh { T.answers tester.old ≡ [] }
+    requires is_split { T.is_split tester.old ≡ false }
+    ensures tells { IfOk result (TellsOutput words.now (F.files shelf.old)
+        (tested_by T.Tester tester.new) (S.left stream.old)) }
+    ensures cause { IfOk result (IsCaused (tests (request_to_certify words.now))
+        (met_tester T.Tester tester.old tester.new)) }
+    ensures refused { IfOk result (LeavesRefused (met_tester T.Tester tester.old tester.new)) }
+    ensures fault { IsUntestedAt (met_tester T.Tester tester.old tester.new) result }
+    ensures reads { IsErrOf result Fault.Read → IsTrue (reads (request_to_certify words.now)) }
+    ensures read { FailsOnlyAt Fault.Read (S.faults stream.old) (S.faults stream.new) result }
+    ensures loads { IsErrOf result Fault.Shelf →
+        IsTrue (asks_file (request_to_certify words.now)) }
+    ensures file { FailsOnlyAt Fault.Shelf (F.faults shelf.old) (F.faults shelf.new) result }
+    ensures used { IsUsedFor (request_to_certify words.now) words.now
+        (tested_by T.Tester tester.old) (tested_by T.Tester tester.new) }
+    ensures unread { IsLeftUnless (reads (request_to_certify words.now)) stream.old stream.new }
+    ensures unloaded { IsLeftUnless (asks_file (request_to_certify words.now)) shelf.old shelf.new }
+    ensures is_split { T.is_split tester.new ≡ false }
+{
+    match read_to_certify(alloc, words) {
+        Ok(request) => {
+            let line = Line {
+                alloc,
+                request: &request,
+                words,
+            };
+            certify_stream(rt, line, stream, shelf, tester)
+        }
+        Err(WordFault::At { word }) => Ok(usage(alloc, word)?),
+        Err(WordFault::NoMemory) => Err(Fault::NoMemory),
+    }
+}
+
+/// Writes an answer, or the line of what stood in its way, and gives the status.
+fn say_tested<K: Sink>(out: &mut K, answer: Result<Answer, Fault>) -> Status
+    requires whole { IfOk answer (λ a. a.status ≢ Status.WriteFault) }
+    ensures told { SaysAnswer answer (met_sink K.Sink out.old out.new) result }
+    ensures write { result ≡ Status.WriteFault → Rose (K.faults out.old) (K.faults out.new) }
+{
+    match answer {
+        Ok(answer) => say(out, answer.text.as_slice(), answer.status),
+        Err(Fault::Read) => say(out, b"read fault\n", Status::ReadFault),
+        Err(Fault::Shelf) => say(out, b"file fault\n", Status::ShelfFault),
+        Err(Fault::NoMemory) => Status::NoMemory,
+    }
+}
+
+/// What is answered over the stream, which is read to its end.
+fn certify_stream<R: Host, S: Source, F: Shelf, T: Tester>(
+    rt: &R,
+    line: Line<'_>,
+    stream: &mut S,
+    shelf: &mut F,
+    tester: &mut T,
+) -> Result<Answer, Fault>
+    requires search { IsTrue (is_search line.request.now.verb) }
+    requires plan { HasPlan line.request.now line.words.now }
+    requires whole { line.request.now.leg ≡ 0 }
+    requires plain { line.request.now.trace ≡ false }
+    requires fresh { T.answers tester.old ≡ [] }
+    requires is_split { T.is_split tester.old ≡ false }
+    ensures tells { IfOk result (TellsStream line.entry (F.files shelf.old)
+        (tested_by T.Tester tester.new) (S.left stream.old)) }
+    ensures cause { IfOk result (IsCausedIn line.entry
+        (met_tester T.Tester tester.old tester.new)) }
+    ensures refused { IfOk result (LeavesRefused (met_tester T.Tester tester.old tester.new)) }
+    ensures fault { IsUntestedAt (met_tester T.Tester tester.old tester.new) result }
+    ensures read { FailsOnlyAt Fault.Read (S.faults stream.old) (S.faults stream.new) result }
+    ensures asks { IsErrOf result Fault.Shelf → IsTrue (is_some line.entry.request.now.replay) }
+    ensures file { FailsOnlyAt Fault.Shelf (F.faults shelf.old) (F.faults shelf.new) result }
+    ensures used { IsUsedIn line.entry (met_tester T.Tester tester.old tester.new) }
+    ensures unloaded { IsLeftUnless (is_some line.entry.request.now.replay) shelf.old shelf.new }
+    ensures is_split { T.is_split tester.new ≡ false }
+{
+    match import(line.alloc, stream, Limits::standard()) {
+        Ok(history) => certify_over(rt, line, history, shelf, tester),
+        Err(fault) => refusal(line.alloc, fault),
+    }
+}
+
+/// What is answered over a history: the file that the words name is loaded first.
+fn certify_over<R: Host, F: Shelf, T: Tester>(
+    rt: &R,
+    line: Line<'_>,
+    history: History,
+    shelf: &mut F,
+    tester: &mut T,
+) -> Result<Answer, Fault>
+    requires search { IsTrue (is_search line.request.now.verb) }
+    requires plan { HasPlan line.request.now line.words.now }
+    requires whole { line.request.now.leg ≡ 0 }
+    requires plain { line.request.now.trace ≡ false }
+    requires fresh { T.answers tester.old ≡ [] }
+    requires is_split { T.is_split tester.old ≡ false }
+    ensures tells { IfOk result (TellsOver line.entry (F.files shelf.old)
+        (tested_by T.Tester tester.new) history) }
+    ensures cause { IfOk result (IsCausedIn line.entry
+        (met_tester T.Tester tester.old tester.new)) }
+    ensures refused { IfOk result (LeavesRefused (met_tester T.Tester tester.old tester.new)) }
+    ensures fault { IsUntestedAt (met_tester T.Tester tester.old tester.new) result }
+    ensures no_read { IsErrOf result Fault.Read → ⊥ }
+    ensures asks { IsErrOf result Fault.Shelf → IsTrue (is_some line.entry.request.now.replay) }
+    ensures file { FailsOnlyAt Fault.Shelf (F.faults shelf.old) (F.faults shelf.new) result }
+    ensures used { IsUsedIn line.entry (met_tester T.Tester tester.old tester.new) }
+    ensures unloaded { IsLeftUnless (is_some line.entry.request.now.replay) shelf.old shelf.new }
+    ensures is_split { T.is_split tester.new ≡ false }
+{
+    let file = load_file(line.words, line.request.replay, shelf)?;
+    certify_file(rt, line, lent(&file), history, tester)
+}
+
+/// The same over a history and the file that the words name.
+fn certify_file<R: Host, T: Tester>(
+    rt: &R,
+    line: Line<'_>,
+    file: Option<&LogFile>,
+    history: History,
+    tester: &mut T,
+) -> Result<Answer, Fault>
+    requires search { IsTrue (is_search line.request.now.verb) }
+    requires plan { HasPlan line.request.now line.words.now }
+    requires whole { line.request.now.leg ≡ 0 }
+    requires plain { line.request.now.trace ≡ false }
+    requires fresh { T.answers tester.old ≡ [] }
+    requires is_split { T.is_split tester.old ≡ false }
+    ensures tells { IfOk result (TellsFile line.entry file.entry
+        (tested_by T.Tester tester.new) history) }
+    ensures cause { IfOk result (IsCausedIn line.entry
+        (met_tester T.Tester tester.old tester.new)) }
+    ensures refused { IfOk result (LeavesRefused (met_tester T.Tester tester.old tester.new)) }
+    ensures no_read { IsErrOf result Fault.Read → ⊥ }
+    ensures no_shelf { IsErrOf result Fault.Shelf → ⊥ }
+    ensures used { IsUsedIn line.entry (met_tester T.Tester tester.old tester.new) }
+    ensures is_split { T.is_split tester.new ≡ false }
+{
+    let reach = Reach::build(line.alloc, history.graph())?;
+    match begin(line.alloc, line, file, &history, &reach) {
+        Ok(first) => {
+            let started = Started {
+                history,
+                reach,
+                first,
+                means: means_of(line.request),
+            };
+            Ok(certify_search(rt, line, started, tester)?)
+        }
+        Err(Stop::Refused(answer)) => Ok(answer),
+        Err(Stop::NoMemory) => Err(Fault::NoMemory),
+    }
+}
+
+/// How the commits of a search are tested.
+fn means_of(request: &Request) -> Means
+    requires search { IsTrue (is_search request.now.verb) }
+    ensures { verb_of result ≡ request.now.verb }
+{
+    match request.verb {
+        Verb::Run => Means::Command,
+        Verb::Simulate | Verb::Next | Verb::Replay | Verb::Gen | Verb::Sample => Means::Plan,
+    }
+}

@@ -1,0 +1,188 @@
+//! The command `check`.
+ghost use Rattle.std.specs.Prelude.{◌≡◌, ◌≢◌, ℕ, ◌<◌, ◌≤◌, length, IfOk, IsErrOf, IsTrue};
+ghost use Rattle.bf_io.specs.Causes.{FailsOnlyAt, Rose};
+ghost use Rattle.bf_output.specs.Logs.{file_or_refusal};
+ghost use Rattle.bf_output.specs.Tested.{Tested};
+ghost use Rattle.bf_answers.specs.Answers.{Answers, IsComplete, IsWholeAnswer};
+ghost use Rattle.bf_answers.specs.Devices.{IsLeftUnless, met_shelf, met_sink, met_source};
+ghost use Rattle.bf_answers.specs.Tellings.{Says};
+ghost use Rattle.bf_begin.specs.Files.{given_of};
+ghost use Rattle.bf_commands.specs.Check as checks;
+ghost use Rattle.bf_commands.specs.Orders as orders;
+ghost use Rattle.bf_check.specs.Checking.{checks_file, met_checking, to_check};
+ghost use Rattle.bf_check.specs.Tells.{TellsChecked, TellsFile, TellsOutput, TellsStreamed, TellsText};
+
+use bf_answers::{Answer, Fault, Stop, refusal, say_answer, usage};
+use bf_begin::{LogFile, load_word, text_of};
+use bf_cert::{CertFault, read_cert};
+use bf_grammar::Limits;
+use bf_import::{History, import};
+use bf_io::{Bytes, Sink, Source, Word, put_decimal};
+use bf_oid::oid_hex;
+use bf_output::Status;
+use bf_shelf::Shelf;
+use std::alloc::{AllocError, Global};
+
+/// The number of words that a line of `check` has: the command and its file.
+const WORDS: usize = 2;
+
+/// Checks the certificate in the file that word 1 names, over the history of the stream, and tells whether it
+/// holds.
+///
+/// The stream is read to its end before the file is asked for. The status is `ReadFault` only where the count of
+/// faults of the stream rose, `ShelfFault` only where that of the shelf did, and `WriteFault` only where that of
+/// the sink did.
+pub fn check<S: Source, F: Shelf, K: Sink>(
+    alloc: Global,
+    words: &[Word],
+    stream: &mut S,
+    shelf: &mut F,
+    out: &mut K,
+) -> Status
+    ensures answers { (tested : Tested) →
+        let met = met_checking words.now (met_source S.Source stream.old stream.new)
+        (met_shelf F.Shelf shelf.old shelf.new) tested (met_sink K.Sink out.old out.new) in
+        Answers (to_check met) met result }
+    ensures complete { (tested : Tested) →
+        let met = met_checking words.now (met_source S.Source stream.old stream.new)
+        (met_shelf F.Shelf shelf.old shelf.new) tested (met_sink K.Sink out.old out.new) in
+        IsComplete (to_check met) met result }
+    ensures read { result ≡ Status.ReadFault → Rose (S.faults stream.old) (S.faults stream.new) }
+    ensures file { result ≡ Status.ShelfFault → Rose (F.faults shelf.old) (F.faults shelf.new) }
+    ensures write { result ≡ Status.WriteFault → Rose (K.faults out.old) (K.faults out.new) }
+    ensures no_test { (place : ℕ) → result ≢ Status.TestFault place }
+    ensures unread { IsLeftUnless (checks_file words.now) stream.old stream.new }
+    ensures unloaded { IsLeftUnless (checks_file words.now) shelf.old shelf.new }
+{
+    let answer = answer(alloc, words, stream, shelf);
+    say_answer(out, answer)
+}
+
+/// The index of the word that is missing, or of the first further one, where there must be so many.
+fn wrong_count(words: &[Word]) -> Option<u32>
+    ensures { result ≡ orders.wrong_count 2 words.now }
+{
+    if words.len() < WORDS {
+        Some(words.len() as u32)
+    } else if words.len() > WORDS {
+        Some(WORDS as u32)
+    } else {
+        None
+    }
+}
+
+/// What is answered, or why there is no answer.
+fn answer<S: Source, F: Shelf>(
+    alloc: Global,
+    words: &[Word],
+    stream: &mut S,
+    shelf: &mut F,
+) -> Result<Answer, Fault>
+    ensures tells { IfOk result (TellsOutput words.now (F.files shelf.old) (S.left stream.old)) }
+    ensures whole { IfOk result IsWholeAnswer }
+    ensures reads { IsErrOf result Fault.Read → IsTrue (checks_file words.now) }
+    ensures cause { FailsOnlyAt Fault.Read (S.faults stream.old) (S.faults stream.new) result }
+    ensures loads { IsErrOf result Fault.Shelf → IsTrue (checks_file words.now) }
+    ensures file { FailsOnlyAt Fault.Shelf (F.faults shelf.old) (F.faults shelf.new) result }
+    ensures unread { IsLeftUnless (checks_file words.now) stream.old stream.new }
+    ensures unloaded { IsLeftUnless (checks_file words.now) shelf.old shelf.new }
+{
+    match wrong_count(words) {
+        Some(word) => Ok(usage(alloc, word)?),
+        None => check_stream(alloc, words, stream, shelf),
+    }
+}
+
+/// What is answered over the stream, which is read to its end.
+fn check_stream<S: Source, F: Shelf>(
+    alloc: Global,
+    words: &[Word],
+    stream: &mut S,
+    shelf: &mut F,
+) -> Result<Answer, Fault>
+    ensures tells { IfOk result (TellsStreamed words.now (F.files shelf.old) (S.left stream.old)) }
+    ensures whole { IfOk result IsWholeAnswer }
+    ensures cause { FailsOnlyAt Fault.Read (S.faults stream.old) (S.faults stream.new) result }
+    ensures file { FailsOnlyAt Fault.Shelf (F.faults shelf.old) (F.faults shelf.new) result }
+{
+    match import(alloc, stream, Limits::standard()) {
+        Ok(history) => check_over(alloc, words, &history, shelf),
+        Err(fault) => refusal(alloc, fault),
+    }
+}
+
+/// What is answered over a history.
+fn check_over<F: Shelf>(
+    alloc: Global,
+    words: &[Word],
+    history: &History,
+    shelf: &mut F,
+) -> Result<Answer, Fault>
+    ensures tells { IfOk result (TellsChecked words.now (F.files shelf.old) history.now) }
+    ensures whole { IfOk result IsWholeAnswer }
+    ensures no_read { IsErrOf result Fault.Read → ⊥ }
+    ensures file { FailsOnlyAt Fault.Shelf (F.faults shelf.old) (F.faults shelf.new) result }
+{
+    let file = load_word(words, 1, shelf)?;
+    check_file(alloc, history, &file)
+}
+
+/// What is answered to a file.
+fn check_file(alloc: Global, history: &History, file: &LogFile) -> Result<Answer, Fault>
+    ensures tells { IfOk result (TellsFile history.now (file_or_refusal (given_of file.now))) }
+    ensures whole { IfOk result IsWholeAnswer }
+    ensures memory { (IsErrOf result Fault.Read → ⊥) × (IsErrOf result Fault.Shelf → ⊥) }
+{
+    match text_of(alloc, file) {
+        Ok(text) => check_text(alloc, history, text),
+        Err(Stop::Refused(answer)) => Ok(answer),
+        Err(Stop::NoMemory) => Err(Fault::NoMemory),
+    }
+}
+
+/// What is answered to the text of a certificate.
+fn check_text(alloc: Global, history: &History, text: &[u8]) -> Result<Answer, Fault>
+    requires { length text.now ≤ 16777216 }
+    ensures tells { IfOk result (TellsText history.now text.now) }
+    ensures whole { IfOk result IsWholeAnswer }
+    ensures memory { (IsErrOf result Fault.Read → ⊥) × (IsErrOf result Fault.Shelf → ⊥) }
+{
+    match read_cert(alloc, history, text) {
+        Ok(cert) => Ok(accepted(alloc, history, cert.bad)?),
+        Err(CertFault::Line { line }) => Ok(cert_refusal(alloc, line)?),
+        Err(CertFault::NoMemory) => Err(Fault::NoMemory),
+    }
+}
+
+/// The answer where a certificate holds, which names its commit.
+#[tactic(auto, unfolding(bf_commands::specs::Check::cert_holds))]
+fn accepted(alloc: Global, history: &History, bad: u32) -> Result<Answer, AllocError>
+    requires { bad < length history.now.parents }
+    ensures tells { IfOk result (Says (checks.cert_holds history.now bad)) }
+    ensures whole { IfOk result IsWholeAnswer }
+{
+    let mut digits = [0u8; 40];
+    oid_hex(history.names()[bad as usize], &mut digits);
+    let mut text = Bytes::from_slice(alloc, b"certificate holds for ")?;
+    text.append(&digits)?;
+    text.append(b"\n")?;
+    Ok(Answer {
+        status: Status::Done,
+        text,
+    })
+}
+
+/// The answer where a certificate fails at a line.
+#[tactic(auto, unfolding(bf_commands::specs::Check::cert_refused))]
+fn cert_refusal(alloc: Global, line: u32) -> Result<Answer, AllocError>
+    ensures tells { IfOk result (Says (checks.cert_refused line)) }
+    ensures whole { IfOk result IsWholeAnswer }
+{
+    let mut text = Bytes::from_slice(alloc, b"certificate fails at line ")?;
+    put_decimal(&mut text, u64::from(line))?;
+    text.append(b"\n")?;
+    Ok(Answer {
+        status: Status::CertRefused { line },
+        text,
+    })
+}

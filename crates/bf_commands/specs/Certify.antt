@@ -1,0 +1,83 @@
+-- The command `certify`: a search whose certificate is printed in place of its log and its answer.
+use Rattle.std.specs.Prelude.{◌≡◌, ◌⊎◌, ℕ, Bool, true, false, List, length, Option, Some, None, Result, Ok, Err}
+use Rattle.bf_cert.specs.declared.cert.Cert.{Cert}
+use Rattle.bf_cert.specs.Certificates.{Holds, IsWithin}
+use Rattle.bf_cert.specs.Lines.{cert_text}
+use Rattle.bf_cert.specs.Made.{IsMade}
+use Rattle.bf_history.specs.Meanings.{History}
+use Rattle.bf_search.specs.declared.asks.Ask.{Ask}
+use Rattle.bf_search.specs.declared.asks.Ask.TheVariants.{FirstBad}
+use Rattle.bf_search.specs.Run.{End, Answered, Run}
+use Rattle.bf_search.specs.State.{Search}
+use Rattle.bf_shelf.specs.declared.shelf.LoadFault.{LoadFault}
+use Rattle.bf_shelf.specs.declared.shelf.ShelfFile.{ShelfFile}
+use Rattle.bf_words.specs.declared.request.Request.{Request}
+use Rattle.bf_words.specs.declared.verb.Verb.{Verb}
+use Rattle.bf_words.specs.declared.verb.Verb.TheVariants.{Simulate, Run as RunVerb}
+use Rattle.bf_output.specs.declared.status.Status.TheVariants as status
+use Rattle.bf_output.specs.Beginning.{Begun, begun_with_skips}
+use Rattle.bf_output.specs.Inputs.{IsFiled, IsStreamed}
+use Rattle.bf_output.specs.Output.{Given}
+use Rattle.bf_output.specs.Refusals.{usage}
+use Rattle.bf_output.specs.Simulate.{plan_of, run_over}
+use Rattle.bf_output.specs.Tested.{Tested, IsTestedAs, told_of_run}
+use Rattle.bf_output.specs.Told.{Told}
+use Rattle.bf_commands.specs.Orders.{request_to_certify}
+
+-- ---- what is told of a run
+
+-- the certificate that is made of a search: it is of commits, and holds
+pub record IsCertOf (history : History) (s : Search) (told : Told) : Type 0 where
+  pub cert : Cert
+  pub made : IsMade history.parents s cert
+  pub holds : Holds history.parents cert
+  pub within : IsWithin (length history.parents) cert
+  pub tells : told ≡ record { status = status.Done; text = cert_text history.names cert }
+
+-- a run that ended with the first bad commit is told by the certificate of the search that it reached, and each other one as ever
+abbrev pub IsCertTold : History → Begun → Run → End → Told → Type 0
+IsCertTold history first run (Answered (FirstBad p)) told = IsCertOf history run.search told
+IsCertTold history first run other told = told ≡ told_of_run history first run
+
+abbrev pub IsRunCertified : History → Begun → Run → Told → Type 0
+IsRunCertified history first run told = IsCertTold history first run run.end told
+
+-- ---- over a plan, or by tests
+
+abbrev pub IsPlanCertified : Request → List (List ℕ) → History → Begun → Told → Type 0
+IsPlanCertified request words history first told = IsRunCertified history first (run_over history first (plan_of request words)) told
+
+abbrev pub IsTestCertified : Request → Tested → History → Begun → Told → Type 0
+IsTestCertified request tested history first told =
+    IsTestedAs (λ legs run other. IsRunCertified history first run other) request tested history first told
+
+abbrev pub IsCertified : Verb → Request → List (List ℕ) → Tested → History → Begun → Told → Type 0
+IsCertified Simulate request words tested history first told = IsPlanCertified request words history first told
+IsCertified RunVerb request words tested history first told = IsTestCertified request tested history first told
+IsCertified other request words tested history first told = ⊥
+
+-- ---- from the words on
+
+abbrev pub IsCertifiedFrom : Result Begun Told → Request → List (List ℕ) → Tested → History → Told → Type 0
+IsCertifiedFrom (Err refusal) request words tested history told = told ≡ refusal
+IsCertifiedFrom (Ok first) request words tested history told = IsCertified request.verb request words tested history first told
+
+abbrev pub IsCertifiedBy : Request → Given → Option (Result (List ℕ) LoadFault) → History → Told → Type 0
+IsCertifiedBy request given file history told =
+    IsCertifiedFrom (begun_with_skips request given.words file history) request given.words given.tested history told
+
+-- behind the log that the words name, or without one
+abbrev pub IsCertifiedBehind : Option ℕ → Request → Given → History → Told → Type 0
+IsCertifiedBehind None request given history told = IsCertifiedBy request given None history told
+IsCertifiedBehind (Some i) request given history told =
+    IsFiled (λ file told. IsCertifiedBy request given (Some file) history told) given.words i given.files told
+
+abbrev pub IsCertifiedOver : Request → Given → History → Told → Type 0
+IsCertifiedOver request given history told = IsCertifiedBehind request.replay request given history told
+
+abbrev pub IsCertifyFor : Result Request ℕ → Given → Option (List ℕ) → Told → Type 0
+IsCertifyFor (Err word) given stream told = told ≡ usage word
+IsCertifyFor (Ok request) given stream told = IsStreamed (IsCertifiedOver request given) stream told
+
+abbrev pub IsCertifyOutput : Given → Option (List ℕ) → Told → Type 0
+IsCertifyOutput given stream told = IsCertifyFor (request_to_certify given.words) given stream told

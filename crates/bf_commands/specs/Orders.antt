@@ -1,0 +1,65 @@
+-- The words of `certify`, which stands before those of a search, and of `check`, which has words of its own.
+use Rattle.std.specs.Prelude.{ℕ, ◌+◌, Bool, true, false, nat_lt, if◌then◌else◌, List, [], ◌∷◌, length, drop, codes, Option, Some, None, Result, Ok, Err}
+use Rattle.bf_words.specs.declared.options.Choice.TheVariants.{Leg, Trace}
+use Rattle.bf_words.specs.declared.request.Request.{Request}
+use Rattle.bf_words.specs.declared.verb.Verb.{Verb}
+use Rattle.bf_words.specs.declared.verb.Verb.TheVariants.{Simulate, Run, Next, Replay, Gen, Sample}
+use Rattle.bf_words.specs.FirstOption.{first_option}
+use Rattle.bf_words.specs.Options.{is_text, verb_of}
+use Rattle.bf_words.specs.Words.{next_index, request_behind, word_at}
+use Rattle.bf_commands.specs.declared.order.Order.{Order}
+use Rattle.bf_commands.specs.declared.order.Order.TheVariants.{Certify, Check}
+
+unfoldable pub order_of : List ℕ → Option Order
+order_of word =
+    if is_text (codes "certify") word then Some Certify
+    else if is_text (codes "check") word then Some Check
+    else None
+
+-- ---- a command that stands before another one
+
+abbrev pub is_search : Verb → Bool
+is_search Simulate = true
+is_search Run = true
+is_search Next = false
+is_search Replay = false
+is_search Gen = false
+is_search Sample = false
+
+-- the commands that may stand behind it
+abbrev pub may_follow : Order → Verb → Bool
+may_follow Certify verb = is_search verb
+may_follow Check verb = false
+
+abbrev pub is_followed : Order → Option Verb → Bool
+is_followed order None = false
+is_followed order (Some verb) = may_follow order verb
+
+-- What the words behind it ask for. Another command there is at fault before all else.
+unfoldable pub request_of : Order → List (List ℕ) → Result Request ℕ
+request_of order words = if is_followed order (verb_of (word_at words 1)) then request_behind words else Err 1
+
+-- ---- `certify`, which prints no legs and no trace
+
+-- the first word that asks for one
+abbrev pub log_word : Verb → List (List ℕ) → Option ℕ
+log_word verb words = first_option verb (Leg ∷ Trace ∷ []) (drop 1 words)
+
+abbrev pub without_log : Request → Option ℕ → Result Request ℕ
+without_log request None = Ok request
+without_log request (Some i) = Err (next_index i)
+
+abbrev pub certified_request : List (List ℕ) → Result Request ℕ → Result Request ℕ
+certified_request words (Err word) = Err word
+certified_request words (Ok request) = without_log request (log_word request.verb words)
+
+-- they are refused once all other words are accepted
+abbrev pub request_to_certify : List (List ℕ) → Result Request ℕ
+request_to_certify words = certified_request words (request_of Certify words)
+
+-- ---- words of a known number
+
+-- the index of the word that is missing, or of the first further one, where there must be so many
+abbrev pub wrong_count : ℕ → List (List ℕ) → Option ℕ
+wrong_count count words =
+    if nat_lt (length words) count then Some (length words) else if nat_lt count (length words) then Some count else None
