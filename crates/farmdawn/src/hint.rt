@@ -27,7 +27,29 @@ fn line_of(command: &[u8]) -> &'static str {
         b"replay" => "replay --replay FILE",
         b"gen" => "gen NUMBER COUNT, where COUNT is 1 to 100,000",
         b"sample" => "sample [--workers N] NUMBER COUNT, where COUNT is 1 to 100,000",
-        _ => "the first word is simulate, run, next, replay, gen or sample",
+        b"certify" =>
+            "the word simulate or run and the rest of its line, without --leg and --trace",
+        b"check" => "check FILE",
+        _ => "the first word is simulate, run, next, replay, gen, sample, certify or check",
+    }
+}
+
+/// A word of the line, empty where there is none.
+fn text_at(words: &[Word], at: usize) -> &[u8] {
+    match words.get(at) {
+        Some(word) => word.as_slice(),
+        None => b"",
+    }
+}
+
+/// The command whose line says what would be right at a word: behind `certify` the second one, but for the options
+/// that it refuses.
+fn command_at(words: &[Word], word: usize) -> &[u8] {
+    match (text_at(words, 0), text_at(words, word)) {
+        _ if word == 0 => b"",
+        (b"certify", b"--leg" | b"--trace") => b"certify",
+        (b"certify", _) if word > 1 => text_at(words, 1),
+        (first, _) => first,
     }
 }
 
@@ -35,10 +57,7 @@ fn line_of(command: &[u8]) -> &'static str {
 fn right_at(words: &[Word], word: usize) -> &'static str {
     let before = word.checked_sub(1).and_then(|at| words.get(at));
     let value = before.and_then(|option| value_of(option.as_slice()));
-    value.unwrap_or_else(|| match words.first() {
-        Some(command) if word > 0 => line_of(command.as_slice()),
-        _ => line_of(b""),
-    })
+    value.unwrap_or_else(|| line_of(command_at(words, word)))
 }
 
 /// Says on the standard error which word is at fault, what would be right there, and where more is told. Where it

@@ -7,8 +7,9 @@ ghost use Rattle.std.specs.Prelude.{◌≡◌, [], false};
 mod args;
 mod hint;
 
+use bf_farmed::farm_main;
 use bf_io::{Sink, Source, StdSink, StdSource, Word};
-use bf_program::{Status, bisect_main, say};
+use bf_program::{Status, say};
 use bf_shelf::{DirShelf, Shelf};
 use bf_tester::{ProcessTester, Tester};
 use std::alloc::Global;
@@ -29,6 +30,9 @@ farmdawn next [OPTION..] --replay FILE < STREAM
 farmdawn replay --replay FILE < STREAM
 farmdawn gen NUMBER COUNT
 farmdawn sample [--workers N] NUMBER COUNT
+farmdawn certify simulate [OPTION..] BAD GOOD.. PLAN < STREAM
+farmdawn certify run [OPTION..] BAD GOOD.. -- COMMAND.. < STREAM
+farmdawn check FILE < STREAM
 
 simulate searches the history of a git fast-import stream for the first bad commit, as git bisect
 does, and prints the log and the answer. No test is run: PLAN says how each would end. run tests
@@ -36,7 +40,10 @@ each commit by COMMAND, which gets the commit's name as its last word: status 0 
 bad, 125 skips the commit, and any other ends the search. next prints the log so far and the commit
 that a search would test next. With --replay they go on from a log, and replay prints such a log in
 its normal form, and the commits that it knows. gen prints a stream of COUNT commits that NUMBER
-gives, and sample searches such a stream and prints a summary.
+gives, and sample searches such a stream and prints a summary. certify searches as simulate and run
+do, without --leg and --trace, and prints, where the first bad commit was found, a certificate in
+place of log and answer: what is needed to check the answer without a test. check tells whether the
+certificate in FILE holds for the history of the stream.
 
   BAD, GOOD         names of commits, as gitrevisions(7) has them: main, v1.0, main~3, 1a2b3c4
   PLAN              a letter for each commit in the order of the stream: g good, b bad, s skip,
@@ -56,7 +63,7 @@ commit is no ancestor of the bad one, 5 where one commit is both, 6 where a test
 7 to 9 where the stream or a name is refused or a limit is passed, 10 where a log is refused, 11
 where a test cannot be made, 12 where the stream cannot be read, 13 where the output cannot be
 written, 14 where the file of a log cannot be read, 15 where memory runs out, 16 where there is no
-such file, and 17 where an end is not known.
+such file, 17 where an end is not known, and 20 where a certificate does not hold.
 ";
 
 const VERSION: &[u8] = b"farmdawn 0.1.0\n";
@@ -75,7 +82,7 @@ where
     requires fresh { T.answers tester.old ≡ [] }
     requires whole { T.is_split tester.old ≡ false }
 {
-    bisect_main(rt, rt.alloc(), words, stream, shelf, tester, out)
+    farm_main(rt, rt.alloc(), words, stream, shelf, tester, out)
 }
 
 /// A tester that starts commands. It tells of its tests on the standard error, unless the environment has
