@@ -9,6 +9,8 @@
 PREFIX ?= /usr/local
 
 SCRIPTS = git-farmdawn farmdawn-worktree farmdawn-srun farmdawn-ssh
+# what a script starts for itself, and has no page
+PARTS = farmdawn-part
 BIN = $(DESTDIR)$(PREFIX)/bin
 MAN = $(DESTDIR)$(PREFIX)/share/man/man1
 BASH_COMPLETIONS = $(DESTDIR)$(PREFIX)/share/bash-completion/completions
@@ -22,21 +24,21 @@ demo:
 
 install: install-scripts
 	cd crates/farmdawn && rt run -- --version
-	install -D -m 755 crates/farmdawn/out/farmdawn $(BIN)/farmdawn
+	install -D -m 755 crates/farmdawn/out/farmdawn "$(BIN)/farmdawn"
 
 install-scripts:
-	for script in $(SCRIPTS); do install -D -m 755 tools/$$script $(BIN)/$$script || exit 1; done
-	for page in farmdawn $(SCRIPTS); do install -D -m 644 man/$$page.1 $(MAN)/$$page.1 || exit 1; done
+	for script in $(SCRIPTS) $(PARTS); do install -D -m 755 tools/$$script "$(BIN)/$$script" || exit 1; done
+	for page in farmdawn $(SCRIPTS); do install -D -m 644 man/$$page.1 "$(MAN)/$$page.1" || exit 1; done
 	for name in farmdawn git-farmdawn; do \
-		install -D -m 644 completions/farmdawn.bash $(BASH_COMPLETIONS)/$$name && \
-		install -D -m 644 completions/_$$name $(ZSH_COMPLETIONS)/_$$name && \
-		install -D -m 644 completions/$$name.fish $(FISH_COMPLETIONS)/$$name.fish || exit 1; \
+		install -D -m 644 completions/farmdawn.bash "$(BASH_COMPLETIONS)/$$name" && \
+		install -D -m 644 completions/_$$name "$(ZSH_COMPLETIONS)/_$$name" && \
+		install -D -m 644 completions/$$name.fish "$(FISH_COMPLETIONS)/$$name.fish" || exit 1; \
 	done
 
 uninstall:
-	for name in farmdawn $(SCRIPTS); do rm -f $(BIN)/$$name $(MAN)/$$name.1; done
+	for name in farmdawn $(SCRIPTS) $(PARTS); do rm -f "$(BIN)/$$name" "$(MAN)/$$name.1"; done
 	for name in farmdawn git-farmdawn; do \
-		rm -f $(BASH_COMPLETIONS)/$$name $(ZSH_COMPLETIONS)/_$$name $(FISH_COMPLETIONS)/$$name.fish; \
+		rm -f "$(BASH_COMPLETIONS)/$$name" "$(ZSH_COMPLETIONS)/_$$name" "$(FISH_COMPLETIONS)/$$name.fish"; \
 	done
 
 test:

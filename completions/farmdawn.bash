@@ -6,6 +6,18 @@ _farmdawn_options() {
     next) echo --first-parent --term-new --term-old --skip --replay ;;
     replay) echo --replay ;;
     sample) echo --workers ;;
+    certify)
+        case $2 in
+        simulate | run) echo --workers --first-parent --term-new --term-old --skip --replay --lenient-exit ;;
+        esac
+        ;;
+    esac
+}
+
+# The words that may stand behind a command which stands before another one.
+_farmdawn_behind() {
+    case $1 in
+    certify) echo simulate run ;;
     esac
 }
 
@@ -13,9 +25,20 @@ _farmdawn() {
     local word=${COMP_WORDS[COMP_CWORD]} before=${COMP_WORDS[COMP_CWORD - 1]} index
     COMPREPLY=()
     if [ "$COMP_CWORD" -eq 1 ]; then
-        mapfile -t COMPREPLY < <(compgen -W 'simulate run next replay gen sample --help --version' -- "$word")
+        mapfile -t COMPREPLY < <(compgen -W 'simulate run next replay gen sample certify check --help --version' -- "$word")
         return
     fi
+    if [ "$COMP_CWORD" -eq 2 ] && [ -n "$(_farmdawn_behind "${COMP_WORDS[1]}")" ]; then
+        mapfile -t COMPREPLY < <(compgen -W "$(_farmdawn_behind "${COMP_WORDS[1]}")" -- "$word")
+        return
+    fi
+    case ${COMP_WORDS[1]}$COMP_CWORD in
+    check2)
+        compopt -o default
+        return
+        ;;
+    check*) return ;;
+    esac
     for ((index = 2; index < COMP_CWORD; index++)); do
         if [ "${COMP_WORDS[index]}" = -- ]; then
             compopt -o default
@@ -27,7 +50,7 @@ _farmdawn() {
     --workers | --leg | --term-new | --term-old) ;;
     *)
         case $word in
-        -*) mapfile -t COMPREPLY < <(compgen -W "$(_farmdawn_options "${COMP_WORDS[1]}") --" -- "$word") ;;
+        -*) mapfile -t COMPREPLY < <(compgen -W "$(_farmdawn_options "${COMP_WORDS[1]}" "${COMP_WORDS[2]}") --" -- "$word") ;;
         *) mapfile -t COMPREPLY < <(compgen -W "$(git for-each-ref --format='%(refname:short)' 2>/dev/null)" -- "$word") ;;
         esac
         ;;
@@ -36,7 +59,7 @@ _farmdawn() {
 
 _git_farmdawn() {
     case $cur in
-    -*) __gitcomp '--help --workers --first-parent --term-new --term-old --skip --check-ends --timeout --copy --submodules --log-dir --fresh' ;;
+    -*) __gitcomp '--help --workers --first-parent --term-new --term-old --skip --check-ends --timeout --copy --submodules --log-dir --log-limit --fresh --prune' ;;
     *) __git_complete_refs ;;
     esac
 }

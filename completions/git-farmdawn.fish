@@ -14,5 +14,7 @@ complete -c git-farmdawn -l timeout -x -d 'end a test that takes longer, and ski
 complete -c git-farmdawn -l copy -r -F -d 'bring this into each checkout that lacks it'
 complete -c git-farmdawn -l submodules -d 'check out submodules'
 complete -c git-farmdawn -l log-dir -x -a '(__fish_complete_directories)' -d 'keep the output of each test there'
+complete -c git-farmdawn -l log-limit -x -d 'keep so much of each output, as 500k or 10M'
+complete -c git-farmdawn -l prune -d 'remove what is kept of searches that do not run'
 complete -c git-farmdawn -l fresh -d 'forget the outcomes of earlier runs'
 complete -c git-farmdawn -s h -l help -d 'show help'

@@ -234,7 +234,7 @@ test_going_on() {
     expect 'it was stopped' [ $? -eq 143 ]
     expect 'and says how to go on' grep -q ': stopped; the same line goes on from [1-9][0-9]* outcomes$' told
     nothing_left
-    sed 's/ .*//' .git/farmdawn/results-*/statuses >known
+    cat .git/farmdawn/results-*/*.outcome | sed 's/ .*//' >known
     touch ../on
     git farmdawn --workers 2 "$@" >log
     expect 'the answer' [ "$(tail -n 1 log)" = "$(git rev-parse main~10) is the first bad commit" ]
@@ -246,23 +246,25 @@ test_going_on() {
 }
 
 # The folder of a run that was killed is removed by the next one, as soon as none of its tests runs on; that of a run that
-# another user or host has, which is known by its lock alone, is left.
+# another user or host has, which is known by its lock alone, is left. Here tests do not end with their search.
 needs_dead_runs() { needs_all && has pgrep; }
 test_dead_runs() {
     make_line 8 3
+    mkdir ../bin && printf '#!/bin/sh\nexit 1\n' >../bin/setpriv && chmod +x ../bin/setpriv
     # shellcheck disable=SC2016
-    "$top/tools/git-farmdawn" main main~7 -- sh -c 'touch "$0/began"; while [ -e "$0" ] && [ ! -e "$0/on" ]; do sleep 0.1; done
+    PATH=$PWD/../bin:$PATH "$top/tools/git-farmdawn" main main~7 -- sh -c 'touch "$0/began"; while [ -e "$0" ] && [ ! -e "$0/on" ]; do sleep 0.1; done
         test ! -e bug' "$PWD/.." >log 2>&1 &
     until [ -e ../began ]; do expect 'the search goes on' kill -0 $! && sleep 0.1; done
-    program=$(pgrep -P $!)
+    programs=$(for part in $(pgrep -P $!); do echo "$part" && pgrep -P "$part"; done)
     # shellcheck disable=SC2086
-    kill -KILL $! $program
+    kill -KILL $! $programs
     wait $!
     killed=$(ls -d .git/farmdawn/run.*)
     expect 'a search' git farmdawn main main~7 -- sh -c "$command"
     expect 'tests that run on keep their folder' [ "$(ls -d .git/farmdawn/run.*)" = "$killed" ]
     touch ../on
-    flock "$killed/lock" mkdir .git/farmdawn/run.elsewhere
+    until flock -n "$killed/lock" true; do sleep 0.1; done
+    mkdir .git/farmdawn/run.elsewhere
     flock .git/farmdawn/run.elsewhere/lock sh -c 'while [ -e .. ] && [ ! -e ../off ]; do sleep 0.1; done' &
     until [ -e .git/farmdawn/run.elsewhere/lock ]; do expect 'the lock is held' kill -0 $! && sleep 0.1; done
     expect 'the same search' git farmdawn main main~7 -- sh -c "$command"
@@ -292,23 +294,430 @@ test_logs_and_limits() {
     nothing_left
 }
 
-# A look whether the answer is known tells nothing where the program fails, and holds up no other test where it is killed.
-needs_lost_looks() { needs_all; }
-test_lost_looks() {
+# Where the program that follows the tests fails, or is killed, the answer is that of the one that runs them.
+needs_lost_follower() { needs_all && has pgrep; }
+test_lost_follower() {
     make_line 12 7
-    {
-        echo '#!/bin/sh'
-        echo "begun='$PWD/../begun' first='$PWD/../first' farmdawn='$farmdawn'"
-        # shellcheck disable=SC2016
-        echo 'case "$*" in *" --known "*) [ ! -e "$begun" ] || { mkdir "$first" && kill -KILL $PPID; exit 15; } ;; esac
-            exec "$farmdawn" "$@"'
-    } >../failing
-    chmod +x ../failing
+    # at once, or when tests run
+    for after in 0 0.6; do
+        printf '#!/bin/sh\ncase "$*" in *" --await"*) touch "%s"; "%s" "$@" & sleep %s; kill -KILL $! ; exit 15 ;; esac\nexec "%s" "$@"\n' \
+            "$PWD/../lost" "$farmdawn" $after "$farmdawn" >../failing
+        chmod +x ../failing
+        FARMDAWN=$PWD/../failing git farmdawn --fresh --workers 3 main main~11 -- sh -c "sleep 0.3; $command" >log
+        expect "a search, where it ends after $after s" [ $? -eq 0 ]
+        expect 'the answer' [ "$(tail -n 1 log)" = "$(git rev-parse main~4) is the first bad commit" ]
+        expect 'the program was lost' [ -e ../lost ]
+        rm ../lost
+    done
+    nothing_left
+}
+
+# The answer of git farmdawn over the practice line, in one line.
+answer_of() { "$@" 2>told | tail -n 1; }
+first_bad() { echo "$(git rev-parse "$1") is the first bad commit"; }
+
+# A file that git tracks means the commit's own; git bisect run has the same answer. The files note1, note2, .. come one by one.
+make_notes() {
+    git init -q -b main repository && cd repository || exit 1
+    printf 'made: made.in\n\ttest ! -e note5 && cp made.in made\n' >Makefile && echo x >made.in
+    for number in 1 2 3 4 5 6 7 8; do
+        echo $number >note$number && git add -A && git commit -q -m "note $number" || exit 1
+    done
+}
+
+needs_tracked_files() { needs_all && has make; }
+test_tracked_files() {
+    make_notes
+    expect 'which commit brought a file' [ "$(answer_of git farmdawn main main~7 -- test ! -e note4)" = "$(first_bad main~4)" ]
+    git rm -q note3 && git commit -q -m 'without note 3' && echo 3 >note3 && git commit -q --allow-empty -m last || exit 1
+    expect 'which commit removed a file that is here again' [ "$(answer_of git farmdawn main main~6 -- test -e note3)" = "$(first_bad main~1)" ]
+    expect 'of which a line tells' grep -q 'note3 is not tracked now, but some of the commits have it' told
+    expect 'a word of grep' [ "$(answer_of git farmdawn main~3 main~9 -- sh -c '! grep -q 4 note4' note4)" = "$(first_bad main~6)" ]
+    echo x >made && git add made && git commit -q -m made || exit 1
+    expect 'a target of make' [ "$(answer_of git farmdawn main main~9 -- make -s made)" = "$(first_bad main~6)" ]
+    echo 'test ! -e note6' >new.sh
+    expect 'a script that is not tracked' [ "$(answer_of git farmdawn main main~9 -- sh new.sh)" = "$(first_bad main~5)" ]
+    expect 'is told' grep -q 'new.sh is not tracked; each checkout gets a copy of it' told
+    expect '--copy brings a tracked one, too' [ "$(answer_of git farmdawn --copy note6 main~2 main~9 -- test ! -e note6)" = "$(first_bad main~8)" ]
+    nothing_left
+}
+
+# An old commit has a link in place of a folder: nothing is written where it leads.
+needs_links_of_commits() { needs_all; }
+test_links_of_commits() {
+    mkdir elsewhere && elsewhere=$PWD/elsewhere
+    make_line 3 9
+    ln -s "$elsewhere" tests && ln -s "$elsewhere/none" check.sh && git add -A && git commit -q -m links || exit 1
+    git rm -q tests check.sh && mkdir tests || exit 1
+    for number in 1 2 3 4; do
+        [ $number -lt 3 ] || echo bug >bug
+        echo $number >content && git add -A && git commit -q -m "then $number" || exit 1
+    done
+    echo 'test ! -e bug' >tests/run.sh && cp tests/run.sh check.sh
+    expect 'an answer' [ "$(answer_of git farmdawn main main~5 -- sh tests/run.sh)" = "$(first_bad main~1)" ]
+    expect 'nothing outside' [ -z "$(ls elsewhere 2>/dev/null; ls "$elsewhere")" ]
+    git farmdawn --copy check.sh --copy tests main main~5 -- sh -c "$command" >log 2>told
+    expect 'nothing outside by --copy' [ -z "$(ls "$elsewhere")" ]
+    nothing_left
+}
+
+# What is kept and not whole, or not an outcome of that commit, is forgotten and told.
+needs_torn_outcomes() { needs_all; }
+test_torn_outcomes() {
+    make_line 20 9
+    set -- git farmdawn --workers 2 main main~19 -- sh -c "$command; "'s=$?; echo x >>"$0/tested"; exit $s' "$PWD/.."
+    expect 'the answer' [ "$(answer_of "$@")" = "$(first_bad main~10)" ]
+    other=$(git rev-parse main)
+    for text in '%s 0' '%s 1\n' '%s 0%s 0 end\n' '%s 126 end\n' '%s 0 end 1\n' '%s x end\n' '%s -1 end\n' '%.39s 0 end\n' \
+        "$other"' 1 end\n' '' '%s 0 end' '\000\000\000\000' '%s 1000 end\n' '* * *\n'; do
+        rm -f ../tested
+        for kept in .git/farmdawn/results-*/*.outcome; do
+            name=${kept##*/}
+            # shellcheck disable=SC2059
+            printf "$text" "${name%.outcome}" "${name%.outcome}" >"$kept"
+        done
+        expect "the same answer: $text" [ "$(answer_of "$@")" = "$(first_bad main~10)" ]
+        expect 'and what is forgotten is told' grep -q 'no whole outcome, and is forgotten' told
+        expect 'and tested again' [ "$(wc -l <../tested)" -ge 4 ]
+    done
+    rm ../tested
+    expect 'whole ones are believed' [ "$(answer_of "$@")" = "$(first_bad main~10)" ]
+    expect 'and nothing is tested' [ ! -e ../tested ]
+    rm -f ../tested && cp -Rp . ../copy && cd ../copy || exit 1
+    for kept in .git/farmdawn/results-*/*.outcome; do
+        name=${kept##*/}
+        echo "${name%.outcome} 1 end" >"$kept"
+    done
+    expect 'those that came from elsewhere are not' [ "$(answer_of "$@")" = "$(first_bad main~10)" ]
+    expect 'and it is told' grep -q "are another repository's, and are forgotten" told
+    nothing_left
+}
+
+# Links in a git folder that came from elsewhere lead to nothing that is removed or written.
+needs_foreign_folders() { needs_all; }
+test_foreign_folders() {
+    mkdir -p victim/2023-photos victim/0 && echo x >victim/2023-photos/x && echo x >victim/file
+    make_line 12 7
+    mkdir -p .git/farmdawn/run.evil .git/farmdawn/run.other && touch .git/farmdawn/run.evil/lock && ln -s "$PWD/../victim" .git/farmdawn/run.evil/pool
+    ln -s "$PWD/../victim/file" .git/farmdawn/run.other/lock && ln -s "$PWD/../victim" .git/farmdawn/run.link
+    set -- git farmdawn main main~11 -- sh -c "$command"
+    ls -R ../victim >before
+    expect 'the answer' [ "$(answer_of "$@")" = "$(first_bad main~4)" ]
+    expect 'nothing elsewhere was removed' [ "$(ls -R ../victim)" = "$(cat before)" ]
+    expect 'and the folder that was ours to remove is' [ ! -e .git/farmdawn/run.evil ]
+    rm -r .git/farmdawn/run.*
+    results=$(ls -d .git/farmdawn/results-*)
+    for kept in "$results"/*; do ln -sf "$PWD/../victim/file" "$kept"; done
+    expect 'the same answer' [ "$(answer_of "$@")" = "$(first_bad main~4)" ]
+    expect 'no link was followed' [ "$(cat ../victim/file)" = x ]
+    rm -rf "$results" && ln -s "$PWD/../victim" "$results"
+    "$@" >log 2>told
+    expect 'a link in place of the results is refused' [ $? -eq 14 ]
+    rm -rf .git/farmdawn && ln -s "$PWD/../victim" .git/farmdawn
+    "$@" >log 2>told
+    expect 'and one in place of all' [ $? -eq 14 ]
+    expect 'nothing elsewhere has changed' [ "$(ls -A ../victim | tr '\n' ' ')" = '0 2023-photos file ' ]
+    rm .git/farmdawn
+    nothing_left
+}
+
+# The answer is right with all of this exported, and the shell has nothing to say.
+right_with() {
+    expect "the answer with $*" [ "$(answer_of env "$@" git farmdawn --fresh main main~11 -- sh sub/check.sh)" = "$(first_bad main~4)" ]
+    expect "nothing of a shell's with $*" sh -c '! grep -q "illegal\|not found\|rror" told'
+}
+
+# What is exported leads to no other answer. Each of these is a wrong answer, or a fault, where it is followed.
+needs_environment() { needs_all; }
+test_environment() {
+    make_line 12 7
+    mkdir -p ../path/sub sub && printf 'test ! -e bug\n' >sub/check.sh && printf 'exit 0\n' >../path/sub/check.sh && echo 'exit 0' >../environment || exit 1
+    printf 'sh() { exit 0; }\n' >>../environment
+    git init -q ../other && (cd ../other && git commit -q --allow-empty -m other) || exit 1
+    right_with "CDPATH=$PWD/../path" "ENV=$PWD/../environment" "BASH_ENV=$PWD/../environment" IFS=0123456789abcdef/. POSIXLY_CORRECT=1 \
+        LC_ALL=tr_TR.UTF-8 GREP_OPTIONS=-v GREP_COLORS=x AWKPATH=/nowhere FARMDAWN_QUIET=1
+    right_with GIT_INDEX_FILE=/nowhere GIT_EXTERNAL_DIFF=false GIT_PREFIX=sub/ "GIT_CEILING_DIRECTORIES=$PWD" GIT_OPTIONAL_LOCKS=1 \
+        GIT_LITERAL_PATHSPECS=1 GIT_DIR=.git GIT_TRACE=1 GIT_TRACE2=1 GIT_CONFIG_PARAMETERS="'log.showSignature=true'"
+    right_with "GIT_DIR=$PWD/.git" GIT_GLOB_PATHSPECS=1 GIT_ICASE_PATHSPECS=1 LC_ALL=C.UTF-8
+    right_with farmdawn_run=exit commit=x state=/nowhere results=/nowhere log_dir=/nowhere known=0 status=0 copies=.git bad=x goods=x \
+        death=true here=/nowhere top=/nowhere timeout=1 submodules=1 words=x parent=x newline=x
+    right_with 'BASH_FUNC_git%%=() { exit 0; }' 'BASH_FUNC_read%%=() { read_name=x; }' 'BASH_FUNC_printf%%=() { :; }' \
+        'BASH_FUNC_cd%%=() { :; }' 'BASH_FUNC_sed%%=() { cat; }'
+    # these tell which repository it is, and where its work tree is
+    (cd / && GIT_DIR=$OLDPWD/.git GIT_WORK_TREE=$OLDPWD git farmdawn --fresh main main~11 -- sh -c "$command") >log 2>told
+    expect 'the repository that GIT_DIR names' [ "$(tail -n 1 log)" = "$(first_bad main~4)" ]
     # shellcheck disable=SC2016
-    FARMDAWN=$PWD/../failing git farmdawn --workers 3 main main~11 -- sh -c 'touch "$0"; test ! -e bug' "$PWD/../begun" >log
-    expect 'a search' [ $? -eq 0 ]
-    expect 'the answer' [ "$(tail -n 1 log)" = "$(git rev-parse main~4) is the first bad commit" ]
-    expect 'a look was killed' [ -d ../first ]
+    expect 'the test has its environment' [ "$(answer_of env LC_ALL=C.UTF-8 CC=mine ENV=e git farmdawn --fresh main main~11 -- sh -c '
+        test "$LC_ALL $CC $ENV ${GIT_DIR-none} ${farmdawn_run-none} $(env | grep -c ^POSIXLY_CORRECT=)" = "C.UTF-8 mine e none none 0" || exit 255; test ! -e bug')" = "$(first_bad main~4)" ]
+    # shellcheck disable=SC2016
+    expect 'and no variable that was not set' [ "$(env -u LC_ALL git farmdawn --fresh main main~11 -- sh -c '
+        test -z "${LC_ALL+x}" || exit 255; test ! -e bug' 2>told | tail -n 1)" = "$(first_bad main~4)" ]
+    nothing_left
+}
+
+needs_bash_environment() { needs_all && has bash; }
+test_bash_environment() {
+    make_line 12 7
+    printf 'git() { :; }\nexit 0\n' >../environment
+    # shellcheck disable=SC2016
+    expect 'the answer by bash' [ "$(bash -c '
+        for name in git awk sed cat read printf test unset command cd true rm mkdir export set eval exit trap shift; do
+            eval "$name() { echo mine; }" && export -f $name
+        done 2>/dev/null
+        exec /bin/sh "$0" "$@"' "$top/tools/git-farmdawn" main main~11 -- sh -c "$command" 2>told | tail -n 1)" = "$(first_bad main~4)" ]
+    nothing_left
+}
+
+# A test that leaves its checkout otherwise than it was is told, and the next one has its own commit.
+needs_left_by_tests() { needs_all; }
+test_left_by_tests() {
+    make_line 12 7
+    # what a test leaves in its checkout, and looks for at its beginning
+    # shellcheck disable=SC2016
+    leaves='test "$(git rev-parse HEAD)" = "$FARMDAWN_COMMIT" || exit 255
+        git bisect log >/dev/null 2>&1 && exit 255
+        test -e content || exit 255
+        test ! -e bug; status=$?; eval "$0"; exit $status'
+    # its files, its index and its own configuration are its own to change
+    for way in 'git rm -q -r .' 'rm -rf *' 'rm -rf .git' 'git merge -q -s ours --no-commit main >/dev/null 2>&1'; do
+        expect "the answer where each does $way" [ "$(answer_of git farmdawn --workers 2 main main~11 -- sh -c "$leaves" "$way")" = "$(first_bad main~4)" ]
+    done
+    # a checkout of another commit, commits, a bisect, a rebase and a branch of their own: no verdict is believed
+    for way in 'git checkout -q main~1' 'git commit -q --allow-empty -m own' \
+        'git bisect start -q HEAD HEAD~1 >/dev/null 2>&1; git checkout -q HEAD~1' 'echo x >content; git commit -q -a -m x; git rebase -q --onto HEAD~2 HEAD~1 >/dev/null 2>&1' \
+        'git checkout -q --orphan new'; do
+        git farmdawn --workers 2 main main~11 -- sh -c "$leaves" "$way" >log 2>told
+        expect "no answer where each does $way" [ $? -eq 6 ]
+        expect 'a line that says why' grep -q 'what it told is not believed' told
+        # shellcheck disable=SC2016
+        expect 'the answer once they put it right' [ "$(answer_of git farmdawn --workers 2 main main~11 -- sh -c "$leaves" "(cd / && :)")" = "$(first_bad main~4)" ]
+    done
+    # what changes how every checkout is made stops the search, too
+    git farmdawn --workers 2 main main~11 -- sh -c "$leaves" 'git config core.sparseCheckout true' >log 2>told
+    expect 'no answer where each changes how checkouts are made' [ $? -eq 6 ]
+    expect 'a line that says why' grep -q 'what it told is not believed' told
+    git config --unset-all core.sparseCheckout
+    expect 'the answer once it is as it was' [ "$(answer_of git farmdawn --workers 2 main main~11 -- sh -c "$command")" = "$(first_bad main~4)" ]
+    nothing_left
+}
+
+# Words with blanks and signs are right, or refused before anything is tested.
+needs_odd_words() { needs_all; }
+test_odd_words() {
+    make_line 6 3
+    for term in 'broken p5' '*' "it's" 'a b' 'back\slash' '' '-x' '$(touch ../tested)' 'umläut' '..' 'a..b' '--skip' 'bad' 'start'; do
+        git farmdawn --term-old "$term" main main~5 -- touch ../tested >log 2>told
+        expect "no term: $term" [ $? -eq 1 ]
+        expect 'which is told in a line' [ "$(wc -l <told)" -eq 1 ]
+    done
+    for skip in 'main p2' '*' '--output=../tested' '--all' '' 'main..--output=../tested' '--stdin..main' 'main~1 main~2' '^main' '..none' 'none..'; do
+        git farmdawn --skip "$skip" main main~5 -- touch ../tested >log 2>told
+        expect "no skip: $skip" [ "$(($? == 1 || $? == 8))" -eq 1 ]
+        expect 'which is told in a line' [ "$(wc -l <told)" -eq 1 ]
+    done
+    for limit in '' 0 1x 10m -1 1.5M; do
+        expect "no size: $limit" sh -c '! git farmdawn --log-limit "$1" main main~5 -- touch ../tested 2>told' sh "$limit"
+    done
+    printf 'exit 0\n' >"new
+line"
+    expect 'a path with a line break is refused' sh -c '! git farmdawn main main~5 -- sh "new
+line" 2>told'
+    expect 'nothing was tested' [ ! -e ../tested ]
+    nothing_left
+}
+
+# A repository whose path has a backslash, blanks, a sign of the shell, and a byte that is no UTF-8.
+needs_odd_paths() { needs_all; }
+test_odd_paths() {
+    odd=$(printf "back\\\\slash\\\\tn %% * \344 \"q\" 'r' \$(x) [a] \303\274")
+    mkdir "$odd" && cd "$odd" || exit 1
+    make_line 12 7
+    echo 'test ! -e bug' >"$odd.sh" && mkdir "$odd" && echo 'test ! -e ../bug' >"$odd/in.sh"
+    expect 'the answer' [ "$(answer_of git farmdawn main main~11 -- sh -c "$command")" = "$(first_bad main~4)" ]
+    expect 'by a script of such a name' [ "$(answer_of git farmdawn main main~11 -- sh "$odd.sh")" = "$(first_bad main~4)" ]
+    expect 'by --copy, and --log-dir' [ "$(answer_of git farmdawn --copy "$odd" --log-dir "../$odd" main main~11 -- sh -c 'cd "$0" && sh in.sh' "$odd")" = "$(first_bad main~4)" ]
+    expect 'the outputs are there' [ "$(ls "../$odd" | wc -l)" -ge 4 ]
+    expect 'in such a folder' [ "$(cd "$odd" && answer_of git farmdawn --copy "../$odd" main main~11 -- sh in.sh)" = "$(first_bad main~4)" ]
+    nothing_left
+}
+
+# An output that takes nothing, or is closed: status 13, and one line that says why.
+needs_lost_output() { needs_all && missing=/dev/full && [ -c /dev/full ]; }
+test_lost_output() {
+    make_line 12 7
+    git farmdawn main main~11 -- sh -c "$command" >due 2>told
+    git farmdawn main main~11 -- sh -c "$command" >/dev/full 2>told
+    expect 'a full output' [ $? -eq 13 ]
+    expect 'is told in one line, with the file that has the log' [ "$(sed -n 's/.*the standard output cannot be written; the log is in //p' told | wc -l)" -eq 1 ]
+    expect 'which has it' cmp due "$(sed -n 's/.*; the log is in //p' told)"
+    expect 'and nothing else of it' [ "$(grep -c rror told)" -eq 0 ]
+    git farmdawn --fresh main main~11 -- sh -c "$command" >&- 2>told
+    expect 'a closed output' [ $? -eq 13 ]
+    expect 'before anything is tested' [ "$(cat told)" = 'git farmdawn: the standard output is closed; nothing was tested' ]
+    for bytes in 1 100 700; do
+        { git farmdawn main main~11 -- sh -c "$command" 2>told; echo $? >status; } | head -c $bytes >got
+        case $(cat status) in 13) ;; *) expect 'all fitted into the pipe' [ "$(cat status)" = 0 ] ;; esac
+    done
+    { (trap '' PIPE && sleep 1 && git farmdawn main main~11 -- sh -c "$command" 2>told); echo $? >status; } | true
+    expect 'a reader that went away' [ "$(cat status)" = 13 ]
+    git farmdawn main main~11 -- sh -c "$command" 2>&- >log
+    expect 'without a standard error' cmp log due
+    git farmdawn main main~11 -- sh -c "$command" 2>/dev/full >log
+    expect 'or with a full one' cmp log due
+    git farmdawn main main~11 -- sh -c "$command" <&- 2>told >log
+    expect 'without an input' cmp log due
+    nothing_left
+}
+
+# A disk that is full: that of all, or of the outputs alone; in the middle, and at the start. No verdict comes of it, one line
+# says which, and the same line goes on when there is room.
+needs_full_disk() { needs_all && has unshare mount && missing='a user who may mount' && unshare -m mount -t tmpfs none /mnt; }
+test_full_disk() {
+    for way in all outputs; do
+        mkdir $way
+        unshare -m sh -c '. "${0%/*}/helpers.sh" && trap "" EXIT && farmdawn=$1 && cd "$2" && full_disk $3' "$top/tests/sh" "$farmdawn" "$PWD/$way" $way || exit 1
+    done
+}
+
+# Many skips are known to the program from the start: as words, or as a log where they are more than fit.
+needs_many_skips() { needs_all; }
+test_many_skips() {
+    git init -q -b main repository && cd repository || exit 1
+    awk 'BEGIN { for (i = 1; i <= 7000; i++) {
+        printf "commit refs/heads/main\ncommitter gen <gen> %d +0000\ndata 2\nc\n", i
+        if (i == 6900) print "M 100644 inline bug\ndata 0\n" } }' | git fast-import --quiet && git reset -q --hard || exit 1
+    for range in main~1000..main~20 main~6500..main~200; do
+        for terms in '' '--term-new fixed --term-old broken'; do
+            # shellcheck disable=SC2086
+            git farmdawn $terms --workers 2 --skip $range main main~6900 -- sh -c "$command" >log 2>told
+            expect 'each is in the log once' [ "$(sed -n 's/^git bisect skip //p' log | sort -u | wc -l)" -eq "$(git rev-list --count $range)" ]
+            expect 'and was tested never' [ "$(grep -c ': testing' told)" -lt 16 ]
+            bisected="$(git bisect start ${terms:+--term-new fixed --term-old broken} main main~6900 && git bisect skip "$range" && git bisect run sh -c "$command")"
+            git bisect reset >/dev/null 2>&1
+            expect 'the commits that git is left with' [ "$(printf '%s\n' "$bisected" | grep -xE '[0-9a-f]{40}' | sort)" = "$(grep -xE '[0-9a-f]{40}' log | sort)" ]
+            git bisect replay log >/dev/null 2>&1
+            expect 'git bisect replay takes the log' [ "$(($? == 0 || $? == 2))" -eq 1 ]
+            git bisect reset >/dev/null 2>&1
+        done
+    done
+    nothing_left
+}
+
+# However many tests there are, the program is run as often: for the names, the tests, and the answer.
+needs_few_programs() { needs_all; }
+test_few_programs() {
+    make_line 40 30
+    printf '#!/bin/sh\necho "$1" >>"%s"\nexec "%s" "$@"\n' "$PWD/../runs" "$farmdawn" >../counting && chmod +x ../counting
+    for ends in 'main main~2' 'main main~39'; do
+        # shellcheck disable=SC2086
+        FARMDAWN=$PWD/../counting git farmdawn --fresh --workers 8 $ends -- sh -c "$command" >log 2>told
+        expect 'three runs of the program' [ "$(tr '\n' ' ' <../runs)" = 'replay run run ' ]
+        rm ../runs
+    done
+}
+
+# Where a test stops the search, the end of its output is told.
+needs_stops() { needs_all; }
+test_stops() {
+    make_line 8 4
+    git farmdawn --workers 1 main main~7 -- sh -c 'for line in 1 2 3 4 5 6 7 8 9 10 11; do echo "line $line"; done; exit 255' >log 2>told
+    expect 'the search stops' [ $? -eq 6 ]
+    stopper=$(sed -n 's/^bisect aborted: exit 255 on //p' log)
+    expect 'the file of the output' grep -q "$stopper stopped the search; the last lines of $PWD/.git/farmdawn/results-.*/$stopper.log:" told
+    expect 'its ten last lines' [ "$(grep -c '^    line ' told)" -eq 10 ]
+    git farmdawn --workers 1 main main~7 -- nowhere-to-be-found >log 2>told
+    expect 'a command that is not there' grep -q '^    .*nowhere-to-be-found' told
+    git init -q -b main ../inner && (cd ../inner && git commit -q --allow-empty -m inner) && cd . &&
+        git -c protocol.file.allow=always submodule add -q "$PWD/../inner" inner && git commit -q -m inner &&
+        git commit -q --allow-empty -m last && git commit -q --allow-empty -m last || exit 1
+    rm -rf ../inner
+    git farmdawn --submodules --workers 1 main main~3 -- true >log 2>told
+    expect 'a commit that cannot be checked out' [ $? -eq 6 ]
+    expect 'with the reason' grep -q "^    .*inner" told
+    nothing_left
+}
+
+# Where all tests are skipped, or take too long, a line says that something may be wrong; and one tells of a long test.
+needs_warnings() { needs_all && has timeout; }
+test_warnings() {
+    make_line 30 4
+    git farmdawn --workers 2 main main~29 -- sh -c 'exit 125' >log 2>told
+    expect 'ten skips are told once' [ "$(grep -c 'ten tests one after the other were skipped' told)" -eq 1 ]
+    git farmdawn --workers 2 main main~29 -- sh -c '[ $(($(cat content) % 5)) = 0 ] || exit 125; test ! -e bug' >log 2>told
+    expect 'a good one between them is right' [ "$(grep -c 'ten tests' told)" -eq 0 ]
+    FARMDAWN_WATCH=1 git farmdawn --timeout 2 --workers 4 main main~5 -- sleep 30 >log 2>told
+    expect 'tests that all take too long are told once' [ "$(grep -c 'each test so far took longer than 2 s' told)" -eq 1 ]
+    expect 'and how long one runs' grep -q 'git farmdawn: [0-9a-f]\{12\} runs since 1 s$' told
+    nothing_left
+}
+
+# A test that hangs is not waited for where the answer is known without it.
+needs_hanging() { needs_all && has pgrep; }
+test_hanging() {
+    make_line 12 7
+    expect 'the answer' [ "$(answer_of git farmdawn --workers 8 main main~11 -- sh -c "[ \$(cat content) != 10 ] || $long_sleep; $command")" = "$(first_bad main~4)" ]
+    expect 'a test hung' grep -q "testing $(git rev-parse main~1 | cut -c1-12)" told
+    nothing_left
+    nothing_sleeps
+}
+
+# The output that is kept has a limit.
+needs_log_limit() { needs_all; }
+test_log_limit() {
+    make_line 8 4
+    git farmdawn --workers 1 --log-limit 10k --log-dir ../logs main main~7 -- sh -c 'echo begin; head -c 50000 /dev/zero | tr "\0" x; echo end; test ! -e bug' >log 2>told
+    expect 'the answer' [ "$(tail -n 1 log)" = "$(first_bad main~3)" ]
+    for kept in ../logs/*.log; do
+        expect 'not much more is kept' [ "$(wc -c <"$kept")" -lt 10200 ]
+        expect 'of the begin and the end' [ "$(head -n 1 "$kept") $(tail -n 1 "$kept" | tail -c 4)" = 'begin end' ]
+        expect 'with a line of what is not' grep -qx 'git farmdawn: 40010 bytes are cut out here (--log-limit)' "$kept"
+    done
+    git farmdawn --workers 1 main main~7 -- sh -c 'head -c 50000 /dev/zero; test ! -e bug' >log 2>told
+    expect 'without it all of that' [ "$(find .git/farmdawn -name '*.log' -size +48 | wc -l)" -ge 3 ]
+}
+
+# --prune removes what is kept, but for that of a search that runs.
+needs_prune() { needs_all; }
+test_prune() {
+    make_line 8 4
+    mkdir -p .git/farmdawn/run.elsewhere victim && ln -s "$PWD/victim" .git/farmdawn/results-victim && touch victim/lock || exit 1
+    git farmdawn main main~7 -- sh -c "$command" >log 2>told
+    # shellcheck disable=SC2016
+    git farmdawn main main~7 -- sh -c 'touch "$0/began"; while [ -e "$0" ] && [ ! -e "$0/on" ]; do sleep 0.1; done; test ! -e bug' "$PWD/.." >log 2>told &
+    until [ -e ../began ]; do expect 'the search goes on' kill -0 $! && sleep 0.1; done
+    expect 'one is removed' [ "$(git farmdawn --prune 2>&1)" = 'git farmdawn: removed what 1 searches had kept' ]
+    expect 'the other is not' [ "$(find .git/farmdawn -name 'results-*' -type d | wc -l)" -eq 1 ]
+    touch ../on
+    wait $!
+    expect 'and has its answer' [ "$(tail -n 1 log)" = "$(first_bad main~3)" ]
+    git farmdawn --prune 2>/dev/null
+    expect 'then it is' [ "$(ls .git/farmdawn)" = 'results-victim
+run.elsewhere' ]
+    expect 'nothing elsewhere is' [ -e victim/lock ]
+    rm -r .git/farmdawn/run.elsewhere
+    nothing_left
+}
+
+# What is needed and not here is named at once.
+needs_tools() { needs_all; }
+test_tools() {
+    make_line 4 2
+    mkdir ../bin
+    for tool in $(printf '%s\n' "$PATH" | tr ':' '\n' | while read -r folder; do ls "$folder" 2>/dev/null; done | sort -u); do
+        found=$(command -v "$tool") && case $found in /*) ln -s "$found" "../bin/$tool" ;; *) ln -s "$(PATH=/usr/bin:/bin command -v "$tool" | grep ^/ || echo /usr/bin/"$tool")" "../bin/$tool" ;; esac
+    done 2>/dev/null
+    PATH=$PWD/../bin
+    expect 'all is here' [ "$(answer_of git farmdawn main main~3 -- sh -c "$command")" = "$(first_bad main~1)" ]
+    for tool in flock setsid sha256sum mkfifo; do
+        mv ../bin/$tool ../aside
+        git farmdawn --fresh main main~3 -- touch ../tested >log 2>told
+        expect "it is named: $tool" [ "$? $(cut -d '(' -f 1 told)" = "1 git farmdawn: $tool is not installed " ]
+        mv ../aside ../bin/$tool
+    done
+    mv ../bin/git ../aside && printf '#!/bin/sh\n[ "$1" != version ] || { echo git version 2.30.9; exit; }\nexec "%s" "$@"\n' "$(readlink ../aside)" >../bin/git && chmod +x ../bin/git
+    "$top/tools/git-farmdawn" main main~3 -- touch ../tested >log 2>told
+    expect 'an old git is named' [ "$? $(cat told)" = '1 git farmdawn: git from 2.31 on is needed, and this is git version 2.30.9' ]
+    expect 'nothing was tested' [ ! -e ../tested ]
     nothing_left
 }
 
@@ -361,7 +770,9 @@ test_interrupts() {
     nothing_sleeps
 }
 
-by_clock=logs_and_limits
+by_clock='logs_and_limits lost_follower warnings'
 [ $# -gt 0 ] || set -- line merges unrelated_good terms encodings signed signed_by_gpg sha256 shallow part_of_many submodules \
-    places words folders_and_scripts logs_and_limits lost_looks lost_log wrong_words going_on dead_runs check_ends interrupts
+    places words folders_and_scripts tracked_files links_of_commits torn_outcomes foreign_folders environment bash_environment \
+    left_by_tests odd_words odd_paths lost_output full_disk many_skips few_programs stops warnings hanging log_limit prune tools \
+    logs_and_limits lost_follower lost_log wrong_words going_on dead_runs check_ends interrupts
 run_tests "$@"

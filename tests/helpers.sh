@@ -12,6 +12,8 @@ export GIT_CONFIG_GLOBAL=/dev/null GIT_CONFIG_SYSTEM=/dev/null GIT_CONFIG_NOSYST
 
 work=$(mktemp -d) || exit 1
 trap 'rm -rf "$work"' EXIT
+# farmdawn takes only words that are UTF-8, its own name with them
+if [ -x "$farmdawn" ] && ! "$farmdawn" --version >/dev/null 2>&1; then ln -s "$farmdawn" "$work/farmdawn" && farmdawn=$work/farmdawn; fi
 passed=0 failed=0 skipped=0 again=0
 long_sleep="sleep 77.$$s" # of this run alone: other checkouts may be tested beside it
 
@@ -119,4 +121,31 @@ nothing_sleeps() { expect 'no test runs on' [ -z "$(pgrep -f "$long_sleep")" ]; 
 nothing_left() {
     expect 'one worktree' [ "$(git worktree list | wc -l)" -eq 1 ]
     expect 'no folder of a run' [ -z "$(ls -d .git/farmdawn/run.* 2>/dev/null)" ]
+}
+
+# A search in a repository on a small disk, or with its outputs there: each test prints 2 MB, and fails where it cannot.
+full_disk() {
+    export FARMDAWN="$farmdawn"
+    full=$PWD/full aside=$PWD
+    mkdir full && mount -t tmpfs -o size=4m none full || exit 1
+    if [ "$1" = all ]; then cd full || exit 1; else log_dir="--log-dir $full"; fi
+    make_line 12 7
+    # shellcheck disable=SC2086
+    set -- git farmdawn --workers 2 ${log_dir-} main main~11 -- sh -c 'head -c 2000000 /dev/zero || exit 1; test ! -e bug'
+    "$@" >"$aside/log" 2>"$aside/told"
+    expect 'a full disk is no verdict' [ $? -eq 14 ]
+    expect 'one line says which' [ "$(grep -c 'no room in' "$aside/told")" -eq 1 ]
+    expect 'and no other of it' sh -c '! grep -q "rror\|annot\|awk" "$0"' "$aside/told"
+    expect 'the log so far' grep -q '^git bisect start' "$aside/log"
+    expect 'without an answer' sh -c '! grep -q "is the first" "$0"' "$aside/log"
+    nothing_left
+    find "$full" -name '*.log' -exec rm {} +
+    head -c 5000000 /dev/zero >"$full/fill" 2>/dev/null
+    "$@" >"$aside/log" 2>"$aside/told"
+    expect 'nor is one at the start' [ $? -eq 14 ]
+    expect 'told in one line' [ "$(grep -vc ': stopped' "$aside/told")" -eq 1 ]
+    rm "$full/fill" && mount -o remount,size=60m "$full" || exit 1
+    "$@" >"$aside/log" 2>"$aside/told"
+    expect 'the same line has the answer' [ "$(tail -n 1 "$aside/log")" = "$(git rev-parse main~4) is the first bad commit" ]
+    nothing_left
 }

@@ -43,7 +43,7 @@ TEXTS = {
     7: rb"stream refused at line \d+: (syntax|unsupported|truncated|no done|bad from|bad mark|bad path)\n",
     8: rb"name refused at word \d+: (unknown|ambiguous \d+|no parent|bad form)\n",
     9: rb"too large: (line|data|stream|commits|entries|log)\n", 10: rb"log refused at line \d+\n", 14: rb"file fault\n",
-    16: rb"no such file\n", 17: rb"waiting for .*\n",
+    16: rb"no such file\n", 17: rb"waiting for .*\n", 20: rb"certificate fails at line \d+\n",
 }
 
 # ---- numbers at the edges
@@ -222,6 +222,8 @@ def search_words(choice, log):
             words = option + words
     if verb == b"simulate":
         words.append(plan(choice))
+        if choice.random() < 0.15:
+            return [b"certify", verb] + words
     return [verb] + words
 
 
@@ -237,6 +239,8 @@ def hostile_words(choice, words):
         return words[:at] + [choice.choice(EDGES)] + words[at + 1:]
     if kind == 3:
         return words[:at] + [words[at]] + words[at:]
+    if choice.random() < 0.3:
+        return [choice.choice([b"check", b"certify"]), choice.choice([b"log", b"none", b"simulate", b""]), *words[:choice.choice([0, 0, 1])]]
     return [choice.choice([b"gen", b"sample", b"replay", b"next", b"x", b""]), choice.choice(EDGES), choice.choice([b"1", b"2", b"50"] + EDGES[:6])]
 
 

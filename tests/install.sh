@@ -3,11 +3,12 @@
 . "$(dirname "$0")/helpers.sh"
 
 scripts='git-farmdawn farmdawn-worktree farmdawn-srun farmdawn-ssh'
+parts=farmdawn-part
 
 needs_files() { has make install; }
 test_files() {
     expect 'make install-scripts' make -s -C "$top" install-scripts DESTDIR="$PWD/root" PREFIX=/usr
-    for script in $scripts; do
+    for script in $scripts $parts; do
         expect 'the script is installed' cmp "root/usr/bin/$script" "$top/tools/$script"
         expect 'and can be run' [ -x "root/usr/bin/$script" ]
     done
@@ -83,18 +84,26 @@ test_fish() {
     git branch topic
     expect 'fish reads the completion' fish -n "$top/completions/farmdawn.fish"
     # shellcheck disable=SC2016
-    expect 'and offers commands' sh -c 'fish -N -c ". $1; complete -C \"farmdawn sim\"" | grep -q ^simulate' sh "$top/completions/farmdawn.fish"
+    expect 'and offers commands' sh -c 'fish -N -c ". \$argv[1]; complete -C \"farmdawn sim\"" "$1" | grep -q ^simulate' sh "$top/completions/farmdawn.fish"
     # shellcheck disable=SC2016
     words=$(fish -N -c '. $argv[1]; complete -C "git-farmdawn --"' "$top/completions/git-farmdawn.fish" | cut -f1)
     expect 'the options of git farmdawn' [ "$(sorted_words "$words")" = "$(options_of git-farmdawn)" ]
     # shellcheck disable=SC2016
-    expect 'and branches' sh -c 'fish -N -c ". $1; complete -C \"farmdawn run to\"" | grep -q ^topic' sh "$top/completions/farmdawn.fish"
+    expect 'and branches' sh -c 'fish -N -c ". \$argv[1]; complete -C \"farmdawn run to\"" "$1" | grep -q ^topic' sh "$top/completions/farmdawn.fish"
 }
 
 needs_lint() { has shellcheck; }
 test_lint() {
     for script in $scripts; do expect 'shellcheck' shellcheck -S warning "$top/tools/$script"; done
+    for script in git-farmdawn $parts; do expect 'all of shellcheck but what is named' shellcheck -o all "$top/tools/$script"; done
 }
 
-[ $# -gt 0 ] || set -- files help manual bash zsh fish lint
+# All of shellcheck but what a script names, with a reason. The name of the folder may have any bytes.
+needs_lint_all() { has shellcheck; }
+test_lint_all() {
+    cd "$top/tools" || exit 1
+    for script in farmdawn-*; do expect 'shellcheck' shellcheck -o all "$script"; done
+}
+
+[ $# -gt 0 ] || set -- files help manual bash zsh fish lint lint_all
 run_tests "$@"

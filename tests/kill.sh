@@ -149,6 +149,28 @@ test_slow_input() {
     done
 }
 
+# Where the system can, the tests of git farmdawn end with it, however it ends; and it ends with `git`.
+needs_script_killed() { needs_all && has flock setsid && missing='setpriv --pdeathsig' && setpriv --pdeathsig TERM true; }
+test_script_killed() {
+    export FARMDAWN="$farmdawn"
+    make_line 40 20
+    for tool in git-farmdawn 'git farmdawn'; do
+        $tool --workers 4 main main~39 -- sh -c "$long_sleep" >log 2>told &
+        until [ "$(pgrep -f "$long_sleep" | wc -l)" -ge 4 ]; do expect 'the search goes on' kill -0 $! && sleep 0.1; done
+        kill -KILL $!
+        wait $!
+        turns=0
+        while [ -n "$(pgrep -f "$long_sleep")" ] || ! flock -n .git/farmdawn/run.*/lock true 2>/dev/null && [ -e .git/farmdawn/run.*/lock ]; do
+            turns=$((turns + 1))
+            [ $turns -lt 100 ] || expect "the tests of $tool end with it" false
+            sleep 0.1
+        done
+        expect 'the next search is right' [ "$(git farmdawn main main~39 -- test ! -e bug 2>told | tail -n 1)" = "$(git rev-parse main~19) is the first bad commit" ]
+        nothing_left
+    done
+    nothing_sleeps
+}
+
 by_clock='kill term pipe full slow_input'
-[ $# -gt 0 ] || set -- kill term pipe full input slow_input
+[ $# -gt 0 ] || set -- kill term pipe full input slow_input script_killed
 run_tests "$@"

@@ -80,12 +80,12 @@ write_merge() {
 refuse_each() {
     "$farmdawn" "$@" <stream >due
     wanted=$?
-    COUNTED=$PWD/counted LD_PRELOAD=$PWD/refusing.so "$farmdawn" "$@" <stream >got
+    COUNTED=$PWD/counted LD_PRELOAD=./refusing.so "$farmdawn" "$@" <stream >got
     expect 'the answer with ample memory' [ $? -eq $wanted ]
     most=$(od -An -tu4 counted | tr -d ' ') number=1 ran_out=0
     expect 'memory was taken' [ "$most" -gt 20 ]
     while [ $number -le "$most" ]; do
-        REFUSED=$number LD_PRELOAD=$PWD/refusing.so "$farmdawn" "$@" <stream >got 2>told
+        REFUSED=$number LD_PRELOAD=./refusing.so "$farmdawn" "$@" <stream >got 2>told
         status=$?
         case $status in
         15) ran_out=$((ran_out + 1)) ;;

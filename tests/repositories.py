@@ -1,10 +1,12 @@
 #!/usr/bin/env python3
 """Random repositories: git farmdawn beside a search of the whole history, and beside git bisect run.
 
-Usage: tests/repositories.py [--seed S] [--count N] [--from N] [--jobs N] [--keep DIR]
+Usage: tests/repositories.py [--seed S] [--count N] [--from N] [--jobs N] [--keep DIR] [--files]
 
 Each repository has up to 22 commits: merges that cross, roots that nothing joins, dates that rise or do not; each commit
-has the status of its test in a file. The ends, skips and options are random, too.
+has the status of its test in a file. The ends, skips and options are random, too, and so is the test: it reads that file,
+or it asks whether a file is there that git tracks (`test -e`, `grep`, `make`), which every test does with --files. The work
+tree stands at any of the commits.
 
 whole: `farmdawn simulate` over the whole history of the ends. Its marks, status and answer must be those of git farmdawn,
 which searches a part of it; skips that were given are left out, as the part may lack them, and so is the order of the
@@ -32,7 +34,9 @@ TOP = os.path.dirname(os.path.dirname(os.path.abspath(__file__)))
 FARMDAWN = os.environ.get("FARMDAWN", os.path.join(TOP, "crates/farmdawn/out/farmdawn"))
 CALM = {**os.environ, "GIT_CONFIG_GLOBAL": "/dev/null", "GIT_CONFIG_SYSTEM": "/dev/null", "GIT_CONFIG_NOSYSTEM": "1", "LC_ALL": "C",
         "FARMDAWN": FARMDAWN, "PATH": os.path.join(TOP, "tools") + os.pathsep + os.environ["PATH"]}
-TEST = ["sh", "-c", "exit $(cat verdict)"]
+# The tests by what they look at. All but the first are good or bad alone.
+TESTS = {"verdict": ["sh", "-c", "exit $(cat verdict)"], "absent": ["test", "!", "-e", "bug"], "present": ["test", "-e", "fine"],
+         "grep": ["grep", "-q", "fine", "words"], "make": ["make", "-s", "made"]}
 LETTERS = {0: "g", 1: "b", 125: "s", 128: "a"}
 
 
@@ -48,7 +52,7 @@ def git(folder, *words):
 
 # ---- a random repository, and a question over it
 
-Question = collections.namedtuple("Question", "bad goods skips options terms plain")
+Question = collections.namedtuple("Question", "bad goods skips options terms plain test")
 
 
 def random_parents(choice, count):
@@ -77,10 +81,25 @@ def verdicts(choice, parents):
     return [1 if number in after else 0 if plain or choice.random() < 0.7 else choice.choice(wild) for number in range(len(parents))], plain
 
 
-def make_repository(choice, folder):
+def put_file(path, text):
+    return f"M 100644 inline {path}\ndata {len(text)}\n{text}\n"
+
+
+def test_files(choice, status):
+    """What a commit has for each of the tests. A file that lacks is removed, as a parent may have it."""
+    return "".join([
+        put_file("verdict", f"{status}\n"), put_file("Makefile", "made:\n\texit 1\n"),
+        put_file("bug", "bug\n") if status else "D bug\n", "D fine\n" if status else put_file("fine", "fine\n"),
+        choice.choice(["D words\n", put_file("words", "bad\n")]) if status else put_file("words", "fine\n"),
+        "D made\n" if status else put_file("made", "made\n")])
+
+
+def make_repository(choice, folder, test):
     """A repository with a ref c0, c1, .. on each commit; the commits' names, the verdicts, and whether these are plain."""
     parents = random_parents(choice, choice.randrange(3, 23))
     statuses, plain = verdicts(choice, parents)
+    if test != "verdict":
+        statuses = [min(status, 1) for status in statuses]
     rising = choice.random() < 0.5
     text = []
     for number, named in enumerate(parents):
@@ -88,15 +107,14 @@ def make_repository(choice, folder):
         text.append(f"reset refs/heads/c{number}\n\ncommit refs/heads/c{number}\nmark :{number + 1}\ncommitter gen <gen@gen> {date} +0000\n"
                     f"data <<END\nchange {number}\nEND\n")
         text += [f"{'merge' if index else 'from'} :{parent + 1}\n" for index, parent in enumerate(named)]
-        status = f"{statuses[number]}\n"
-        text.append(f"M 100644 inline verdict\ndata {len(status)}\n{status}\nM 100644 inline number\ndata <<END\n{number}\nEND\n\n")
+        text.append(test_files(choice, statuses[number]) + put_file("number", f"{number}\n") + "\n")
     call(".", "git", "init", "-q", "-b", "main", folder)
     call(folder, "git", "fast-import", "--quiet", stdin="".join(text).encode())
-    call(folder, "git", "checkout", "-q", "c0")
+    call(folder, "git", "checkout", "-q", f"c{choice.randrange(len(parents))}")
     return git(folder, "rev-parse", *(f"c{number}" for number in range(len(parents)))), statuses, plain
 
 
-def random_question(choice, names, plain):
+def random_question(choice, names, plain, test):
     """A question over commits with these names."""
     count = len(names)
     bad = names[choice.randrange(count // 2, count)]
@@ -109,7 +127,7 @@ def random_question(choice, names, plain):
     terms = ("fixed", "broken") if choice.random() < 0.15 else ("bad", "good")
     if terms[0] == "fixed":
         options += ["--term-new", "fixed", "--term-old", "broken"]
-    return Question(bad, goods, skips, options, terms, plain and not skips)
+    return Question(bad, goods, skips, options, terms, plain and not skips, TESTS[test])
 
 
 # ---- what the three say
@@ -141,7 +159,7 @@ def read_answer(text):
 
 def by_tool(folder, question):
     words = [word for skip in question.skips for word in ("--skip", skip)]
-    status, text = call(folder, "git", "farmdawn", "--fresh", "--workers", "2", *question.options, *words, question.bad, *question.goods, "--", *TEST)
+    status, text = call(folder, "git", "farmdawn", "--fresh", "--workers", "2", *question.options, *words, question.bad, *question.goods, "--", *question.test)
     return Said(status, read_answer(text), read_log(text, question.terms))
 
 
@@ -183,7 +201,7 @@ def by_git(folder, question):
         text += more
     for _ in range(20):
         if status == 0 and not read_answer(text):
-            status, more = call(folder, "git", "bisect", "run", *TEST)
+            status, more = call(folder, "git", "bisect", "run", *question.test)
             text += more
     log = call(folder, "git", "bisect", "log")[1]
     call(folder, "git", "bisect", "reset")
@@ -262,8 +280,9 @@ def try_one(number, arguments):
     work = tempfile.mkdtemp()
     folder = os.path.join(work, "repository")
     try:
-        names, statuses, plain = make_repository(choice, folder)
-        question = random_question(choice, names, plain)
+        test = choice.choice(list(TESTS)[1:] if arguments.files or choice.random() < 0.5 else ["verdict"])
+        names, statuses, plain = make_repository(choice, folder, test)
+        question = random_question(choice, names, plain, test)
         tool, whole, theirs = by_tool(folder, question), by_whole(folder, question, dict(zip(names, statuses))), by_git(folder, question)
         same = same_search(folder, question, tool, whole)
         beside = against_git(folder, question, tool, theirs)
@@ -280,6 +299,7 @@ def main():
     for option, default in (("--seed", 1), ("--count", 50), ("--from", 0), ("--jobs", 1)):
         parser.add_argument(option, type=int, default=default, dest=option.strip("-").replace("from", "first"))
     parser.add_argument("--keep")
+    parser.add_argument("--files", action="store_true")
     arguments = parser.parse_args()
     wholes, gits, statuses, wrong = collections.Counter(), collections.Counter(), collections.Counter(), 0
     with ThreadPoolExecutor(arguments.jobs) as pool:

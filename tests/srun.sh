@@ -85,6 +85,119 @@ test_a_lost_node() {
     expect 'each verdict is right' [ ! -e wrong ]
 }
 
-by_clock=interrupts
-[ $# -gt 0 ] || set -- words verdicts lost_tests interrupts many a_lost_node
+# A stand-in for srun that runs the test here, or says what the file TOLD has as what the node told.
+stand_in() {
+    mkdir bin tmp
+    cat >bin/srun <<'END'
+#!/bin/sh
+if [ -n "${TOLD-}" ]; then
+    token=$(printf '%s\n' "$*" | grep -o 'farmdawn-status-[A-Za-z0-9]*' | head -n 1)
+    sed "s/TOKEN/$token/" <"$TOLD"
+    exit 0
+fi
+printf '%s|' "$@" >words
+while [ "$1" != sh ]; do shift; done
+exec "$@"
+END
+    chmod +x bin/srun
+    PATH=$PWD/bin:$PATH
+    export TMPDIR="$PWD/tmp"
+}
+
+# A status is one whole line; whatever else came is a lost test.
+needs_answers() { has grep; }
+test_answers() {
+    stand_in
+    while IFS= read -r told; do
+        printf '%b' "$told" >told
+        TOLD=$PWD/told farmdawn-srun --tries 1 -- true name 2>err
+        expect "no verdict of what was told: $told" [ $? -eq 255 ]
+        expect 'which is told' grep -q 'was lost 1 times' err
+    done <<'END'
+
+TOKEN 0
+TOKEN 0 ended
+TOKEN 7 ended\nTOKEN 7 ended\n
+TOKEN 7\nTOKEN 7\n
+TOKEN  ended\n
+TOKEN 1x ended\n
+TOKEN 256 ended\n
+TOKEN 256\n
+0: TOKEN 0 ended\n
+END
+    printf 'hello\nTOKEN 9 ended\n' >told
+    TOLD=$PWD/told farmdawn-srun --tries 1 -- true name
+    expect 'a whole line is a verdict' [ $? -eq 9 ]
+    expect 'nothing is left' [ -z "$(ls tmp)" ]
+}
+
+needs_environment() { :; }
+test_environment() {
+    stand_in
+    echo 'exit 3' >startup
+    mkdir -p elsewhere/here here
+    for setting in "ENV=$PWD/startup" "BASH_ENV=$PWD/startup" IFS=7 POSIXLY_CORRECT=1 LC_ALL=C.UTF-8 "CDPATH=$PWD/elsewhere" "FARMDAWN_PARENT=1 1"; do
+        # shellcheck disable=SC2016
+        env "$setting" farmdawn-srun --tries 1 -- sh -c 'cd here && [ "$PWD" = "$1/here" ] && exit 77' sh "$PWD" name
+        expect "$setting" [ $? -eq 77 ]
+    done
+    for variable in status tries verdict me token answer limit options folder; do
+        # shellcheck disable=SC2016
+        env "$variable=it's
+mine " farmdawn-srun --tries 1 -- sh -c 'eval "[ \"\$$1\" = \"$2\" ]" && exit 77' sh "$variable" "it's
+mine " name
+        expect "the user's own $variable" [ $? -eq 77 ]
+    done
+    farmdawn-srun --comment='a * b' -- true name
+    expect 'an option with blanks and a star' grep -q '|--comment=a \* b|' words
+    for option in '' 'a
+b'; do
+        farmdawn-srun "$option" -- true name 2>err
+        expect 'an option that cannot be handed on is refused' [ "$? $(grep -c 'an option of srun is one line' err)" = '255 1' ]
+    done
+}
+
+# A function that bash exports under the name of a command is none of ours.
+needs_functions() { has bash timeout; }
+test_functions() {
+    stand_in
+    { echo "#!$(command -v bash)" && sed 1d "$top/tools/farmdawn-srun"; } >bin/farmdawn-srun
+    chmod +x bin/farmdawn-srun
+    # shellcheck disable=SC2016
+    timeout 20 bash -c 'for name in kill printf read mktemp sleep test cd rm wait true exit set unset trap eval exec export; do
+            eval "$name() { return 3; }"; export -f "$name"
+        done; builtin exec bin/farmdawn-srun --tries 1 -- sh -c "exit 77" name' 2>err
+    expect 'the verdict' [ $? -eq 77 ]
+}
+
+needs_missing() { has ln; }
+test_missing() {
+    mkdir bin
+    for tool in cat env mktemp rm sh sleep; do ln -s "$(command -v $tool)" bin/$tool; done
+    PATH=$PWD/bin "$top/tools/farmdawn-srun" -- true name 2>err
+    expect 'no verdict without srun' [ "$? $(cat err)" = "255 $(grep 'srun is not installed' err)" ]
+}
+
+# Several tasks are several tests, of which none is the commit's verdict.
+needs_tasks() { has_slurm; }
+test_tasks() {
+    expect 'no verdict of two tasks' [ "$(status_of -n2 -- sh -c 'exit 7' name)" = 255 ]
+    expect 'nor of marked lines' [ "$(SLURM_LABELIO=1 status_of -- sh -c 'exit 7' name)" = 255 ]
+}
+
+# Where what started the script is killed, its job ends.
+needs_parents() { has_slurm && has squeue pgrep setpriv; }
+test_parents() {
+    job=farmdawn-test-$$
+    sh -c "farmdawn-srun --job-name=$job -- sh -c 'touch began; $long_sleep' name & wait" &
+    until [ -e began ]; do expect 'the test runs' kill -0 $! && sleep 0.1; done
+    kill -KILL $!
+    wait $! 2>/dev/null
+    turns=0
+    while [ -n "$(pgrep -f "$long_sleep")" ] && [ $turns -lt 90 ]; do turns=$((turns + 1)) && sleep 0.1; done
+    nothing_sleeps
+}
+
+by_clock='interrupts parents'
+[ $# -gt 0 ] || set -- words answers environment functions missing verdicts tasks lost_tests interrupts many parents a_lost_node
 run_tests "$@"

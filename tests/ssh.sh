@@ -5,7 +5,9 @@
 has_ssh() {
     has ssh ssh-keygen flock || return 1
     missing=sshd
-    [ -x "$(command -v sshd || echo /usr/sbin/sshd)" ]
+    [ -x "$(command -v sshd || echo /usr/sbin/sshd)" ] || return 1
+    missing='a login shell of this user'
+    case $(getent passwd "$(id -u)") in */nologin | */false) return 1 ;; esac
 }
 
 port=$((20000 + $$ % 20000))
@@ -19,20 +21,23 @@ hold_folder() {
 }
 
 stop_server() {
-    kill "$(cat server.pid)" 2>/dev/null
+    kill "$(cat "$server/pid")" 2>/dev/null
+    rm -r "$server"
     if flock -n 6 && rm /run/sshd/of-a-test; then rmdir /run/sshd; fi 2>/dev/null
 }
 
-# A server with a key of its own, that takes so many connections at once while they begin.
+# A server with a key of its own, that takes so many connections at once while they begin. Its files have a folder whose
+# name a configuration can have without quotes.
 start_server() {
     umask 077
-    ssh-keygen -q -t ed25519 -N '' -f host && ssh-keygen -q -t ed25519 -N '' -f user || exit 1
+    server=$(TMPDIR=/tmp mktemp -d) || exit 1
+    ssh-keygen -q -t ed25519 -N '' -f "$server/host" && ssh-keygen -q -t ed25519 -N '' -f "$server/user" || exit 1
     trap stop_server EXIT
     [ "$(id -u)" -ne 0 ] || hold_folder
-    printf '%s\n' "Port $port" 'ListenAddress 127.0.0.1' "HostKey $PWD/host" "AuthorizedKeysFile $PWD/user.pub" 'StrictModes no' \
-        "PidFile $PWD/server.pid" 'UsePAM no' "MaxStartups ${1:-100}" >config
-    "$(command -v sshd || echo /usr/sbin/sshd)" -f "$PWD/config" 6<&- || exit 1
-    ssh_options="-p$port -i$PWD/user -oStrictHostKeyChecking=no -oUserKnownHostsFile=/dev/null -oIdentitiesOnly=yes -oLogLevel=ERROR"
+    printf '%s\n' "Port $port" 'ListenAddress 127.0.0.1' "HostKey $server/host" "AuthorizedKeysFile $server/user.pub" 'StrictModes no' \
+        "PidFile $server/pid" 'UsePAM no' "MaxStartups ${1:-100}" >"$server/config"
+    "$(command -v sshd || echo /usr/sbin/sshd)" -f "$server/config" 6<&- || exit 1
+    ssh_options="-p$port -i$server/user -oStrictHostKeyChecking=no -oUserKnownHostsFile=/dev/null -oIdentitiesOnly=yes -oLogLevel=ERROR"
 }
 
 by_ssh() {
@@ -161,6 +166,165 @@ test_many() {
     expect 'each verdict is right' [ ! -e wrong ]
 }
 
-by_clock=interrupts
-[ $# -gt 0 ] || set -- words hosts waiting verdicts lost_tests interrupts many
+# A stand-in for ssh that says what this file has as what the host told, with the token for TOKEN.
+stand_in_told() {
+    stand_in
+    # shellcheck disable=SC2016
+    printf '%s\n' '#!/bin/sh' 'for word; do :; done' 'token=$(printf "%s\n" "$word" | grep -o "farmdawn-status-[A-Za-z0-9]*" | head -n 1)' \
+        'sed "s/TOKEN/$token/" <"$TOLD"' >bin/ssh
+    export TOLD="$PWD/told"
+}
+
+# A status is one whole line; whatever else came is a lost test.
+needs_answers() { has flock mkfifo timeout grep; }
+test_answers() {
+    stand_in_told
+    while IFS= read -r told; do
+        printf '%b' "$told" >told
+        timeout 20 farmdawn-ssh --slots slots --tries 1 there -- true name 2>err
+        expect "no verdict of what was told: $told" [ $? -eq 255 ]
+        expect 'which is told' grep -q 'on there was lost' err
+    done <<'END'
+
+TOKEN 0
+TOKEN 0 ended
+TOKEN 7 ended\nTOKEN 7 ended\n
+TOKEN 7\nTOKEN 7\n
+TOKEN 7 ended\nTOKEN 0 ended\n
+TOKEN  ended\n
+TOKEN 1x ended\n
+TOKEN 1 2 ended\n
+TOKEN 256 ended\n
+TOKEN 1000 ended\n
+TOKEN 256\n
+TOKEN -1 ended\n
+other-status 0 ended\n
+END
+    printf 'Welcome to this host\nTOKEN 9 ended\n' >told
+    timeout 20 farmdawn-ssh --slots slots --tries 1 there -- true name
+    expect 'a whole line is a verdict' [ $? -eq 9 ]
+}
+
+# The folder of the places is the user's own. In a temporary folder everybody may make one of its name before.
+needs_slots() { has flock mkfifo timeout; }
+test_slots() {
+    stand_in
+    echo kept >victim
+    mkdir taken && chmod 1777 tmp
+    for name in farmdawn-ssh "farmdawn-ssh-$(id -u)"; do
+        mkdir "tmp/$name" && ln -s "$PWD/victim" "tmp/$name/there.0" && ln -s "$PWD/made" "tmp/$name/there.1"
+        timeout 20 farmdawn-ssh --tries 1 there:2 -- sh -c 'exit 9' name 2>err
+        ended=$?
+        expect 'no file is emptied by a link' [ "$(cat victim)" = kept ]
+        expect 'nor made' [ ! -e made ]
+        rm -r tmp/farmdawn-ssh*
+    done
+    expect 'no verdict with such a file in our folder' [ "$ended $(grep -c 'not a file of yours' err)" = '255 1' ]
+    ln -s "$PWD/taken" "tmp/farmdawn-ssh-$(id -u)"
+    timeout 20 farmdawn-ssh --tries 1 there -- true name 2>err
+    expect 'nor in a folder that a link leads to' [ "$? $(grep -c 'is a link' err)" = '255 1' ]
+    rm "tmp/farmdawn-ssh-$(id -u)"
+    timeout 20 farmdawn-ssh there -- sh -c 'exit 9' name
+    expect 'a verdict' [ $? -eq 9 ]
+    # shellcheck disable=SC2012
+    expect 'our folder is for us alone' [ "$(ls -ld "tmp/farmdawn-ssh-$(id -u)" | cut -c1-10)" = drwx------ ]
+    chmod 777 "tmp/farmdawn-ssh-$(id -u)"
+    timeout 20 farmdawn-ssh there -- true name 2>err
+    expect 'no verdict in one that others may write' [ "$? $(grep -c 'by others' err)" = '255 1' ]
+    for host in ../x /x 'a b' '' 'a
+b'; do
+        timeout 20 farmdawn-ssh --slots slots "$host" -- true name 2>err
+        expect "no host: '$host'" [ "$? $(grep -c 'is wanted' err)" = '255 1' ]
+    done
+    touch there
+    timeout 20 farmdawn-ssh --slots slots 't*' -- sh -c 'exit 9' name
+    expect 'a host is no pattern of files' [ "$? $(ls slots)" = '9 t*.0' ]
+}
+
+needs_others() { has flock mkfifo timeout && missing='root, who makes files of others' && [ "$(id -u)" -eq 0 ]; }
+test_others() {
+    stand_in
+    mkdir tmp/farmdawn-ssh-0 && chown nobody tmp/farmdawn-ssh-0
+    timeout 20 farmdawn-ssh --tries 1 there -- true name 2>err
+    expect 'no verdict in the folder of another' [ "$? $(grep -c 'another user' err)" = '255 1' ]
+    chown 0 tmp/farmdawn-ssh-0 && : >tmp/farmdawn-ssh-0/there.0 && chown nobody tmp/farmdawn-ssh-0/there.0
+    timeout 20 farmdawn-ssh --tries 1 there -- true name 2>err
+    expect 'nor with a file of another' [ "$? $(grep -c 'not a file of yours' err)" = '255 1' ]
+}
+
+# A place that is held for long is told, and waited for with a limit.
+needs_limit() { has flock mkfifo timeout; }
+test_limit() {
+    stand_in
+    mkdir slots
+    flock slots/there.0 sh -c 'touch held; while [ -e .. ] && [ ! -e off ]; do sleep 0.1; done' &
+    until [ -e held ]; do sleep 0.1; done
+    timeout 30 farmdawn-ssh --slots slots --wait 2 there -- touch tested name 2>err
+    expect 'no verdict, and two lines' [ "$? $(grep -c 'waits for a host\|no host was free for 2 s' err)" = '255 2' ]
+    expect 'no test was run' [ ! -e tested ]
+    touch off
+}
+
+# What the environment has leads the script nowhere, and ssh finds it as it was.
+needs_environment() { has flock mkfifo timeout; }
+test_environment() {
+    stand_in
+    echo 'exit 3' >startup
+    mkdir -p elsewhere/folder elsewhere/slots folder
+    for setting in "ENV=$PWD/startup" "BASH_ENV=$PWD/startup" IFS=7 POSIXLY_CORRECT=1 LC_ALL=C.UTF-8 "CDPATH=$PWD/elsewhere" "FARMDAWN_PARENT=1 1"; do
+        env "$setting" timeout 20 farmdawn-ssh --slots slots --folder folder there:17 -- sh -c '[ "$PWD" = "$1" ] && exit 77' sh "$PWD/folder" name
+        expect "$setting" [ $? -eq 77 ]
+    done
+    for variable in host status hosts tries verdict me own token farmdawn folder; do
+        # shellcheck disable=SC2016
+        env "$variable=it's
+mine " timeout 20 farmdawn-ssh --slots slots --folder "$PWD" there -- sh -c 'eval "[ \"\$$1\" = \"$2\" ]" && exit 77' sh "$variable" "it's
+mine " name
+        expect "the user's own $variable" [ $? -eq 77 ]
+    done
+}
+
+# A function that bash exports under the name of a command is none of ours.
+needs_functions() { has bash flock mkfifo timeout; }
+test_functions() {
+    stand_in
+    { echo "#!$(command -v bash)" && sed 1d "$top/tools/farmdawn-ssh"; } >bin/farmdawn-ssh
+    chmod +x bin/farmdawn-ssh
+    # shellcheck disable=SC2016
+    timeout 20 bash -c 'for name in flock kill printf read ls id mkfifo mktemp sleep test cd rm wait true chmod exit set unset trap eval exec export; do
+            eval "$name() { return 3; }"; export -f "$name"
+        done; builtin exec bin/farmdawn-ssh --slots slots there -- sh -c "exit 77" name' 2>err
+    expect 'the verdict' [ $? -eq 77 ]
+}
+
+needs_missing() { has flock mkfifo ln; }
+test_missing() {
+    for lacking in ssh flock mkfifo mktemp; do
+        rm -rf bin && mkdir bin
+        for tool in cat chmod env flock id ls mkdir mkfifo mktemp rm sed sh sleep ssh true; do
+            [ $tool = $lacking ] || ln -s "$(command -v $tool || command -v true)" bin/$tool
+        done
+        PATH=$PWD/bin "$top/tools/farmdawn-ssh" --slots slots there -- true name 2>err
+        expect "no verdict without $lacking" [ $? -eq 255 ]
+        expect 'which is named in one line' [ "$(cat err)" = "$(grep "$lacking is not installed" err)" ]
+    done
+}
+
+# Where what started the script is killed, the test on the host ends.
+needs_parents() { has_ssh && has pgrep setpriv; }
+test_parents() {
+    start_server
+    words=''
+    for word in $ssh_options; do words="$words --ssh '$word'"; done
+    sh -c "farmdawn-ssh --slots slots $words 127.0.0.1 -- sh -c 'touch began; $long_sleep' name & wait" &
+    until [ -e began ]; do expect 'the test runs' kill -0 $! && sleep 0.1; done
+    kill -KILL $!
+    wait $! 2>/dev/null
+    turns=0
+    while [ -n "$(pgrep -f "^$long_sleep")" ] && [ $turns -lt 90 ]; do turns=$((turns + 1)) && sleep 0.1; done
+    expect 'no test runs on' [ -z "$(pgrep -f "^$long_sleep")" ]
+}
+
+by_clock='interrupts parents'
+[ $# -gt 0 ] || set -- words hosts waiting answers slots others limit environment functions missing verdicts lost_tests interrupts many parents
 run_tests "$@"

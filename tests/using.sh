@@ -11,7 +11,7 @@ take_apart() {
     /^<!-- needs: / { sub(/^<!-- needs: /, ""); sub(/ -->$/, ""); needs = $0; next }
     /^```console$/ {
         block = sprintf("%s/%02d", folder, ++blocks)
-        system("mkdir -p " block)
+        system("mkdir -p \"" block "\"")
         print needs > (block "/needs")
         close(block "/needs")
         inside = 1
@@ -62,8 +62,9 @@ run_block() {
         name=${command%.command}
         # shellcheck source=/dev/null
         . "$command" >"$name.output" 2>&1
-        # another home, and as many outcomes as there was time for
-        sed -i "s|$HOME|/home/ann|g; s/from [0-9]* outcomes/from N outcomes/" "$name.shown" "$name.output"
+        # another home, another number of the command, and as many outcomes as there was time for
+        sed -i "s|$HOME|/home/ann|g; s/from [0-9]* outcomes/from N outcomes/; s/results-[0-9a-f]\{12\}/results-NUMBER/
+            s/what [0-9]* searches/what N searches/" "$name.shown" "$name.output"
         expect "what the page shows of '$(cat "$command")'" is_shown "$name.shown" "$name.output"
     done
 }
