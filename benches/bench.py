@@ -20,6 +20,7 @@ Usage: benches/bench.py SUBJECT [SIZE ..] [--quick] [--program FILE]
   sample    COMMITS ..                  farmdawn sample
   hostile   DIVISOR                     time and memory of what was made to cost much, at a size and at twice the size; the
                                         sizes are divided by the number
+  certify   COMMITS                     certificates of so many steps, made and checked, beside an import; 16 MiB of steps
   logs      MARKS                       whether git and farmdawn know the same behind each other's logs
   real      REPOSITORY [PAIRS]          whether they name the same commits in a repository
   gate      LOG .. TIMES.json           the page docs/GATE.md, of logs of the merge gate, and of what was watched beside it
@@ -48,6 +49,7 @@ from dataclasses import dataclass
 from typing import Callable
 
 import agree
+import certificates as certificate_costs
 import farm as farm_costs
 import gate
 import repository
@@ -61,6 +63,7 @@ HAS_GIT = shutil.which("git") is not None
 MAIN, OLD = "refs/heads/main", "refs/heads/old"
 # one commit is both bad and good, which ends with status 5
 NOTHING_TO_ASK = ["simulate", MAIN, MAIN, ""]
+REPLAY = ["replay", "--replay", "log"]
 # a name that means no commit is refused once the stream is read, with status 8
 NOTHING_BUT_IMPORT = ["next", "no-commit", OLD]
 NO_COMMIT = b"name refused at word 1: unknown\n"
@@ -428,6 +431,37 @@ def wall(bench, commits, files, runs):
 GROWTH = 2.5  # what time and memory may grow by, where the size doubles
 
 
+def middle_name(bench):
+    """The name of a commit in the middle of the line that the stream has."""
+    return bench.ask("next", MAIN, OLD).output.split()[-1]
+
+
+def of_abbreviations(bench, size):
+    """A log of so many abbreviations over a line of fifty times as many commits."""
+    bench.write(streams.line, 50 * size)
+    return bench.write(streams.named_again, size, middle_name(bench)[:10], to="log")
+
+
+def of_repeated_goods(bench, size, skipped=()):
+    """A log of so many marks of a good commit over a line of fifty times as many."""
+    bench.write(streams.line, 50 * size)
+    return bench.write(streams.good_again, size, skipped, to="log")
+
+
+def of_far_ancestors(bench, size):
+    """A log of so many names of the root of a line of 50,000 commits by its distance, each as many steps."""
+    bench.write(streams.line, 50000)
+    return bench.write(streams.named_again, size, b"main~49999", to="log")
+
+
+LONG_LOGS = {
+    "abbreviations": of_abbreviations,
+    "repeated goods": of_repeated_goods,
+    "repeated goods behind a skip": lambda bench, size: of_repeated_goods(bench, size, [b"main~1"]),
+    "far ancestors": of_far_ancestors,
+}
+
+
 def costly(bench, divisor):
     """Each kind with its smaller size, and a call that writes one of a size and gives its bytes and the words that ask."""
     for make, size in streams.KINDS.items():
@@ -435,7 +469,12 @@ def costly(bench, divisor):
     yield "skips in a plan", 50000 // divisor, lambda n: (bench.write(streams.line, n), ["simulate", MAIN, OLD, "s" * n])
     for make, size in streams.LOGS.items():
         yield f"log of {make.__name__}", size // divisor, lambda n, make=make: (
-            bench.write(streams.ten) and bench.write(make, n, to="log"), ["replay", "--replay", "log"])
+            bench.write(streams.ten) and bench.write(make, n, to="log"), REPLAY)
+    for label, make in LONG_LOGS.items():
+        yield f"log of {label}", 1000 // divisor, lambda n, make=make: (make(bench, n), REPLAY)
+    for count in (8, 64):
+        yield f"skips by {count} workers", 400 // divisor, lambda n, count=count: (
+            bench.write(streams.line, n), ["run", "--workers", str(count), MAIN, OLD, "--", "sh", "-c", "exit 125"])
 
 
 def grown(first, second, least):
@@ -474,6 +513,10 @@ def hostile(bench, divisor):
 # ---- the command line
 
 
+def certify(bench, commits):
+    return certificate_costs.certificates(bench, commits, GROWTH, NO_COMMIT)
+
+
 def logs(bench, turns):
     needs_git()
     return agree.logs(bench, turns)
@@ -501,6 +544,7 @@ SUBJECTS = {
     "wall": Subject(wall, (300, 40, 3), (30, 8, 1)),
     "sample": Subject(sample, (20000, 100000), (3000,), is_list=True),
     "hostile": Subject(hostile, (1,), (20,)),
+    "certify": Subject(certify, (100000,), (3000,)),
     "logs": Subject(logs, (10,), (3,)),
 }
 

@@ -403,3 +403,18 @@ def strokes(out, size):
 
 
 LOGS = {goods: 100000, skips: 50000, starts: 50000, quotes: 1000000, strokes: 500000}
+
+# ---- logs over a long line of commits, whose ends are named main and old
+
+
+def named_again(out, size, name):
+    """A start line in which so many good names are this one."""
+    out.write(b"git bisect start main" + b" " + b" ".join([name] * size) + b"\n")
+
+
+def good_again(out, size, skipped=()):
+    """So many marks of the good end, behind skips of these names."""
+    out.write(b"git bisect start main old\n")
+    for name in skipped:
+        out.write(b"git bisect skip %b\n" % name)
+    out.write(b"git bisect good old\n" * size)
