@@ -10,7 +10,7 @@ run_leg-requires-clause-ready g c = λ κs within.
     let begun = c.in_ok-state.ensures in
     let fresh = c.in_ok-standing.ensures.table in
     record {
-      len = rw (state, begun) c.len.ensures;
+      len = rw (state, begun) c.len.ensures.len;
       long = rw fresh (length-replicate (length c.args.history.now.parents) None);
       ends = rw (state, begun) (record { bad = c.in_ok-bad.bad; bad_is = refl {a = Some c.in_ok-bad.bad}; some_good = λ e. cc });
       known = record {
