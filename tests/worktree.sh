@@ -195,9 +195,7 @@ test_killed() {
     until [ -e .git/farmdawn/began ]; do expect 'the test runs' kill -0 $! && sleep 0.05; done
     kill -KILL $!
     wait $! 2>/dev/null
-    turns=0
-    while [ -n "$(pgrep -f "$long_sleep")" ] && [ $turns -lt 60 ]; do turns=$((turns + 1)) && sleep 0.1; done
-    nothing_sleeps
+    soon_nothing_sleeps
     expect 'the next test has the commit' [ "$(farmdawn-worktree -- sh -c 'cat content; git rev-parse HEAD' "$commit")" = "2
 $commit" ]
 }
@@ -213,9 +211,7 @@ test_parents() {
         until [ -e .git/farmdawn/began ]; do expect 'the test runs' kill -0 $! && sleep 0.05; done
         kill -KILL $!
         wait $! 2>/dev/null
-        turns=0
-        while [ -n "$(pgrep -f "$long_sleep")" ] && [ $turns -lt 60 ]; do turns=$((turns + 1)) && sleep 0.1; done
-        nothing_sleeps
+        soon_nothing_sleeps
     done
 }
 
@@ -418,9 +414,7 @@ test_program_killed() {
     sleep 0.5
     kill -KILL $!
     wait $! 2>/dev/null
-    turns=0
-    while [ -n "$(pgrep -f "$long_sleep")" ] && [ $turns -lt 60 ]; do turns=$((turns + 1)) && sleep 0.1; done
-    nothing_sleeps
+    soon_nothing_sleeps
 }
 
 # What the pages say of signed tags and commits: where a plain export fails, and where it gives commits other names.

@@ -57,12 +57,14 @@ pub fn farm_main<R: Host, S: Source, F: Shelf, T: Tester, K: Sink>(
     ensures used { IsUsed (met words.now (met_source S.Source stream.old stream.new)
         (met_shelf F.Shelf shelf.old shelf.new) (met_tester T.Tester tester.old tester.new)
         (met_sink K.Sink out.old out.new)) }
-    ensures unread { IsLeftUnless (commanded (met words.now (met_source S.Source stream.old stream.new)
-        (met_shelf F.Shelf shelf.old shelf.new) (met_tester T.Tester tester.old tester.new)
-        (met_sink K.Sink out.old out.new))).reads stream.old stream.new }
-    ensures unloaded { IsLeftUnless (commanded (met words.now (met_source S.Source stream.old stream.new)
-        (met_shelf F.Shelf shelf.old shelf.new) (met_tester T.Tester tester.old tester.new)
-        (met_sink K.Sink out.old out.new))).loads shelf.old shelf.new }
+    ensures unread { IsLeftUnless (commanded (met words.now
+        (met_source S.Source stream.old stream.new) (met_shelf F.Shelf shelf.old shelf.new)
+        (met_tester T.Tester tester.old tester.new) (met_sink K.Sink out.old out.new))).reads
+        stream.old stream.new }
+    ensures unloaded { IsLeftUnless (commanded (met words.now
+        (met_source S.Source stream.old stream.new) (met_shelf F.Shelf shelf.old shelf.new)
+        (met_tester T.Tester tester.old tester.new) (met_sink K.Sink out.old out.new))).loads
+        shelf.old shelf.new }
     ensures untested { IsUntestedIfRefused (met_tester T.Tester tester.old tester.new) result }
     ensures is_split { T.is_split tester.new ≡ false }
 {
