@@ -21,6 +21,7 @@ Usage: benches/bench.py SUBJECT [SIZE ..] [--quick] [--program FILE]
   hostile   DIVISOR                     time and memory of what was made to cost much, at a size and at twice the size; the
                                         sizes are divided by the number
   certify   COMMITS                     certificates of so many steps, made and checked, beside an import; 16 MiB of steps
+  folders   FILES COMMITS               a search that tests in folders, beside git farmdawn and git bisect run
   logs      MARKS                       whether git and farmdawn know the same behind each other's logs
   real      REPOSITORY [PAIRS]          whether they name the same commits in a repository
   gate      LOG .. TIMES.json           the page docs/GATE.md, of logs of the merge gate, and of what was watched beside it
@@ -51,6 +52,7 @@ from typing import Callable
 import agree
 import certificates as certificate_costs
 import farm as farm_costs
+import folders as folder_costs
 import gate
 import repository
 import streams
@@ -517,6 +519,11 @@ def certify(bench, commits):
     return certificate_costs.certificates(bench, commits, GROWTH, NO_COMMIT)
 
 
+def folders(bench, files, commits):
+    needs_git()
+    return folder_costs.folders(bench, files, commits, machine(), os.path.join(TOP, "tools", "git-farmdawn"))
+
+
 def logs(bench, turns):
     needs_git()
     return agree.logs(bench, turns)
@@ -545,6 +552,7 @@ SUBJECTS = {
     "sample": Subject(sample, (20000, 100000), (3000,), is_list=True),
     "hostile": Subject(hostile, (1,), (20,)),
     "certify": Subject(certify, (100000,), (3000,)),
+    "folders": Subject(folders, (1000, 300), (60, 20)),
     "logs": Subject(logs, (10,), (3,)),
 }
 

@@ -11,6 +11,7 @@ _farmdawn_options() {
         simulate | run) echo --workers --first-parent --term-new --term-old --skip --replay --lenient-exit ;;
         esac
         ;;
+    checkout | journal) [ "$2" = run ] && _farmdawn_options run ;;
     esac
 }
 
@@ -18,6 +19,7 @@ _farmdawn_options() {
 _farmdawn_behind() {
     case $1 in
     certify) echo simulate run ;;
+    checkout | journal) echo run ;;
     esac
 }
 
@@ -25,7 +27,7 @@ _farmdawn() {
     local word=${COMP_WORDS[COMP_CWORD]} before=${COMP_WORDS[COMP_CWORD - 1]} index
     COMPREPLY=()
     if [ "$COMP_CWORD" -eq 1 ]; then
-        mapfile -t COMPREPLY < <(compgen -W 'simulate run next replay gen sample certify check --help --version' -- "$word")
+        mapfile -t COMPREPLY < <(compgen -W 'simulate run next replay gen sample certify check checkout journal many --help --version' -- "$word")
         return
     fi
     if [ "$COMP_CWORD" -eq 2 ] && [ -n "$(_farmdawn_behind "${COMP_WORDS[1]}")" ]; then
@@ -33,11 +35,11 @@ _farmdawn() {
         return
     fi
     case ${COMP_WORDS[1]}$COMP_CWORD in
-    check2)
+    check2 | many3)
         compopt -o default
         return
         ;;
-    check*) return ;;
+    check[0-9]* | many*) return ;;
     esac
     for ((index = 2; index < COMP_CWORD; index++)); do
         if [ "${COMP_WORDS[index]}" = -- ]; then

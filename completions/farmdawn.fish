@@ -12,9 +12,12 @@ complete -c farmdawn -n __fish_use_subcommand -a gen -d 'write a generated strea
 complete -c farmdawn -n __fish_use_subcommand -a sample -d 'search a generated stream'
 complete -c farmdawn -n __fish_use_subcommand -a certify -d 'print a certificate of the first bad commit'
 complete -c farmdawn -n __fish_use_subcommand -a check -d 'check a certificate'
-complete -c farmdawn -n '__fish_seen_subcommand_from certify' -a run -d 'search by a test command'
+complete -c farmdawn -n __fish_use_subcommand -a checkout -d 'test each commit in a folder with its files'
+complete -c farmdawn -n __fish_use_subcommand -a journal -d 'keep each outcome in a file'
+complete -c farmdawn -n __fish_use_subcommand -a many -d 'search for several commits at once'
+complete -c farmdawn -n '__fish_seen_subcommand_from certify checkout journal' -a run -d 'search by a test command'
 complete -c farmdawn -n '__fish_seen_subcommand_from certify' -a simulate -d 'search by a written plan'
-complete -c farmdawn -n '__fish_seen_subcommand_from check' -F
+complete -c farmdawn -n '__fish_seen_subcommand_from check many' -F
 complete -c farmdawn -n __fish_use_subcommand -l help -d 'show help'
 complete -c farmdawn -n __fish_use_subcommand -l version -d 'show the version'
 

@@ -127,5 +127,34 @@ test_log() {
     refuse_each simulate --replay part.log ggggbbbb
 }
 
-[ $# -gt 0 ] || set -- line workers merge log
+needs_lists() { needs_all; }
+test_lists() {
+    make_refusing
+    write_line >stream
+    printf '%s\n' 'main main~7 ggggbbbb' 'main main~7 gbbbbbbb' >searches
+    refuse_each many 2 searches
+}
+
+needs_certificates() { needs_all; }
+test_certificates() {
+    make_refusing
+    write_line >stream
+    "$farmdawn" certify simulate main main~7 ggggbbbb <stream >found
+    refuse_each certify simulate main main~7 ggggbbbb
+    refuse_each check found
+}
+
+# A journal that has all outcomes, so that no test of another program is refused memory; and a search without a test.
+needs_devices() { needs_all; }
+test_devices() {
+    make_refusing
+    write_line >stream
+    # shellcheck disable=SC2016
+    set -- main main~7 -- sh -c 'case $1 in 771*) exit 0 ;; *) exit 1 ;; esac' x
+    "$farmdawn" journal run "$@" <stream >/dev/null 2>&1
+    refuse_each journal run "$@"
+    refuse_each checkout run main main~1 -- true
+}
+
+[ $# -gt 0 ] || set -- line workers merge log lists certificates devices
 run_tests "$@"

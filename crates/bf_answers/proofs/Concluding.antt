@@ -110,6 +110,21 @@ pub whole_write : (R : Type 0) (s : Status) → IsWhole s → (s ≡ status.Writ
 whole_write R s w (inl e) = absurd (subst IsWhole e w)
 whole_write R s w (inr r) = r
 
+-- nor with that of a journal
+pub cut_is_no_journal : (result : Status) → (result ≡ status.WriteFault) ⊎ (result ≡ status.NoMemory) → result ≢ status.JournalFault
+cut_is_no_journal result (inl e) = λ is. cc (sym e ∙ is)
+cut_is_no_journal result (inr e) = λ is. cc (sym e ∙ is)
+
+pub caused_no_journal : (asks : Bool) (old : ℕ) (new : Tested) (before after : Option (List ℕ)) (text : List ℕ) (s result : Status)
+    → HasCause asks old new s → IsWritten before after text s result → result ≢ status.JournalFault
+caused_no_journal asks old new before after text s result cause (inl (e, a)) = λ is. subst (HasCause asks old new) (sym e ∙ is) cause
+caused_no_journal asks old new before after text s result cause (inr (cut, front)) = cut_is_no_journal result cut
+
+pub whole_no_journal : (before after : Option (List ℕ)) (text : List ℕ) (s result : Status) → IsWhole s → IsWritten before after text s result
+    → result ≢ status.JournalFault
+whole_no_journal before after text s result w (inl (e, a)) = λ is. subst IsWhole (sym e ∙ is) w
+whole_no_journal before after text s result w (inr (cut, front)) = cut_is_no_journal result cut
+
 -- the line of a fault that was written
 pub fault_is_no_test : (before after : Option (List ℕ)) (text : List ℕ) (s result : Status) (place : ℕ) → s ≢ status.TestFault place
     → IsWritten before after text s result → result ≡ status.TestFault place → ⊥

@@ -8,7 +8,7 @@ use Rattle.bf_answers.specs.Devices.{Met, SinkMet, TesterMet}
 use Rattle.bf_answers.specs.Ready.{SaysAnswer}
 use Rattle.bf_answers.specs.Tellings.{told_of}
 use Rattle.bf_answers.proofs.Answering.{cut_answer, written_output}
-use Rattle.bf_answers.proofs.Concluding.{caused_not_lost, cut_is_no_test, own_written, test_cause, test_written}
+use Rattle.bf_answers.proofs.Concluding.{caused_no_journal, caused_not_lost, cut_is_no_journal, cut_is_no_test, own_written, test_cause, test_written}
 use Rattle.bf_output.specs.declared.status.Status.{Status}
 use Rattle.bf_output.specs.declared.status.Status.TheVariants as status
 
@@ -55,6 +55,17 @@ test_said asks tester sink result (Err Read) cause (inr (cut, front)) = λ place
 test_said asks tester sink result (Err Shelf) cause (inl (e, a)) = λ place is. cc (sym e ∙ is)
 test_said asks tester sink result (Err Shelf) cause (inr (cut, front)) = λ place is. absurd (cut_is_no_test result place cut is)
 test_said asks tester sink result (Err NoMemory) cause (e, kept) = λ place is. cc (sym e ∙ is)
+
+-- and a fault of a journal is never answered
+pub no_journal_said : (asks : Bool) (tester : TesterMet) (sink : SinkMet) (result : Status) (answer : Result Answer Fault)
+    → IfOk answer (IsCaused asks tester) → SaysAnswer answer sink result → result ≢ status.JournalFault
+no_journal_said asks tester sink result (Ok answer) cause written =
+    caused_no_journal asks tester.before.faults tester.after sink.before sink.after answer.text answer.status result cause written
+no_journal_said asks tester sink result (Err Read) cause (inl (e, a)) = λ is. cc (sym e ∙ is)
+no_journal_said asks tester sink result (Err Read) cause (inr (cut, front)) = cut_is_no_journal result cut
+no_journal_said asks tester sink result (Err Shelf) cause (inl (e, a)) = λ is. cc (sym e ∙ is)
+no_journal_said asks tester sink result (Err Shelf) cause (inr (cut, front)) = cut_is_no_journal result cut
+no_journal_said asks tester sink result (Err NoMemory) cause (e, kept) = λ is. cc (sym e ∙ is)
 
 -- with a refusal the tester is as it was
 pub refused_said : (tester : TesterMet) (sink : SinkMet) (result : Status) (answer : Result Answer Fault)

@@ -17,6 +17,7 @@ pub fn say_answer<K: Sink>(out: &mut K, answer: Result<Answer, Fault>) -> Status
     requires whole { IfOk answer IsWholeAnswer }
     ensures told { SaysAnswer answer (met_sink K.Sink out.old out.new) result }
     ensures no_test { (place : ℕ) → result ≢ Status.TestFault place }
+    ensures no_journal { result ≢ Status.JournalFault }
     ensures write { result ≡ Status.WriteFault → Rose (K.faults out.old) (K.faults out.new) }
 {
     match answer {

@@ -1,13 +1,13 @@
 -- What holds of words that are accepted: they ask for a search, without legs and without a trace, and its plan has letters.
-use Rattle.std.proofs.Common.{◌≡◌, ℕ, ◌+◌, ◌<◌, ◌≤◌, Bool, true, false, not, cond, ◌||◌, nat_lt, List, [], ◌∷◌, length, drop, get_or, get_or-drop, Option, Some, None, Result, Ok, Err, refl, ap, sym, subst, ◌∙◌, ⊎_elim, arith}
+use Rattle.std.proofs.Common.{◌≡◌, ℕ, ◌+◌, ◌<◌, ◌≤◌, Bool, true, false, not, cond, ◌||◌, nat_lt, List, [], ◌∷◌, length, drop, Option, Some, None, Result, Ok, Err, refl, ap, sym, subst, ◌∙◌, ⊎_elim, arith}
 use Rattle.std.specs.Prelude.{IsTrue}
 use Rattle.std.specs.List.{list_any, position, position_or_len}
-use Rattle.std.specs.Option.{option_map}
 use Rattle.std.proofs.lemmas.Bool.{cases_Bool, cond-false, le-ltb, ltb-false, ltb-true, or_parts}
 use Rattle.std.proofs.lemmas.Option.{same_Some}
 use Rattle.bf_answers.specs.Steps.{HasPlan}
 use Rattle.bf_commands.specs.declared.order.Order.TheVariants.{Certify}
 use Rattle.bf_commands.specs.Orders.{certified_request, is_followed, is_search, log_word, request_of as request_for, request_to_certify, without_log}
+use Rattle.bf_commands.proofs.Behind.{behind_read, followed, plan_behind, word_behind}
 use Rattle.bf_output.proofs.Accepted.{no_fault, past_size}
 use Rattle.bf_output.specs.Output.{reads_stream}
 use Rattle.bf_searches.proofs.Planning.{plan_read}
@@ -27,7 +27,7 @@ use Rattle.bf_words.specs.FirstOption.{first_option, is_given_in}
 use Rattle.bf_words.specs.Options.{option_of, verb_of}
 use Rattle.bf_words.specs.Roles.{is_given, is_value_of, role_after, role_of_option, roles_after, roles_of}
 use Rattle.bf_words.proofs.Within.{roles_as_long}
-use Rattle.bf_words.specs.Words.{IsRead, fault_in, is_plan, next_index, number_or, one_further, read_from, read_further, request, request_behind, request_of, value_at, word_at, word_or}
+use Rattle.bf_words.specs.Words.{IsRead, fault_in, number_or, read_from, request, request_of, value_at, word_at}
 
 -- ---- no option, no value of it
 
@@ -150,28 +150,6 @@ line_read words r e =
     let short : length words ≤ 1000000 = ltb-false 1000000 (length words) (not_past (nat_lt 1000000 (length words)) 1000000 rest r e) in
     line_from (verb_of (word_at words 0)) words r refl short (past_size (nat_lt 1000000 (length words)) 1000000 rest r e)
 
-record IsBehind (words : List (List ℕ)) (r : Request) : Type 0 where
-  inner : Request
-  read : request words ≡ Ok inner
-  moved : one_further inner ≡ r
-
-moved_from : (o : Result Request ℕ) (words : List (List ℕ)) (r : Request) → request words ≡ o → read_further o ≡ Ok r → IsBehind words r
-moved_from (Ok q) words r is e = record { inner = q; read = is; moved = cc e }
-moved_from (Err word) words r is e = cc e
-
-behind_read : (words : List (List ℕ)) (r : Request) → request_behind words ≡ Ok r → IsBehind (drop 1 words) r
-unfolding request_behind
-behind_read words r e = moved_from (request (drop 1 words)) (drop 1 words) r refl e
-
-if_followed : (b : Bool) (rest : Result Request ℕ) (r : Request) → cond b rest (Err 1) ≡ Ok r → (b ≡ true) × (rest ≡ Ok r)
-if_followed true rest r e = (refl, e)
-if_followed false rest r e = cc e
-
-followed : (words : List (List ℕ)) (r : Request) → request_for Certify words ≡ Ok r
-    → (is_followed Certify (verb_of (word_at words 1)) ≡ true) × (request_behind words ≡ Ok r)
-unfolding request_for
-followed words r e = if_followed (is_followed Certify (verb_of (word_at words 1))) (request_behind words) r e
-
 no_log : (q r : Request) (o : Option ℕ) → without_log q o ≡ Ok r → (o ≡ None) × (q ≡ r)
 no_log q r None e = (refl, cc e)
 no_log q r (Some i) e = cc e
@@ -185,16 +163,6 @@ certified words (Ok q) r e =
     )
 
 -- ---- what holds of one
-
-word_behind : (words : List (List ℕ)) (i : ℕ) → word_at words (i + 1) ≡ word_at (drop 1 words) i
-word_behind words i =
-    let further : i + 1 ≡ 1 + i = omega arith in
-    ap (λ k. get_or words k []) further ∙ sym (get_or-drop 1 words i [])
-
-plan_behind : (words : List (List ℕ)) (o : Option ℕ) → is_plan (word_or [] (drop 1 words) o) ≡ true
-    → is_plan (word_or [] words (option_map next_index o)) ≡ true
-plan_behind words None h = h
-plan_behind words (Some i) h = ap is_plan (word_behind words i) ∙ h
 
 verb_follows : (o : Option Verb) (v : Verb) → o ≡ Some v → is_followed Certify o ≡ true → is_search v ≡ true
 verb_follows None v is h = cc h
@@ -226,7 +194,7 @@ pub record IsFollowed (words : List (List ℕ)) (r : Request) : Type 0 where
 
 pub line_followed : (words : List (List ℕ)) (r : Request) → request_for Certify words ≡ Ok r → IsFollowed words r
 line_followed words r e =
-    let parts = followed words r e in
+    let parts = followed Certify words r e in
     let behind = behind_read words r parts.1 in
     let line = line_read (drop 1 words) behind.inner behind.read in
     let verb_is : r.verb ≡ line.verb = ap (λ (x : Request). x.verb) (sym behind.moved) ∙ ap (λ (x : Request). x.verb) (sym line.made)
@@ -241,7 +209,7 @@ line_followed words r e =
 pub accepted : (words : List (List ℕ)) (r : Request) → request_to_certify words ≡ Ok r → IsAccepted words r
 accepted words r e =
     let read = certified words (request_for Certify words) r e in
-    let behind = behind_read words r (followed words r read.0).1 in
+    let behind = behind_read words r (followed Certify words r read.0).1 in
     let line = line_read (drop 1 words) behind.inner behind.read in
     let verb_is : r.verb ≡ line.verb = ap (λ (x : Request). x.verb) (sym behind.moved) ∙ ap (λ (x : Request). x.verb) (sym line.made)
     ∙ verb_made line.verb (drop 1 words) in

@@ -57,6 +57,7 @@ pub fn certify<R: Host, S: Source, F: Shelf, T: Tester, K: Sink>(
     ensures read { result ≡ Status.ReadFault → Rose (S.faults stream.old) (S.faults stream.new) }
     ensures file { result ≡ Status.ShelfFault → Rose (F.faults shelf.old) (F.faults shelf.new) }
     ensures write { result ≡ Status.WriteFault → Rose (K.faults out.old) (K.faults out.new) }
+    ensures no_journal { result ≢ Status.JournalFault }
     ensures test { HasTestCause (tests (request_to_certify words.now))
         (met_tester T.Tester tester.old tester.new) result }
     ensures used { IsUsedFor (request_to_certify words.now) words.now

@@ -51,6 +51,7 @@ pub fn check<S: Source, F: Shelf, K: Sink>(
     ensures file { result ≡ Status.ShelfFault → Rose (F.faults shelf.old) (F.faults shelf.new) }
     ensures write { result ≡ Status.WriteFault → Rose (K.faults out.old) (K.faults out.new) }
     ensures no_test { (place : ℕ) → result ≢ Status.TestFault place }
+    ensures no_journal { result ≢ Status.JournalFault }
     ensures unread { IsLeftUnless (checks_file words.now) stream.old stream.new }
     ensures unloaded { IsLeftUnless (checks_file words.now) shelf.old shelf.new }
 {

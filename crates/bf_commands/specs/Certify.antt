@@ -1,16 +1,14 @@
 -- The command `certify`: a search whose certificate is printed in place of its log and its answer.
-use Rattle.std.specs.Prelude.{◌≡◌, ◌⊎◌, ℕ, Bool, true, false, List, length, Option, Some, None, Result, Ok, Err}
+use Rattle.std.specs.Prelude.{◌≡◌, ℕ, List, length, Option, Some, None, Result, Ok, Err}
 use Rattle.bf_cert.specs.declared.cert.Cert.{Cert}
 use Rattle.bf_cert.specs.Certificates.{Holds, IsWithin}
 use Rattle.bf_cert.specs.Lines.{cert_text}
 use Rattle.bf_cert.specs.Made.{IsMade}
 use Rattle.bf_history.specs.Meanings.{History}
-use Rattle.bf_search.specs.declared.asks.Ask.{Ask}
 use Rattle.bf_search.specs.declared.asks.Ask.TheVariants.{FirstBad}
 use Rattle.bf_search.specs.Run.{End, Answered, Run}
 use Rattle.bf_search.specs.State.{Search}
 use Rattle.bf_shelf.specs.declared.shelf.LoadFault.{LoadFault}
-use Rattle.bf_shelf.specs.declared.shelf.ShelfFile.{ShelfFile}
 use Rattle.bf_words.specs.declared.request.Request.{Request}
 use Rattle.bf_words.specs.declared.verb.Verb.{Verb}
 use Rattle.bf_words.specs.declared.verb.Verb.TheVariants.{Simulate, Run as RunVerb}

@@ -1,5 +1,5 @@
--- The words of `certify`, which stands before those of a search, and of `check`, which has words of its own.
-use Rattle.std.specs.Prelude.{ℕ, ◌+◌, Bool, true, false, nat_lt, if◌then◌else◌, List, [], ◌∷◌, length, drop, codes, Option, Some, None, Result, Ok, Err}
+-- The words of the commands that stand before those of a search, and of those that have words of their own.
+use Rattle.std.specs.Prelude.{ℕ, Bool, true, false, nat_lt, if◌then◌else◌, List, [], ◌∷◌, length, drop, codes, Option, Some, None, Result, Ok, Err}
 use Rattle.bf_words.specs.declared.options.Choice.TheVariants.{Leg, Trace}
 use Rattle.bf_words.specs.declared.request.Request.{Request}
 use Rattle.bf_words.specs.declared.verb.Verb.{Verb}
@@ -8,12 +8,15 @@ use Rattle.bf_words.specs.FirstOption.{first_option}
 use Rattle.bf_words.specs.Options.{is_text, verb_of}
 use Rattle.bf_words.specs.Words.{next_index, request_behind, word_at}
 use Rattle.bf_commands.specs.declared.order.Order.{Order}
-use Rattle.bf_commands.specs.declared.order.Order.TheVariants.{Certify, Check}
+use Rattle.bf_commands.specs.declared.order.Order.TheVariants.{Certify, Check, Checkout, Journal, Many}
 
 unfoldable pub order_of : List ℕ → Option Order
 order_of word =
     if is_text (codes "certify") word then Some Certify
     else if is_text (codes "check") word then Some Check
+    else if is_text (codes "checkout") word then Some Checkout
+    else if is_text (codes "journal") word then Some Journal
+    else if is_text (codes "many") word then Some Many
     else None
 
 -- ---- a command that stands before another one
@@ -26,10 +29,21 @@ is_search Replay = false
 is_search Gen = false
 is_search Sample = false
 
+abbrev pub is_run : Verb → Bool
+is_run Run = true
+is_run Simulate = false
+is_run Next = false
+is_run Replay = false
+is_run Gen = false
+is_run Sample = false
+
 -- the commands that may stand behind it
 abbrev pub may_follow : Order → Verb → Bool
 may_follow Certify verb = is_search verb
 may_follow Check verb = false
+may_follow Checkout verb = is_run verb
+may_follow Journal verb = is_run verb
+may_follow Many verb = false
 
 abbrev pub is_followed : Order → Option Verb → Bool
 is_followed order None = false

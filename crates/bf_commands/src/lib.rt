@@ -1,5 +1,5 @@
-//! What the program answers to `certify`, which stands before the words of a search, and to `check`, which has words of
-//! its own: in specs/ the definitions of their texts, command by command.
+//! What the program answers to `certify`, `checkout` and `journal`, which stand before the words of a search, and to `check`
+//! and `many`, which have words of their own: in specs/ the definitions of their texts, command by command.
 #![tactic(auto)]
 
 mod order;

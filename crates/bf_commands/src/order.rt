@@ -15,6 +15,12 @@ pub enum Order {
     Certify,
     /// `check`: a certificate is checked.
     Check,
+    /// `checkout`: each commit is tested in a folder that holds exactly its files.
+    Checkout,
+    /// `journal`: outcomes are kept in a file, from which the same line goes on.
+    Journal,
+    /// `many`: several searches share their workers.
+    Many,
 }
 
 /// The command that a word gives, where it is one of these.
@@ -25,6 +31,9 @@ pub fn order_of(word: &[u8]) -> Option<Order>
     match word {
         b"certify" => Some(Order::Certify),
         b"check" => Some(Order::Check),
+        b"checkout" => Some(Order::Checkout),
+        b"journal" => Some(Order::Journal),
+        b"many" => Some(Order::Many),
         _ => None,
     }
 }
@@ -36,7 +45,8 @@ impl Order {
     {
         match self {
             Order::Certify => matches!(word, b"simulate" | b"run"),
-            Order::Check => false,
+            Order::Checkout | Order::Journal => matches!(word, b"run"),
+            Order::Check | Order::Many => false,
         }
     }
 }

@@ -1,79 +1,167 @@
 //! The top call of all commands.
 ghost use Rattle.std.specs.Prelude.{◌≡◌, [], false};
 ghost use Rattle.bf_io.specs.Causes.{Rose};
+ghost use Rattle.bf_output.specs.Tested.{tested_by};
 ghost use Rattle.bf_answers.specs.Answers.{IsUntestedIfRefused};
 ghost use Rattle.bf_answers.specs.Devices.{IsLeftUnless, met, met_shelf, met_sink, met_source, met_tester};
+ghost use Rattle.bf_checkout.specs.Checkouts.{grounds_of};
+ghost use Rattle.bf_checkout.specs.Shops.{AreTestedIn};
+ghost use Rattle.bf_checkout_run.specs.CheckingOut.{HasGroundsOf};
+ghost use Rattle.bf_journal_run.specs.Journalling.{AreUnasked};
+ghost use Rattle.bf_journal_run.specs.Legs.{met_disk};
+ghost use Rattle.bf_recall.specs.Recalling.{remembering};
 ghost use Rattle.bf_farmed.specs.Farming as farming;
-ghost use Rattle.bf_farmed.specs.Farming.{Answers, HasTestCause, IsComplete, IsUsed, PrintsLog, commanded, ordered};
+ghost use Rattle.bf_farmed.specs.Farming.{Answers, HasTestCause, IsComplete, IsRecalled, IsShopUsed, IsUsed, PrintsLog, commanded, farm_met, furnishes, keeps, ordered};
 ghost use Rattle.bf_farmed.specs.Ordered.{IsCarriedOut};
 
 use bf_answers::word_at;
 use bf_certify::certify;
 use bf_check::check;
+use bf_checkout::{Folder, FolderTester, Workshop};
+use bf_checkout_run::checkout;
 use bf_commands::{Order, order_of};
 use bf_io::{Sink, Source, Word};
+use bf_journal::Disk;
+use bf_journal_run::journal;
+use bf_many_run::many;
 use bf_output::Status;
 use bf_program::bisect_main;
+use bf_recall::Recall;
 use bf_shelf::Shelf;
 use bf_tester::{Host, Tester};
 use std::alloc::Global;
 
 /// The program with all of its commands: the first word says which one it is. `certify` searches as the words behind it
-/// say and prints the certificate of the first bad commit, `check` tells whether a certificate holds, and every other line
-/// has the answer of `bisect_main`.
+/// say and prints the certificate of the first bad commit, `check` tells whether a certificate holds, `checkout` tests
+/// each commit by the workshop, in a folder that holds exactly its files, `journal` keeps each outcome on the disk and
+/// goes on from those that are kept, `many` searches as each line of a file says, by workers that the searches share,
+/// and every other line has the answer of `bisect_main`.
 ///
 /// The status is `ReadFault` only where the count of faults of the stream rose, `ShelfFault` only where that of the
-/// shelf did, `WriteFault` only where that of the sink did, and `TestFault` only where the command tests and that of
-/// the tester did. Want of memory may be answered at any point. The stream is read, the shelf asked and the tester
+/// shelf did, `WriteFault` only where that of the sink did, `JournalFault` only where that of the disk did, and
+/// `TestFault` only where the command tests and that of the tester did, or that of the workshop in `checkout`. Want of
+/// memory may be answered at any point. The stream is read, the shelf asked, and the tester, the workshop and the disk
 /// used only by the commands that ask for them.
 ///
 /// Where no count of faults rose, the status and the text are those of the command, or memory ran out.
-pub fn farm_main<R: Host, S: Source, F: Shelf, T: Tester, K: Sink>(
+pub fn farm_main<
+    R: Host,
+    S: Source,
+    F: Shelf,
+    T: Tester,
+    U: FolderTester<D>,
+    D: Folder,
+    J: Disk,
+    K: Sink,
+>(
     rt: &R,
     alloc: Global,
     words: &[Word],
     stream: &mut S,
     shelf: &mut F,
-    tester: &mut T,
+    tester: &mut Recall<T>,
+    shop: &mut Workshop<U, D>,
+    disk: &mut J,
     out: &mut K,
 ) -> Status
-    requires fresh { T.answers tester.old ≡ [] }
-    requires whole { T.is_split tester.old ≡ false }
-    ensures answers { Answers (met words.now (met_source S.Source stream.old stream.new)
-        (met_shelf F.Shelf shelf.old shelf.new) (met_tester T.Tester tester.old tester.new)
-        (met_sink K.Sink out.old out.new)) result }
-    ensures complete { IsComplete (met words.now (met_source S.Source stream.old stream.new)
-        (met_shelf F.Shelf shelf.old shelf.new) (met_tester T.Tester tester.old tester.new)
-        (met_sink K.Sink out.old out.new)) result }
-    ensures log { PrintsLog (met words.now (met_source S.Source stream.old stream.new)
-        (met_shelf F.Shelf shelf.old shelf.new) (met_tester T.Tester tester.old tester.new)
-        (met_sink K.Sink out.old out.new)) result }
+    requires fresh { tester.old.answers ≡ [] }
+    requires remembers { tester.old.remembered ≡ [] }
+    requires whole { T.is_split tester.old.inner ≡ false }
+    requires shop_fresh { U.answers shop.old.tester ≡ [] }
+    requires shop_whole { U.is_split shop.old.tester ≡ false }
+    ensures answers { let farm = farm_met (met words.now
+        (met_source S.Source stream.old stream.new) (met_shelf F.Shelf shelf.old shelf.new)
+        (met_tester ⟦<Recall<T> as Tester>⟧ tester.old tester.new)
+        (met_sink K.Sink out.old out.new))
+        (met_tester ⟦<Workshop<U, D> as Tester>⟧ shop.old shop.new)
+        (met_disk J.Disk disk.old disk.new) in
+        Answers farm result }
+    ensures complete { let farm = farm_met (met words.now
+        (met_source S.Source stream.old stream.new) (met_shelf F.Shelf shelf.old shelf.new)
+        (met_tester ⟦<Recall<T> as Tester>⟧ tester.old tester.new)
+        (met_sink K.Sink out.old out.new))
+        (met_tester ⟦<Workshop<U, D> as Tester>⟧ shop.old shop.new)
+        (met_disk J.Disk disk.old disk.new) in
+        IsComplete farm result }
+    ensures log { let farm = farm_met (met words.now
+        (met_source S.Source stream.old stream.new) (met_shelf F.Shelf shelf.old shelf.new)
+        (met_tester ⟦<Recall<T> as Tester>⟧ tester.old tester.new)
+        (met_sink K.Sink out.old out.new))
+        (met_tester ⟦<Workshop<U, D> as Tester>⟧ shop.old shop.new)
+        (met_disk J.Disk disk.old disk.new) in
+        PrintsLog farm result }
     ensures read { result ≡ Status.ReadFault → Rose (S.faults stream.old) (S.faults stream.new) }
     ensures file { result ≡ Status.ShelfFault → Rose (F.faults shelf.old) (F.faults shelf.new) }
     ensures write { result ≡ Status.WriteFault → Rose (K.faults out.old) (K.faults out.new) }
-    ensures test { HasTestCause (met words.now (met_source S.Source stream.old stream.new)
-        (met_shelf F.Shelf shelf.old shelf.new) (met_tester T.Tester tester.old tester.new)
-        (met_sink K.Sink out.old out.new)) result }
-    ensures used { IsUsed (met words.now (met_source S.Source stream.old stream.new)
-        (met_shelf F.Shelf shelf.old shelf.new) (met_tester T.Tester tester.old tester.new)
-        (met_sink K.Sink out.old out.new)) }
-    ensures unread { IsLeftUnless (commanded (met words.now
+    ensures disk { result ≡ Status.JournalFault → Rose (J.faults disk.old) (J.faults disk.new) }
+    ensures test { let farm = farm_met (met words.now
         (met_source S.Source stream.old stream.new) (met_shelf F.Shelf shelf.old shelf.new)
-        (met_tester T.Tester tester.old tester.new) (met_sink K.Sink out.old out.new))).reads
-        stream.old stream.new }
-    ensures unloaded { IsLeftUnless (commanded (met words.now
+        (met_tester ⟦<Recall<T> as Tester>⟧ tester.old tester.new)
+        (met_sink K.Sink out.old out.new))
+        (met_tester ⟦<Workshop<U, D> as Tester>⟧ shop.old shop.new)
+        (met_disk J.Disk disk.old disk.new) in
+        HasTestCause farm result }
+    ensures used { let farm = farm_met (met words.now
         (met_source S.Source stream.old stream.new) (met_shelf F.Shelf shelf.old shelf.new)
-        (met_tester T.Tester tester.old tester.new) (met_sink K.Sink out.old out.new))).loads
-        shelf.old shelf.new }
-    ensures untested { IsUntestedIfRefused (met_tester T.Tester tester.old tester.new) result }
-    ensures is_split { T.is_split tester.new ≡ false }
+        (met_tester ⟦<Recall<T> as Tester>⟧ tester.old tester.new)
+        (met_sink K.Sink out.old out.new))
+        (met_tester ⟦<Workshop<U, D> as Tester>⟧ shop.old shop.new)
+        (met_disk J.Disk disk.old disk.new) in
+        IsUsed farm (tested_by ⟦<Recall<T> as Tester>⟧ (remembering tester.old tester.new.remembered)) }
+    ensures recalled { let farm = farm_met (met words.now
+        (met_source S.Source stream.old stream.new) (met_shelf F.Shelf shelf.old shelf.new)
+        (met_tester ⟦<Recall<T> as Tester>⟧ tester.old tester.new)
+        (met_sink K.Sink out.old out.new))
+        (met_tester ⟦<Workshop<U, D> as Tester>⟧ shop.old shop.new)
+        (met_disk J.Disk disk.old disk.new) in
+        IsRecalled farm tester.new.remembered }
+    ensures unasked { AreUnasked tester.new.remembered (T.answers tester.new.inner) }
+    ensures shop_used { let farm = farm_met (met words.now
+        (met_source S.Source stream.old stream.new) (met_shelf F.Shelf shelf.old shelf.new)
+        (met_tester ⟦<Recall<T> as Tester>⟧ tester.old tester.new)
+        (met_sink K.Sink out.old out.new))
+        (met_tester ⟦<Workshop<U, D> as Tester>⟧ shop.old shop.new)
+        (met_disk J.Disk disk.old disk.new) in
+        IsShopUsed farm }
+    ensures tested_in { AreTestedIn shop.new.content
+        (U.tested_in shop.new.tester) (U.answers shop.new.tester) }
+    ensures grounds { let grounds = grounds_of shop.new.content in
+        HasGroundsOf (S.left stream.old) (U.answers shop.new.tester) grounds }
+    ensures unread { let farm = farm_met (met words.now
+        (met_source S.Source stream.old stream.new) (met_shelf F.Shelf shelf.old shelf.new)
+        (met_tester ⟦<Recall<T> as Tester>⟧ tester.old tester.new)
+        (met_sink K.Sink out.old out.new))
+        (met_tester ⟦<Workshop<U, D> as Tester>⟧ shop.old shop.new)
+        (met_disk J.Disk disk.old disk.new) in
+        IsLeftUnless (commanded farm).reads stream.old stream.new }
+    ensures unloaded { let farm = farm_met (met words.now
+        (met_source S.Source stream.old stream.new) (met_shelf F.Shelf shelf.old shelf.new)
+        (met_tester ⟦<Recall<T> as Tester>⟧ tester.old tester.new)
+        (met_sink K.Sink out.old out.new))
+        (met_tester ⟦<Workshop<U, D> as Tester>⟧ shop.old shop.new)
+        (met_disk J.Disk disk.old disk.new) in
+        IsLeftUnless (commanded farm).loads shelf.old shelf.new }
+    ensures unfurnished { IsLeftUnless (furnishes (farming.order_in words.now) words.now)
+        shop.old shop.new }
+    ensures unkept { IsLeftUnless (keeps (farming.order_in words.now) words.now)
+        disk.old disk.new }
+    ensures untested { IsUntestedIfRefused
+        (met_tester ⟦<Recall<T> as Tester>⟧ tester.old tester.new) result }
+    ensures shop_untested { IsUntestedIfRefused
+        (met_tester ⟦<Workshop<U, D> as Tester>⟧ shop.old shop.new) result }
+    ensures is_split { T.is_split tester.new.inner ≡ false }
+    ensures shop_is_split { U.is_split shop.new.tester ≡ false }
 {
     let asked = Asked {
         alloc,
         words,
         order: order_in(words),
     };
-    carry_out(rt, asked, stream, shelf, tester, out)
+    let status = carry_out(rt, asked, stream, shelf, tester, shop, disk, out);
+    // What their types keep of their answers is told.
+    let _below = tester.inner();
+    let _tested = shop.tester();
+    status
 }
 
 /// A line of words with the order that it gives, and where the answer has its memory.
@@ -92,38 +180,81 @@ fn order_in(words: &[Word]) -> Option<Order>
 }
 
 /// Answers a line by the order that it is given.
-fn carry_out<R: Host, S: Source, F: Shelf, T: Tester, K: Sink>(
+fn carry_out<
+    R: Host,
+    S: Source,
+    F: Shelf,
+    T: Tester,
+    U: FolderTester<D>,
+    D: Folder,
+    J: Disk,
+    K: Sink,
+>(
     rt: &R,
     asked: Asked<'_>,
     stream: &mut S,
     shelf: &mut F,
-    tester: &mut T,
+    tester: &mut Recall<T>,
+    shop: &mut Workshop<U, D>,
+    disk: &mut J,
     out: &mut K,
 ) -> Status
-    requires fresh { T.answers tester.old ≡ [] }
-    requires whole { T.is_split tester.old ≡ false }
-    ensures ordered { IsCarriedOut asked.entry.order (met asked.entry.words.now
+    requires fresh { tester.old.answers ≡ [] }
+    requires remembers { tester.old.remembered ≡ [] }
+    requires whole { T.is_split tester.old.inner ≡ false }
+    requires shop_fresh { U.answers shop.old.tester ≡ [] }
+    requires shop_whole { U.is_split shop.old.tester ≡ false }
+    ensures ordered { let farm = farm_met (met asked.entry.words.now
         (met_source S.Source stream.old stream.new) (met_shelf F.Shelf shelf.old shelf.new)
-        (met_tester T.Tester tester.old tester.new) (met_sink K.Sink out.old out.new)) result }
+        (met_tester ⟦<Recall<T> as Tester>⟧ tester.old tester.new)
+        (met_sink K.Sink out.old out.new))
+        (met_tester ⟦<Workshop<U, D> as Tester>⟧ shop.old shop.new)
+        (met_disk J.Disk disk.old disk.new) in
+        IsCarriedOut asked.entry.order farm
+        (tested_by ⟦<Recall<T> as Tester>⟧ (remembering tester.old tester.new.remembered))
+        tester.new.remembered result }
     ensures read { result ≡ Status.ReadFault → Rose (S.faults stream.old) (S.faults stream.new) }
     ensures file { result ≡ Status.ShelfFault → Rose (F.faults shelf.old) (F.faults shelf.new) }
     ensures write { result ≡ Status.WriteFault → Rose (K.faults out.old) (K.faults out.new) }
-    ensures unread { IsLeftUnless (ordered asked.entry.order (met asked.entry.words.now
+    ensures disk { result ≡ Status.JournalFault → Rose (J.faults disk.old) (J.faults disk.new) }
+    ensures grounds { let grounds = grounds_of shop.new.content in
+        HasGroundsOf (S.left stream.old) (U.answers shop.new.tester) grounds }
+    ensures unread { let farm = farm_met (met asked.entry.words.now
         (met_source S.Source stream.old stream.new) (met_shelf F.Shelf shelf.old shelf.new)
-        (met_tester T.Tester tester.old tester.new) (met_sink K.Sink out.old out.new))).reads
-        stream.old stream.new }
-    ensures unloaded { IsLeftUnless (ordered asked.entry.order (met asked.entry.words.now
+        (met_tester ⟦<Recall<T> as Tester>⟧ tester.old tester.new)
+        (met_sink K.Sink out.old out.new))
+        (met_tester ⟦<Workshop<U, D> as Tester>⟧ shop.old shop.new)
+        (met_disk J.Disk disk.old disk.new) in
+        IsLeftUnless (ordered asked.entry.order farm).reads stream.old stream.new }
+    ensures unloaded { let farm = farm_met (met asked.entry.words.now
         (met_source S.Source stream.old stream.new) (met_shelf F.Shelf shelf.old shelf.new)
-        (met_tester T.Tester tester.old tester.new) (met_sink K.Sink out.old out.new))).loads
-        shelf.old shelf.new }
-    ensures untested { IsUntestedIfRefused (met_tester T.Tester tester.old tester.new) result }
-    ensures is_split { T.is_split tester.new ≡ false }
+        (met_tester ⟦<Recall<T> as Tester>⟧ tester.old tester.new)
+        (met_sink K.Sink out.old out.new))
+        (met_tester ⟦<Workshop<U, D> as Tester>⟧ shop.old shop.new)
+        (met_disk J.Disk disk.old disk.new) in
+        IsLeftUnless (ordered asked.entry.order farm).loads shelf.old shelf.new }
+    ensures unfurnished { IsLeftUnless (furnishes asked.entry.order asked.entry.words.now)
+        shop.old shop.new }
+    ensures unkept { IsLeftUnless (keeps asked.entry.order asked.entry.words.now)
+        disk.old disk.new }
+    ensures untested { IsUntestedIfRefused
+        (met_tester ⟦<Recall<T> as Tester>⟧ tester.old tester.new) result }
+    ensures shop_untested { IsUntestedIfRefused
+        (met_tester ⟦<Workshop<U, D> as Tester>⟧ shop.old shop.new) result }
+    ensures is_split { T.is_split tester.new.inner ≡ false }
+    ensures shop_is_split { U.is_split shop.new.tester ≡ false }
 {
-    match asked.order {
-        None => bisect_main(rt, asked.alloc, asked.words, stream, shelf, tester, out),
-        Some(Order::Certify) => {
-            certify(rt, asked.alloc, asked.words, stream, shelf, tester, out)
-        }
-        Some(Order::Check) => check(asked.alloc, asked.words, stream, shelf, out),
+    let Asked {
+        alloc,
+        words,
+        order,
+    } = asked;
+    match order {
+        None => bisect_main(rt, alloc, words, stream, shelf, tester, out),
+        Some(Order::Certify) => certify(rt, alloc, words, stream, shelf, tester, out),
+        Some(Order::Check) => check(alloc, words, stream, shelf, out),
+        Some(Order::Checkout) => checkout(rt, alloc, words, stream, shelf, shop, out),
+        Some(Order::Journal) => journal(rt, alloc, words, stream, shelf, tester, disk, out),
+        Some(Order::Many) => many(rt, alloc, words, stream, shelf, out),
     }
 }

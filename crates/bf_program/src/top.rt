@@ -59,6 +59,7 @@ pub fn bisect_main<R: Host, S: Source, F: Shelf, T: Tester, K: Sink>(
     ensures read { result ≡ Status.ReadFault → Rose (S.faults stream.old) (S.faults stream.new) }
     ensures file { result ≡ Status.ShelfFault → Rose (F.faults shelf.old) (F.faults shelf.new) }
     ensures write { result ≡ Status.WriteFault → Rose (K.faults out.old) (K.faults out.new) }
+    ensures no_journal { result ≢ Status.JournalFault }
     ensures test { HasTestCauseBy words.now (met_tester T.Tester tester.old tester.new) result }
     ensures used { IsUsedBy words.now (met_tester T.Tester tester.old tester.new) }
     ensures unread { IsLeftUnless (reads (request words.now)) stream.old stream.new }
@@ -86,6 +87,7 @@ fn refuse_words<K: Sink>(alloc: Global, fault: WordFault, out: &mut K) -> Status
     ensures own { (result ≢ Status.ReadFault) × (result ≢ Status.ShelfFault) }
     ensures no_test { (place : ℕ) → result ≢ Status.TestFault place }
     ensures write { result ≡ Status.WriteFault → Rose (K.faults out.old) (K.faults out.new) }
+    ensures no_journal { result ≢ Status.JournalFault }
 {
     let WordFault::At { word } = fault else {
         return Status::NoMemory;
@@ -113,6 +115,7 @@ fn conclude<R: Host, T: Tester, K: Sink>(
     ensures own { IfOk ready (λ _. (result ≢ Status.ReadFault) × (result ≢ Status.ShelfFault)) }
     ensures test { HasTestCauseIn line.entry (met_tester T.Tester tester.old tester.new) result }
     ensures write { result ≡ Status.WriteFault → Rose (K.faults out.old) (K.faults out.new) }
+    ensures no_journal { result ≢ Status.JournalFault }
     ensures used { IsUsedIn line.entry (met_tester T.Tester tester.old tester.new) }
     ensures untested { IsUntestedIfRefused (met_tester T.Tester tester.old tester.new) result }
     ensures is_split { T.is_split tester.new ≡ false }

@@ -46,6 +46,7 @@ pub fn search<R: Host, T: Tester, K: Sink>(
     ensures test { HasTestCauseIn line.entry (met_tester T.Tester tester.old tester.new) result }
     ensures write { result ≡ Status.WriteFault → Rose (K.faults out.old) (K.faults out.new) }
     ensures own { (result ≢ Status.ReadFault) × (result ≢ Status.ShelfFault) }
+    ensures no_journal { result ≢ Status.JournalFault }
     ensures is_split { T.is_split tester.new ≡ false }
     ensures grounds { T.grounds tester.new ≡ T.grounds tester.old }
     ensures used { IsUsedIn line.entry (met_tester T.Tester tester.old tester.new) }

@@ -30,7 +30,10 @@ fn line_of(command: &[u8]) -> &'static str {
         b"certify" =>
             "the word simulate or run and the rest of its line, without --leg and --trace",
         b"check" => "check FILE",
-        _ => "the first word is simulate, run, next, replay, gen, sample, certify or check",
+        b"checkout" | b"journal" => "the word run and the rest of its line",
+        b"many" => "many N FILE, where N is 1 to 64",
+        _ =>
+            "the first word is simulate, run, next, replay, gen, sample, certify, check, checkout, journal or many",
     }
 }
 
@@ -42,13 +45,13 @@ fn text_at(words: &[Word], at: usize) -> &[u8] {
     }
 }
 
-/// The command whose line says what would be right at a word: behind `certify` the second one, but for the options
-/// that it refuses.
+/// The command whose line says what would be right at a word: behind one that stands before another the second one, but
+/// for the options that `certify` refuses.
 fn command_at(words: &[Word], word: usize) -> &[u8] {
     match (text_at(words, 0), text_at(words, word)) {
         _ if word == 0 => b"",
         (b"certify", b"--leg" | b"--trace") => b"certify",
-        (b"certify", _) if word > 1 => text_at(words, 1),
+        (b"certify" | b"checkout" | b"journal", _) if word > 1 => text_at(words, 1),
         (first, _) => first,
     }
 }

@@ -5,84 +5,60 @@
 ghost use Rattle.std.specs.Prelude.{◌≡◌, [], false};
 
 mod args;
+mod help;
 mod hint;
 
+use bf_checkout::{DirFolder, Folder, FolderTester, Workshop};
 use bf_farmed::farm_main;
+use bf_import::Content;
 use bf_io::{Sink, Source, StdSink, StdSource, Word};
+use bf_journal::{Disk, DiskFile};
 use bf_program::{Status, say};
+use bf_recall::Recall;
 use bf_shelf::{DirShelf, Shelf};
 use bf_tester::{ProcessTester, Tester};
-use std::alloc::Global;
+use help::{HELP, VERSION};
+use std::alloc::{AllocError, Global};
 use std::env::{self, VarError};
 use std::io;
 use std::process::{ExitCode, Processes, SystemProcess};
 use std::rt::Env;
-use std::sync::Wait;
+use std::sync::{Arc, Wait};
 use std::thread::Threads;
 
-const HELP: &[u8] = b"\
-farmdawn simulate [OPTION..] BAD GOOD.. PLAN < STREAM
-farmdawn run [OPTION..] BAD GOOD.. -- COMMAND.. < STREAM
-farmdawn next [OPTION..] BAD GOOD.. < STREAM
-farmdawn simulate [OPTION..] --replay FILE PLAN < STREAM
-farmdawn run [OPTION..] --replay FILE -- COMMAND.. < STREAM
-farmdawn next [OPTION..] --replay FILE < STREAM
-farmdawn replay --replay FILE < STREAM
-farmdawn gen NUMBER COUNT
-farmdawn sample [--workers N] NUMBER COUNT
-farmdawn certify simulate [OPTION..] BAD GOOD.. PLAN < STREAM
-farmdawn certify run [OPTION..] BAD GOOD.. -- COMMAND.. < STREAM
-farmdawn check FILE < STREAM
-
-simulate searches the history of a git fast-import stream for the first bad commit, as git bisect
-does, and prints the log and the answer. No test is run: PLAN says how each would end. run tests
-each commit by COMMAND, which gets the commit's name as its last word: status 0 is good, 1 to 124
-bad, 125 skips the commit, and any other ends the search. next prints the log so far and the commit
-that a search would test next. With --replay they go on from a log, and replay prints such a log in
-its normal form, and the commits that it knows. gen prints a stream of COUNT commits that NUMBER
-gives, and sample searches such a stream and prints a summary. certify searches as simulate and run
-do, without --leg and --trace, and prints, where the first bad commit was found, a certificate in
-place of log and answer: what is needed to check the answer without a test. check tells whether the
-certificate in FILE holds for the history of the stream.
-
-  BAD, GOOD         names of commits, as gitrevisions(7) has them: main, v1.0, main~3, 1a2b3c4
-  PLAN              a letter for each commit in the order of the stream: g good, b bad, s skip,
-                    a exit 128, k killed, n exit 127; commits past its end are skipped
-  --first-parent    follow first parents alone
-  --term-new T      the word for bad; --term-old T the word for good
-  --skip REV        a commit, or a range A..B, that is not to be tested; any number of times
-  --lenient-exit    take the statuses 126 and 127 of a test as bad
-  --replay FILE     go on from the log in a file, as git bisect log prints it
-  --workers N       test up to N commits at once, 1 to 64; log and answer are the same for every N
-  --leg K           write the lines so far after every K marks; log and answer are the same
-  --trace           print behind the answer what the workers did: claim, post and give
-
-The status is 0 where the first bad commit was found or the command did what it was asked, 1 where
-a word is wrong, 2 where only skipped commits are left, 3 where a merge base is bad, 4 where a good
-commit is no ancestor of the bad one, 5 where one commit is both, 6 where a test aborts the search,
-7 to 9 where the stream or a name is refused or a limit is passed, 10 where a log is refused, 11
-where a test cannot be made, 12 where the stream cannot be read, 13 where the output cannot be
-written, 14 where the file of a log cannot be read, 15 where memory runs out, 16 where there is no
-such file, 17 where an end is not known, and 20 where a certificate does not hold.
-";
-
-const VERSION: &[u8] = b"farmdawn 0.1.0\n";
+/// The file that `journal` keeps outcomes in.
+const JOURNAL: &str = "bisect.journal";
 
 // Runs the program over its devices. The bounds of `Host` are written out here.
-fn run<R, S: Source, F: Shelf, T: Tester, K: Sink>(
+fn run<R, S: Source, F: Shelf, T: Tester, U: FolderTester<D>, D: Folder, J: Disk, K: Sink>(
     rt: &R,
     words: &[Word],
     stream: &mut S,
     shelf: &mut F,
-    tester: &mut T,
+    tester: &mut Recall<T>,
+    shop: &mut Workshop<U, D>,
+    disk: &mut J,
     out: &mut K,
 ) -> Status
 where
     R: Threads + Wait + Processes<Started = SystemProcess> + Eprint + Sync + Alloc<A = Global>,
-    requires fresh { T.answers tester.old ≡ [] }
-    requires whole { T.is_split tester.old ≡ false }
+    requires fresh { tester.old.answers ≡ [] }
+    requires remembers { tester.old.remembered ≡ [] }
+    requires whole { T.is_split tester.old.inner ≡ false }
+    requires shop_fresh { U.answers shop.old.tester ≡ [] }
+    requires shop_whole { U.is_split shop.old.tester ≡ false }
 {
-    farm_main(rt, rt.alloc(), words, stream, shelf, tester, out)
+    farm_main(
+        rt,
+        rt.alloc(),
+        words,
+        stream,
+        shelf,
+        tester,
+        shop,
+        disk,
+        out,
+    )
 }
 
 /// A tester that starts commands. It tells of its tests on the standard error, unless the environment has
@@ -90,12 +66,18 @@ where
 fn tester_of<R: Env + Alloc<A = Global>>(rt: &R) -> ProcessTester
     ensures answers { ⟦<ProcessTester as Tester>⟧.answers result ≡ [] }
     ensures whole { ⟦<ProcessTester as Tester>⟧.is_split result ≡ false }
+    ensures is_lenient { ⟦<ProcessTester as Tester>⟧.is_lenient result ≡ false }
 {
     let tester = ProcessTester::new(rt.alloc());
     match env::var(rt, "FARMDAWN_QUIET") {
         Err(VarError::NotPresent) => tester,
         _ => tester.silent(),
     }
+}
+
+/// No commit and no file.
+fn nothing(alloc: Global) -> Result<Arc<Content>, AllocError> {
+    Ok(Arc::new(alloc, Content::empty(alloc)?)?)
 }
 
 fn main(rt: HostRuntime) -> ExitCode {
@@ -106,16 +88,34 @@ fn main(rt: HostRuntime) -> ExitCode {
             [word] if word.as_slice() == b"--version".as_slice() => {
                 say(&mut out, VERSION, Status::Done)
             }
-            words => {
-                let mut stream = StdSource::new(rt.reader());
-                let mut shelf = DirShelf::new(rt, rt.alloc());
-                let mut tester = tester_of(&rt);
-                let status = run(&rt, words, &mut stream, &mut shelf, &mut tester, &mut out);
-                if let Status::Usage { word } = status {
-                    hint::tell(&rt, words, word);
+            words => match (
+                DirFolder::new(rt, rt.alloc()),
+                nothing(rt.alloc()),
+                JOURNAL.to_string(rt.alloc()),
+            ) {
+                (Ok(folder), Ok(content), Ok(journal)) => {
+                    let mut stream = StdSource::new(rt.reader());
+                    let mut shelf = DirShelf::new(rt, rt.alloc());
+                    let mut tester = Recall::new(rt.alloc(), tester_of(&rt));
+                    let mut shop = Workshop::new(tester_of(&rt), folder, content);
+                    let mut disk = DiskFile::new(rt, journal);
+                    let status = run(
+                        &rt,
+                        words,
+                        &mut stream,
+                        &mut shelf,
+                        &mut tester,
+                        &mut shop,
+                        &mut disk,
+                        &mut out,
+                    );
+                    if let Status::Usage { word } = status {
+                        hint::tell(&rt, words, word);
+                    }
+                    status
                 }
-                status
-            }
+                _ => Status::NoMemory,
+            },
         },
         Err(_) => Status::NoMemory,
     };

@@ -1,15 +1,34 @@
 //! Calls of the program with all of its devices in memory.
-ghost use Rattle.std.specs.Prelude.{◌≡◌, [], false};
+ghost use Rattle.std.specs.Prelude.{◌≡◌, [], false, IfOk};
 
+use bf_checkout::{LookTester, MemFolder, Workshop};
 use bf_farmed::farm_main;
-use bf_io::{Bytes, PlainSink, PlainSource, Word};
+use bf_import::Content;
+use bf_io::{Bytes, PlainSink, PlainSource, Sink, Word};
+use bf_journal::MemDisk;
 use bf_output::Status;
+use bf_paths::read_path;
+use bf_recall::Recall;
 use bf_shelf::{PlainShelf, ShelfFile};
-use bf_tester::ScriptTester;
+use bf_tester::{FailRule, ScriptTester, Tester};
 use std::alloc::{AllocError, Global};
 use std::process::{Processes, SystemProcess};
-use std::sync::Wait;
+use std::sync::{Arc, Wait};
+use std::test::Fail;
 use std::thread::Threads;
+
+/// What a call is given beside its disk and its sink. Its tester finds commits from the fifth on bad, its workshop those
+/// that have the file `bug`, and its shelf has one file, named `file`.
+#[derive(Clone, Copy)]
+pub(crate) struct Call<'a> {
+    pub words: &'a [&'a [u8]],
+    pub stream: &'a [u8],
+    pub file: &'a [u8],
+    /// The rules by which tests fail.
+    pub rules: &'a [FailRule],
+    /// The calls of the folder that fail, counted from 1.
+    pub folder: &'a [u64],
+}
 
 /// Texts as words.
 fn words_of(alloc: Global, texts: &[&[u8]]) -> Result<Vec<Word>, AllocError> {
@@ -30,31 +49,95 @@ fn shelf_of(alloc: Global, file: &[u8]) -> Result<PlainShelf, AllocError> {
     Ok(PlainShelf::new(files))
 }
 
-/// What a call of the program tells: its status and its text. The tester finds commits from the fifth on bad, and the
-/// shelf has one file, named `file`.
-pub(crate) fn told<R>(
+/// A tester that remembers nothing so far, and finds commits from the fifth on bad.
+fn tester_of(alloc: Global, rules: &[FailRule]) -> Result<Recall<ScriptTester>, AllocError>
+    ensures answers { IfOk result (λ t. t.answers ≡ []) }
+    ensures remembered { IfOk result (λ t. t.remembered ≡ []) }
+    ensures whole { IfOk result (λ t. ⟦<ScriptTester as Tester>⟧.is_split t.inner ≡ false) }
+{
+    let tester = ScriptTester::new(alloc, b"ggggbbbb", rules.to_vec(alloc)?, None)?;
+    Ok(Recall::new(alloc, tester))
+}
+
+/// A workshop that looks for the file `bug`, in a folder that fails at these calls.
+fn shop_of(alloc: Global, fails: &[u64]) -> Result<Workshop<LookTester, MemFolder>, Fail>
+    ensures answers { IfOk result (λ s. ⟦<LookTester as Tester>⟧.answers s.tester ≡ []) }
+    ensures whole { IfOk result (λ s. ⟦<LookTester as Tester>⟧.is_split s.tester ≡ false) }
+{
+    let tester = LookTester::new(alloc, read_path(alloc, b"bug")?);
+    let folder = MemFolder::new(alloc, fails.to_vec(alloc)?);
+    Ok(Workshop::new(tester, folder, Arc::new(alloc, Content::empty(alloc)?)?))
+}
+
+/// A disk with these bytes, which stops after so many calls where a number is given.
+pub(crate) fn disk_of(
+    alloc: Global,
+    bytes: &[u8],
+    stop: Option<u64>,
+) -> Result<MemDisk, AllocError> {
+    Ok(MemDisk::new(Bytes::from_slice(alloc, bytes)?, Vec::new(alloc), stop))
+}
+
+/// The status of a call over a disk, which writes to a sink, and the workshop as the call leaves it.
+pub(crate) fn make_call<R, K: Sink>(
     rt: &R,
-    texts: &[&[u8]],
-    stream: &[u8],
-    file: &[u8],
-) -> Result<(Status, Bytes), AllocError>
+    call: Call<'_>,
+    disk: &mut MemDisk,
+    out: &mut K,
+) -> Result<(Status, Workshop<LookTester, MemFolder>), Fail>
 where
     R: Threads + Wait + Processes<Started = SystemProcess> + Eprint + Sync + Alloc<A = Global>,
 {
     let alloc = rt.alloc();
-    let words = words_of(alloc, texts)?;
-    let mut source = PlainSource::new(Bytes::from_slice(alloc, stream)?);
-    let mut shelf = shelf_of(alloc, file)?;
-    let mut tester = ScriptTester::new(alloc, b"ggggbbbb", Vec::new(alloc), None)?;
-    let mut out = PlainSink::new(alloc);
+    let words = words_of(alloc, call.words)?;
+    let mut stream = PlainSource::new(Bytes::from_slice(alloc, call.stream)?);
+    let mut shelf = shelf_of(alloc, call.file)?;
+    let mut tester = tester_of(alloc, call.rules)?;
+    let mut shop = shop_of(alloc, call.folder)?;
     let status = farm_main(
         rt,
         alloc,
         words.as_slice(),
-        &mut source,
+        &mut stream,
         &mut shelf,
         &mut tester,
-        &mut out,
+        &mut shop,
+        disk,
+        out,
     );
+    Ok((status, shop))
+}
+
+/// What a call over a disk tells: its status and its text.
+pub(crate) fn told_on<R>(
+    rt: &R,
+    given: Call<'_>,
+    disk: &mut MemDisk,
+) -> Result<(Status, Bytes), Fail>
+where
+    R: Threads + Wait + Processes<Started = SystemProcess> + Eprint + Sync + Alloc<A = Global>,
+{
+    let mut out = PlainSink::new(rt.alloc());
+    let (status, _shop) = make_call(rt, given, disk, &mut out)?;
     Ok((status, out.into_bytes()))
+}
+
+/// What a call over an empty disk tells, where nothing fails: its status and its text.
+pub(crate) fn told<R>(
+    rt: &R,
+    words: &[&[u8]],
+    stream: &[u8],
+    file: &[u8],
+) -> Result<(Status, Bytes), Fail>
+where
+    R: Threads + Wait + Processes<Started = SystemProcess> + Eprint + Sync + Alloc<A = Global>,
+{
+    let given = Call {
+        words,
+        stream,
+        file,
+        rules: &[],
+        folder: &[],
+    };
+    told_on(rt, given, &mut disk_of(rt.alloc(), &[], None)?)
 }

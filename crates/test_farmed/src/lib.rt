@@ -5,6 +5,10 @@
 #[cfg(test)]
 mod devices;
 #[cfg(test)]
+mod folders;
+#[cfg(test)]
+mod kept;
+#[cfg(test)]
 mod line;
 #[cfg(test)]
 mod rows;

@@ -1,6 +1,6 @@
 //! Each command through the top call, and words that are refused: a word is told by its index in the whole line.
 use crate::devices::told;
-use crate::line::{CERTIFICATE, EIGHT, FOUND, HOLDS};
+use crate::line::{CERTIFICATE, EIGHT, FOUND, HOLDS, SEARCHED, SEARCHES, SECOND_REFUSED};
 use bf_io::Bytes;
 use bf_output::Status;
 use std::process::Abort;
@@ -59,6 +59,36 @@ fn each_command_is_carried_out(rt: HostRuntime) -> Result<(), Fail> {
             file: b"certificate 1\nend\n",
             status: 20,
             text: b"certificate fails at line 2\n",
+        },
+        Row {
+            words: &[b"journal", b"run", b"main", b"main~7", b"--", b"t"],
+            file: b"",
+            status: 0,
+            text: FOUND,
+        },
+        Row {
+            words: &[b"many", b"4", b"file"],
+            file: SEARCHES,
+            status: 0,
+            text: SEARCHED,
+        },
+        Row {
+            words: &[b"many", b"1", b"file"],
+            file: b"main main~7 ggggbbbb\nmain none g\n",
+            status: 8,
+            text: SECOND_REFUSED,
+        },
+        Row {
+            words: &[b"many", b"64", b"file"],
+            file: b"main main~7 ggggbbbb\nmain\n",
+            status: 23,
+            text: b"list refused at line 2\n",
+        },
+        Row {
+            words: &[b"many", b"4", b"none"],
+            file: SEARCHES,
+            status: 16,
+            text: b"no such file\n",
         },
     ];
     for row in &rows {
@@ -128,6 +158,74 @@ fn words_are_told_by_their_index(rt: HostRuntime) -> Result<(), Fail> {
             file: b"",
             status: 1,
             text: b"usage fault at word 2\n",
+        },
+        Row {
+            words: &[b"checkout"],
+            file: b"",
+            status: 1,
+            text: b"usage fault at word 1\n",
+        },
+        Row {
+            words: &[b"checkout", b"simulate", b"main", b"main~7", b"g"],
+            file: b"",
+            status: 1,
+            text: b"usage fault at word 1\n",
+        },
+        Row {
+            words: &[b"checkout", b"run", b"--workers", b"65", b"main", b"main~7"],
+            file: b"",
+            status: 1,
+            text: b"usage fault at word 3\n",
+        },
+        Row {
+            words: &[b"checkout", b"run", b"main", b"maim", b"--", b"t"],
+            file: b"",
+            status: 8,
+            text: b"name refused at word 3: unknown\n",
+        },
+        Row {
+            words: &[b"journal", b"next", b"main", b"main~7"],
+            file: b"",
+            status: 1,
+            text: b"usage fault at word 1\n",
+        },
+        Row {
+            words: &[
+                b"journal", b"run", b"--leg", b"0", b"main", b"main~7", b"--", b"t",
+            ],
+            file: b"",
+            status: 1,
+            text: b"usage fault at word 3\n",
+        },
+        Row {
+            words: &[b"journal", b"run", b"maim", b"main~7", b"--", b"t"],
+            file: b"",
+            status: 8,
+            text: b"name refused at word 2: unknown\n",
+        },
+        Row {
+            words: &[b"many"],
+            file: b"",
+            status: 1,
+            text: b"usage fault at word 1\n",
+        },
+        Row {
+            words: &[b"many", b"65"],
+            file: b"",
+            status: 1,
+            text: b"usage fault at word 1\n",
+        },
+        Row {
+            words: &[b"many", b"4"],
+            file: b"",
+            status: 1,
+            text: b"usage fault at word 2\n",
+        },
+        Row {
+            words: &[b"many", b"4", b"file", b"file"],
+            file: b"",
+            status: 1,
+            text: b"usage fault at word 3\n",
         },
     ];
     for row in &rows {

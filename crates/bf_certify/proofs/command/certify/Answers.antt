@@ -1,7 +1,7 @@
 use Rattle.bf_answers.specs.Devices.{Met, met, met_shelf, met_sink, met_source, met_tester}
 use Rattle.bf_answers.proofs.Answering.{read_cause, shelf_cause}
 use Rattle.bf_answers.proofs.Complete.{complete}
-use Rattle.bf_answers.proofs.Saying.{caused_no_write, refused_said, said, test_said}
+use Rattle.bf_answers.proofs.Saying.{caused_no_write, no_journal_said, refused_said, said, test_said}
 use Rattle.bf_certify.specs.Certifying.{to_certify}
 use Rattle.bf_commands.specs.Orders.{request_to_certify}
 use Rattle.bf_output.specs.Output.{tests}
@@ -57,3 +57,9 @@ pub returns-clause-file : goal.returns-clause-file
 returns-clause-file g c =
     let met = met_in g c in
     shelf_cause (to_certify met) met c.say_tested.result (returns-clause-answers g c)
+
+pub returns-clause-no_journal : goal.returns-clause-no_journal
+returns-clause-no_journal g c =
+    let met = met_in g c in
+    no_journal_said (tests (request_to_certify c.args.words.now)) met.tester met.sink c.say_tested.result c.answer-answer.result
+    c.answer-answer.ensures.cause c.say_tested.ensures.told

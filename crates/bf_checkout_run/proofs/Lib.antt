@@ -1,0 +1,3 @@
+mod Words
+mod Furnishing
+mod Searched

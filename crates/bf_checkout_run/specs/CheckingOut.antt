@@ -1,0 +1,76 @@
+-- What a call of `checkout` asks for, and what its workshop tests in.
+use Rattle.std.specs.Prelude.{◌≡◌, ◌≢◌, ℕ, List, [], Option, Some, None, Result, Ok}
+use Rattle.bf_grammar.specs.Limits.{standard_limits}
+use Rattle.bf_history.specs.Contents.{Content, Furnishes}
+use Rattle.bf_history.specs.Meanings.{History}
+use Rattle.bf_shelf.specs.declared.shelf.ShelfFile.{ShelfFile}
+use Rattle.bf_tester.specs.declared.answer.Answer.{Answer as Answered}
+use Rattle.bf_tester.specs.Grounds.{Ground}
+use Rattle.bf_words.specs.declared.request.Request.{Request}
+use Rattle.bf_words.specs.declared.request.WordFault.{WordFault}
+use Rattle.bf_words.specs.declared.request.WordFault.TheVariants.{At, NoMemory}
+use Rattle.bf_output.specs.Refusals.{usage}
+use Rattle.bf_answers.specs.declared.answer.Answer.{Answer}
+use Rattle.bf_answers.specs.Tellings.{Says}
+use Rattle.bf_output.specs.Output.{IsOver, asks_file, given_to, reads, tests}
+use Rattle.bf_answers.specs.declared.line.Line.{Line}
+use Rattle.bf_answers.specs.declared.started.Ready.{Ready}
+use Rattle.bf_answers.specs.declared.started.Ready.TheVariants.{Search, Told}
+use Rattle.bf_answers.specs.Answers.{Command}
+use Rattle.bf_answers.specs.Devices.{Met, given_in}
+use Rattle.bf_answers.specs.Ready.{AllTold}
+use Rattle.bf_checkout.specs.Checkouts.{grounds_of}
+use Rattle.bf_commands.specs.declared.order.Order.TheVariants.{Checkout}
+use Rattle.bf_commands.specs.Checkout.{IsCheckedOut, IsCheckoutFor}
+use Rattle.bf_commands.specs.Orders.{request_of}
+
+-- ---- what the words ask for
+
+abbrev pub asked_by : List (List ℕ) → Result Request ℕ
+asked_by words = request_of Checkout words
+
+-- the command of words that ask for this
+abbrev pub checking_out : Result Request ℕ → Met → Command
+checking_out asked met = record {
+  Tells = IsCheckoutFor asked (given_in met) met.source.left;
+  reads = reads asked;
+  loads = asks_file asked;
+  tests = tests asked;
+}
+
+abbrev pub to_checkout : Met → Command
+to_checkout met = checking_out (asked_by met.words) met
+
+-- the answer of a line over the stream, or the search that is to be tested
+abbrev pub TellsCheckout : Line → Option (List ShelfFile) → Option (List ℕ) → Ready → Type 0
+TellsCheckout line files left ready =
+    AllTold line.request.now line.words.now ready (λ tested told.
+    IsCheckedOut line.request.now (given_to line.words.now files tested) left told)
+
+-- the same over a history
+abbrev pub TellsHistory : Line → Option (List ShelfFile) → History → Ready → Type 0
+TellsHistory line files history ready =
+    AllTold line.request.now line.words.now ready (λ tested told.
+    IsOver line.request.now (given_to line.words.now files tested) history told)
+
+-- the answer says which word is at fault
+abbrev pub TellsUsage : WordFault → Answer → Type 0
+TellsUsage (At word) answer = Says (usage word) answer
+TellsUsage NoMemory answer = ⊥
+
+-- ---- what the workshop tests in
+
+-- these are the trees and the files of a content that the stream loads, where it tells its bytes
+abbrev pub AreGroundsOf : Option (List ℕ) → List Ground → Type 0
+AreGroundsOf None grounds = Unit {0}
+AreGroundsOf (Some bytes) grounds =
+    (content : Content) × Furnishes bytes standard_limits (Ok content) × (grounds ≡ grounds_of content)
+
+-- so are those of a workshop that has answers
+abbrev pub HasGroundsOf : Option (List ℕ) → List Answered → List Ground → Type 0
+HasGroundsOf left answers grounds = answers ≢ [] → AreGroundsOf left grounds
+
+-- and those of a search that is to be tested
+abbrev pub IsFurnishedFor : Option (List ℕ) → List Ground → Ready → Type 0
+IsFurnishedFor left grounds (Told answer) = Unit {0}
+IsFurnishedFor left grounds (Search started) = AreGroundsOf left grounds

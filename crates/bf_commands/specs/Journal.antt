@@ -1,0 +1,157 @@
+-- The command `journal`: a run whose outcomes are kept in a file, leg by leg.
+use Rattle.std.specs.Prelude.{◌≡◌, ◌≢◌, ◌⊎◌, ℕ, max, Bool, List, [], ◌++◌, length, codes, Option, Some, None, IfSome, Result, Ok, Err}
+use Rattle.bf_history.specs.Meanings.{History}
+use Rattle.bf_io.specs.Causes.{Rose}
+use Rattle.bf_journal.specs.Identity.{run_identity}
+use Rattle.bf_journal.specs.Image.{table_in}
+use Rattle.bf_oid.specs.declared.object.Oid.{Oid}
+use Rattle.bf_runs.specs.Legs.{IsKnown}
+use Rattle.bf_search.specs.declared.entries.Entry.{Entry}
+use Rattle.bf_search.specs.declared.outcomes.Outcome.{Outcome}
+use Rattle.bf_search.specs.declared.outcomes.Verdict.TheVariants.{Abort}
+use Rattle.bf_search.specs.Outcomes.{outcomes_of_table, verdict_of}
+use Rattle.bf_search.specs.Run.{Run}
+use Rattle.bf_shelf.specs.declared.shelf.LoadFault.{LoadFault}
+use Rattle.bf_state.specs.Runs.{GoesOn}
+use Rattle.bf_tester.specs.Plans.{read_as}
+use Rattle.bf_words.specs.declared.request.Request.{Request}
+use Rattle.bf_output.specs.declared.status.Status.TheVariants as status
+use Rattle.bf_output.specs.Beginning.{Begun, begun_with_skips, log_on}
+use Rattle.bf_output.specs.Inputs.{IsFiled, IsStreamed}
+use Rattle.bf_output.specs.Output.{Given}
+use Rattle.bf_output.specs.Refusals.{usage}
+use Rattle.bf_output.specs.Tested.{Tested, IsFrontIfTold, IsTested, IsTestCut, IsTestLost, command_of, run_on}
+use Rattle.bf_output.specs.Told.{Told}
+use Rattle.bf_commands.specs.declared.order.Order.TheVariants as order
+use Rattle.bf_commands.specs.Orders.{request_of}
+
+-- what a call met of the disk that a journal is kept on
+pub record DiskMet : Type 1 where
+  pub before : Option (List ℕ)  -- the bytes that it had, where it tells them
+  pub may_leave : List ℕ → Type 0  -- the images that a crash may leave after the call
+  pub faults : ℕ  -- its count before the call
+  pub faults_now : ℕ
+
+abbrev pub HasDiskFailed : DiskMet → Type 0
+HasDiskFailed disk = Rose disk.faults disk.faults_now
+
+-- ---- the run that a journal is kept for
+
+-- its commits, how outcomes are read, and the words of its command
+abbrev pub identity_of : History → Request → List (List ℕ) → Oid
+identity_of history request words = record { 0 = run_identity history.names request.lenient (command_of request words) }
+
+-- what opening its journal gives: the outcomes that it kept, the identity of another run, or a fault of the disk
+pub data Opened : Type 0 where
+  Kept : List (Option Outcome) → Opened
+  Other : Oid → Opened
+  Failed : Opened
+
+-- by what the bytes stand for, where the disk tells them
+abbrev pub Opens : DiskMet → Oid → ℕ → Opened → Type 0
+Opens disk identity len (Kept outcomes) = IfSome disk.before (λ bytes. table_in identity len bytes ≡ Ok outcomes)
+Opens disk identity len (Other kept) = IfSome disk.before (λ bytes. table_in identity len bytes ≡ Err kept)
+Opens disk identity len Failed = HasDiskFailed disk
+
+-- ---- what is kept
+
+-- an outcome is kept as it is, or as one that is read as it
+abbrev pub IsKeptAs : Bool → Outcome → Outcome → Type 0
+IsKeptAs is_lenient kept outcome = (kept ≡ outcome) ⊎ (read_as is_lenient kept ≡ outcome)
+
+-- each outcome that is known, and that does not end the run, is kept
+abbrev pub KeepsAll : Bool → List (Option Outcome) → List (Option Outcome) → Type 0
+KeepsAll is_lenient kept known = (p : ℕ) (outcome : Outcome)
+    → outcomes_of_table known p ≡ Some outcome → verdict_of outcome ≢ Abort
+    → (found : Outcome) × (outcomes_of_table kept p ≡ Some found) × IsKeptAs is_lenient found outcome
+
+-- an image keeps them
+abbrev pub IsKeptIn : Oid → ℕ → Bool → List (Option Outcome) → List ℕ → Type 0
+IsKeptIn identity len is_lenient known image =
+    (kept : List (Option Outcome)) × (table_in identity len image ≡ Ok kept) × KeepsAll is_lenient kept known
+
+-- and so does each image that a crash may leave, where the disk tells its bytes
+abbrev pub AreImagesOf : DiskMet → Oid → ℕ → Bool → List (Option Outcome) → Type 0
+AreImagesOf disk identity len is_lenient known =
+    IfSome disk.before (λ _. (image : List ℕ) → disk.may_leave image → IsKeptIn identity len is_lenient known image)
+
+-- ---- what is told
+
+abbrev pub journal_refused : Oid → Told
+journal_refused kept = record { status = status.JournalRefused kept; text = codes "journal of another run\n" }
+
+-- what was written before, and the line that says so
+abbrev pub journal_fault : List ℕ → Told
+journal_fault written = record { status = status.JournalFault; text = written ++ codes "journal fault\n" }
+
+-- the lines of whole legs, which a run goes on from; or none of them
+abbrev pub IsLogFront : History → Begun → Run → List ℕ → Type 0
+IsLogFront history first run written =
+    (written ≡ []) ⊎ ((entries : List Entry) × GoesOn entries run.entries × (written ≡ log_on history first entries))
+
+-- the disk failed behind the lines of some legs, of a run on what the tester answered
+pub record IsJournalCut (disk : DiskMet) (tested : Tested) (history : History) (first : Begun) (table : List (Option Outcome)) (told : Told) : Type 0 where
+  pub failed : HasDiskFailed disk
+  pub known : IsKnown history.names tested.plan tested.answers table
+  pub planned : IsFrontIfTold tested.plan history first (run_on history first table)
+  pub written : List ℕ
+  pub front : IsLogFront history first (run_on history first table) written
+  pub tells : told ≡ journal_fault written
+
+-- a run as `run` tells it, or cut short by the disk; each outcome of it is in each image of the disk
+abbrev pub IsRunKept : DiskMet → Oid → Request → Tested → History → Begun → Told → Type 0
+IsRunKept disk identity request tested history first told =
+    ((is : IsTested request tested history first told) × AreImagesOf disk identity (length history.names) tested.is_lenient is.table)
+    ⊎ (((is : IsTestCut request tested history first told) × AreImagesOf disk identity (length history.names) tested.is_lenient is.table)
+    ⊎ (((is : IsTestLost tested.plan history first told) × AreImagesOf disk identity (length history.names) tested.is_lenient is.table)
+    ⊎ ((table : List (Option Outcome)) × IsJournalCut disk tested history first table told
+    × AreImagesOf disk identity (length history.names) tested.is_lenient table)))
+
+abbrev pub IsOpenedTold : Opened → DiskMet → Oid → Request → Tested → History → Begun → Told → Type 0
+IsOpenedTold (Kept outcomes) disk identity request tested history first told = IsRunKept disk identity request tested history first told
+IsOpenedTold (Other kept) disk identity request tested history first told = told ≡ journal_refused kept
+IsOpenedTold Failed disk identity request tested history first told = told ≡ journal_fault []
+
+-- the journal is opened once the search has begun
+abbrev pub IsJournalled : DiskMet → Request → List (List ℕ) → Tested → History → Begun → Told → Type 0
+IsJournalled disk request words tested history first told =
+    (opened : Opened)
+    × Opens disk (identity_of history request words) (length history.names) opened
+    × IsOpenedTold opened disk (identity_of history request words) request tested history first told
+
+-- ---- from the words on
+
+-- the legs have one mark each where the words do not give them more
+abbrev pub in_legs : Request → Request
+in_legs request = record request { leg = max request.leg 1 }
+
+abbrev pub with_legs : Result Request ℕ → Result Request ℕ
+with_legs (Err word) = Err word
+with_legs (Ok request) = Ok (in_legs request)
+
+abbrev pub request_to_journal : List (List ℕ) → Result Request ℕ
+request_to_journal words = with_legs (request_of order.Journal words)
+
+abbrev pub IsJournalFrom : DiskMet → Result Begun Told → Request → Given → History → Told → Type 0
+IsJournalFrom disk (Err refusal) request given history told = told ≡ refusal
+IsJournalFrom disk (Ok first) request given history told = IsJournalled disk request given.words given.tested history first told
+
+abbrev pub IsJournalBy : DiskMet → Request → Given → Option (Result (List ℕ) LoadFault) → History → Told → Type 0
+IsJournalBy disk request given file history told =
+    IsJournalFrom disk (begun_with_skips request given.words file history) request given history told
+
+-- behind the log that the words name, or without one
+abbrev pub IsJournalBehind : DiskMet → Option ℕ → Request → Given → History → Told → Type 0
+IsJournalBehind disk None request given history told = IsJournalBy disk request given None history told
+IsJournalBehind disk (Some i) request given history told =
+    IsFiled (λ file told. IsJournalBy disk request given (Some file) history told) given.words i given.files told
+
+abbrev pub IsJournalOver : DiskMet → Request → Given → History → Told → Type 0
+IsJournalOver disk request given history told = IsJournalBehind disk request.replay request given history told
+
+abbrev pub IsJournalFor : DiskMet → Result Request ℕ → Given → Option (List ℕ) → Told → Type 0
+IsJournalFor disk (Err word) given stream told = told ≡ usage word
+IsJournalFor disk (Ok request) given stream told = IsStreamed (IsJournalOver disk request given) stream told
+
+abbrev pub IsJournalOutput : DiskMet → Given → Option (List ℕ) → Told → Type 0
+IsJournalOutput disk given stream told = IsJournalFor disk (request_to_journal given.words) given stream told

@@ -1,0 +1,154 @@
+-- The command `many`: several searches over one history, each told as `simulate` tells it.
+use Rattle.std.specs.Prelude.{◌≡◌, ℕ, ◌+◌, Bool, true, ◌==◌, ◌||◌, if◌then◌else◌, List, [], ◌∷◌, ◌++◌, codes, is_some, map, length, nat_lt, Option, Some, None, Result, Ok, Err}
+use Rattle.std.specs.Fmt.{decimal}
+use Rattle.bf_history.specs.Meanings.{History}
+use Rattle.bf_reading.specs.Reading.{lines_of}
+use Rattle.bf_shelf.specs.declared.shelf.LoadFault.{LoadFault}
+use Rattle.bf_shelf.specs.declared.shelf.ShelfFile.{ShelfFile}
+use Rattle.bf_texts.specs.Texts.{text_line}
+use Rattle.bf_words.specs.declared.options.Choice.{Choice}
+use Rattle.bf_words.specs.declared.options.Choice.TheVariants.{Workers, Leg, Trace, Replay as ReplayOption}
+use Rattle.bf_words.specs.declared.options.Form.TheVariants.{Count}
+use Rattle.bf_words.specs.declared.request.Request.{Request}
+use Rattle.bf_words.specs.declared.verb.Verb.TheVariants.{Simulate}
+use Rattle.bf_words.specs.FirstOption.{first_option}
+use Rattle.bf_words.specs.Options.{count_of}
+use Rattle.bf_words.specs.Words.{first_of, request, word_at}
+use Rattle.bf_output.specs.declared.status.Status.{Status}
+use Rattle.bf_output.specs.declared.status.Status.TheVariants as status
+use Rattle.bf_output.specs.Beginning.{begun_with_skips}
+use Rattle.bf_output.specs.Inputs.{IsFiled, IsStreamed}
+use Rattle.bf_output.specs.Logs.{file_or_refusal}
+use Rattle.bf_output.specs.Refusals.{usage}
+use Rattle.bf_output.specs.Simulate.{plan_of, ran, run_over}
+use Rattle.bf_output.specs.Told.{Told, ◌>>=◌, told_by}
+use Rattle.bf_commands.specs.Orders.{wrong_count}
+
+unfoldable pub list_refused : ℕ → Told
+list_refused line = record {
+  status = status.ListRefused line;
+  text = text_line (codes "list refused at line " ++ decimal line);
+}
+
+-- ---- the words: how many workers there are, and the file
+
+-- how many workers a word gives, 1 to 64
+abbrev pub workers_of : List ℕ → Option ℕ
+workers_of word = count_of (Count 64) word
+
+-- the number of workers, where it is there and is none
+abbrev pub wrong_workers : List (List ℕ) → Option ℕ
+wrong_workers words = if nat_lt (length words) 2 || is_some (workers_of (word_at words 1)) then None else Some 1
+
+-- the number is tried first
+abbrev pub wrong_word : List (List ℕ) → Option ℕ
+wrong_word words = first_of (wrong_workers words ∷ wrong_count 3 words ∷ [])
+
+-- ---- the lines of the file
+
+abbrev pub with_byte : ℕ → List (List ℕ) → List (List ℕ)
+with_byte byte [] = (byte ∷ []) ∷ []
+with_byte byte (word ∷ words) = (byte ∷ word) ∷ words
+
+-- the words of a line, parted by single blanks
+unfoldable pub parted : List ℕ → List (List ℕ)
+parted [] = [] ∷ []
+parted (byte ∷ bytes) = if byte == 32 then [] ∷ parted bytes else with_byte byte (parted bytes)
+
+-- a line is read as one of `simulate`, without that word
+abbrev pub words_of_line : List ℕ → List (List ℕ)
+words_of_line line = codes "simulate" ∷ parted line
+
+abbrev pub searches_of : List ℕ → List (List (List ℕ))
+searches_of bytes = map words_of_line (lines_of bytes)
+
+-- options that a search among others has not
+abbrev pub options_of_one : List Choice
+options_of_one = Workers ∷ Leg ∷ Trace ∷ ReplayOption ∷ []
+
+-- whether these words ask for something that `simulate` alone may do
+abbrev pub asks_for_more : List (List ℕ) → Bool
+asks_for_more words = is_some (first_option Simulate options_of_one words)
+
+abbrev pub is_refused_as : Result Request ℕ → List (List ℕ) → Bool
+is_refused_as (Ok request) words = asks_for_more words
+is_refused_as (Err word) words = true
+
+abbrev pub is_refused : List (List ℕ) → Bool
+is_refused words = is_refused_as (request words) words
+
+-- there are at most 64 searches
+abbrev pub is_wrong_line : ℕ → List (List ℕ) → Bool
+is_wrong_line n words = n == 65 || is_refused words
+
+-- the number of the first line that is refused, or of the 65th
+unfoldable pub refused_from : ℕ → List (List (List ℕ)) → Option ℕ
+refused_from n [] = None
+refused_from n (words ∷ lines) = if is_wrong_line n words then Some n else refused_from (n + 1) lines
+
+-- ---- the searches
+
+abbrev pub searched_as : Request → List (List ℕ) → History → Result Told Told
+searched_as request words history =
+    begun_with_skips request words None history
+    >>= λ first. Ok (ran history first (run_over history first (plan_of request words)))
+
+abbrev pub searched_for : Result Request ℕ → List (List ℕ) → History → Told
+searched_for (Ok request) words history = told_by (searched_as request words history)
+searched_for (Err word) words history = usage word
+
+-- what `simulate` tells of the words of a line
+abbrev pub searched : History → List (List ℕ) → Told
+searched history words = searched_for (request words) words history
+
+unfoldable pub search_line : ℕ → List ℕ
+search_line n = text_line (codes "search " ++ decimal n)
+
+-- the texts of all searches, each behind its number
+unfoldable pub numbered : ℕ → List Told → List ℕ
+numbered n [] = []
+numbered n (told ∷ more) = search_line n ++ told.text ++ numbered (n + 1) more
+
+-- a status, or the next one where it is that of a search that was done
+abbrev pub or_status : Status → Status → Status
+or_status status.Done other = other
+or_status own other = own
+
+-- the first status that is not that of a search that was done
+unfoldable pub status_of_all : List Told → Status
+status_of_all [] = status.Done
+status_of_all (told ∷ more) = or_status told.status (status_of_all more)
+
+abbrev pub told_of_all : List Told → Told
+told_of_all tolds = record { status = status_of_all tolds; text = numbered 1 tolds }
+
+abbrev pub all_searched : History → List (List (List ℕ)) → Told
+all_searched history lines = told_of_all (map (searched history) lines)
+
+-- ---- the whole
+
+abbrev pub listed : History → List (List (List ℕ)) → Option ℕ → Told
+listed history lines (Some n) = list_refused n
+listed history lines None = all_searched history lines
+
+abbrev pub told_of_list : History → List ℕ → Told
+told_of_list history bytes = listed history (searches_of bytes) (refused_from 1 (searches_of bytes))
+
+abbrev pub listed_by : History → Result (List ℕ) Told → Told
+listed_by history (Ok bytes) = told_of_list history bytes
+listed_by history (Err refusal) = refusal
+
+abbrev pub told_of_file : History → Result (List ℕ) LoadFault → Told
+told_of_file history file = listed_by history (file_or_refusal file)
+
+-- the file that word 2 names, over a history
+abbrev pub IsListed : List (List ℕ) → Option (List ShelfFile) → History → Told → Type 0
+IsListed words files history told = IsFiled (λ file other. other ≡ told_of_file history file) words 2 files told
+
+abbrev pub IsManyFor : Option ℕ → List (List ℕ) → Option (List ShelfFile) → Option (List ℕ) → Told → Type 0
+IsManyFor (Some word) words files stream told = told ≡ usage word
+IsManyFor None words files stream told = IsStreamed (IsListed words files) stream told
+
+-- the words come first, then the stream to its end, and then the file
+abbrev pub IsManyOutput : List (List ℕ) → Option (List ShelfFile) → Option (List ℕ) → Told → Type 0
+IsManyOutput words files stream told = IsManyFor (wrong_word words) words files stream told

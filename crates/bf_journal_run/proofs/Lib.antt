@@ -1,0 +1,14 @@
+pub mod Asking
+pub mod Beginning
+pub mod Concluding
+pub mod Ending
+pub mod Growing
+pub mod Kept
+pub mod Keeping
+pub mod Lasting
+pub mod Leading
+pub mod Output
+pub mod Preparing
+pub mod Recalled
+pub mod Since
+pub mod Starting

@@ -1,0 +1,127 @@
+-- A run whose outcomes are kept, leg by leg.
+use Rattle.std.specs.Prelude.{◌≡◌, ℕ, List, [], ◌++◌, length, Option, Result, Ok, Err}
+use Rattle.bf_answers.specs.Devices.{SinkMet, TesterMet}
+use Rattle.bf_answers.specs.declared.answer.Answer.{Answer}
+use Rattle.bf_commands.specs.Journal.{AreImagesOf, DiskMet, IsJournalCut, KeepsAll, journal_fault}
+use Rattle.bf_farm.specs.declared.report.Report.{Report}
+use Rattle.bf_history.specs.Meanings.{History}
+use Rattle.bf_io.specs.Told.{Appends, AppendsFront}
+use Rattle.bf_journal.specs.declared.disk.Disk.{Ghosts}
+use Rattle.bf_journal.specs.Journal.{Keeping}
+use Rattle.bf_output.specs.Beginning.{Begun}
+use Rattle.bf_output.specs.Tested.{Tested, IsTested, IsTestCut, IsTestLost}
+use Rattle.bf_output.specs.Told.{Told}
+use Rattle.bf_runs.specs.declared.case.Search.{Search as Searched}
+use Rattle.bf_runs.specs.Legs.{IsKnown}
+use Rattle.bf_search.specs.declared.outcomes.Outcome.{Outcome}
+use Rattle.bf_searches.specs.declared.legs.Gone.{Gone}
+use Rattle.bf_searches.specs.declared.legs.Gone.TheVariants.{On, Over}
+use Rattle.bf_searches.specs.declared.legs.Running.{Running}
+use Rattle.bf_searches.specs.declared.telling.Telling.{Telling}
+use Rattle.bf_searches.specs.Searching.{IsRunning, LeadsOnWith, LeadsOverWith}
+use Rattle.bf_searches.specs.Telling.{AddsLegEvents, AddsLegLines, LearnsEntries}
+use Rattle.bf_tester.specs.declared.answer.Answer.{Answer as Answered}
+use Rattle.bf_words.specs.declared.request.Request.{Request}
+use Rattle.bf_journal_run.specs.declared.cut.Cut.{Cut}
+use Rattle.bf_journal_run.specs.declared.cut.Cut.TheVariants.{Journal, Output, NoMemory}
+use Rattle.bf_journal_run.specs.Kept.{KeepsSince, answers_of}
+
+-- what a call met of its disk, by the ghost members of its type
+abbrev pub met_disk : {J : Type 0} → Ghosts J → J → J → DiskMet
+met_disk by before after = record {
+  before = by.told before;
+  may_leave = by.may_leave after;
+  faults = by.faults before;
+  faults_now = by.faults after;
+}
+
+-- A run has come so far, and the journal keeps what is known by then: of each place what it kept when it was opened, which the
+-- tester remembers, or else what was tested.
+pub record IsKeptRun (search : Searched) (request : Request) (tested : Tested) (remembered : List Answered) (opened : List (Option Outcome))
+    (first : Begun) (written : List ℕ) (kept : List (Option Outcome)) (running : Running) : Type 0 where
+  pub leg : request.leg ≡ search.leg
+  pub workers : request.workers ≡ search.workers
+  pub so_far : IsRunning request tested search.history.now first written running
+  pub long : length search.history.now.names ≡ length opened
+  pub remembers : remembered ≡ answers_of search.history.now.names opened
+  pub since : KeepsSince opened running.standing.table kept
+  pub all : KeepsAll tested.is_lenient kept running.standing.table
+
+-- A leg was told: its lines and its events behind what was told before, and where it leads.
+pub record IsToldLeg (history : History) (before : Telling) (report : Report) (gone : Gone) : Type 0 where
+  pub told : Telling
+  pub text : AddsLegLines history report before told
+  pub known : LearnsEntries report.entries.items before told
+  pub trace : AddsLegEvents history report before told
+  pub on : LeadsOnWith told report gone
+  pub over : LeadsOverWith history told report gone
+
+-- a leg leads to the next one, or to the end of the run; or it was cut short
+abbrev pub IsLedKept : Searched → Request → TesterMet → List Answered → List (Option Outcome) → Begun → List ℕ → List (Option Outcome)
+    → List (Option Outcome) → Result Gone Cut → Type 0
+IsLedKept search request tester remembered opened first written kept known (Ok (On running)) =
+    IsKeptRun search request tester.after remembered opened first written kept running
+IsLedKept search request tester remembered opened first written kept known (Ok (Over answer)) =
+    (is : IsTested request tester.after search.history.now first (record { status = answer.status; text = written ++ answer.text }))
+    × KeepsAll tester.after.is_lenient kept is.table
+IsLedKept search request tester remembered opened first written kept known (Err Journal) =
+    IsKnown search.history.now.names tester.after.plan tester.after.answers known
+IsLedKept search request tester remembered opened first written kept known (Err Output) = ⊥
+IsLedKept search request tester remembered opened first written kept known (Err NoMemory) = Unit {0}
+
+-- whatever search the run is of
+abbrev pub LeadsKeptOn : Searched → Running → TesterMet → List Answered → List Answered → Keeping → Keeping → Result Gone Cut → Type 0
+LeadsKeptOn search running tester before after old new result =
+    (request : Request) (opened : List (Option Outcome)) (first : Begun) (written : List ℕ)
+    → IsKeptRun search request tester.before before opened first written old.kept running
+    → IsLedKept search request tester after opened first written new.kept running.standing.table result
+
+-- ---- from the first leg to the end
+
+-- what was written and this answer are what a kept run tells
+pub record IsToldKept (images : List (Option Outcome) → Type 0) (request : Request) (tested : Tested) (history : History) (first : Begun)
+    (before after : Option (List ℕ)) (answer : Answer) : Type 0 where
+  pub written : List ℕ
+  pub gained : Appends before after written
+  pub is : IsTested request tested history first (record { status = answer.status; text = written ++ answer.text })
+  pub kept : images is.table
+
+-- a run that the disk cut short, behind the lines of its legs
+pub record IsCutByDisk (images : List (Option Outcome) → Type 0) (disk : DiskMet) (tested : Tested) (history : History) (first : Begun)
+    (before after : Option (List ℕ)) : Type 0 where
+  pub table : List (Option Outcome)
+  pub written : List ℕ
+  pub gained : Appends before after written
+  pub is : IsJournalCut disk tested history first table (journal_fault written)
+  pub kept : images table
+
+-- one that a write cut short, and one that want of memory did: a front of its log was written
+pub record IsCutByWrite (images : List (Option Outcome) → Type 0) (request : Request) (tested : Tested) (history : History) (first : Begun)
+    (before after : Option (List ℕ)) : Type 0 where
+  pub told : Told
+  pub is : IsTestCut request tested history first told
+  pub front : AppendsFront before after told.text
+  pub kept : images is.table
+
+pub record IsCutByMemory (images : List (Option Outcome) → Type 0) (tested : Tested) (history : History) (first : Begun)
+    (before after : Option (List ℕ)) : Type 0 where
+  pub told : Told
+  pub is : IsTestLost tested.plan history first told
+  pub front : AppendsFront before after told.text
+  pub kept : images is.table
+
+-- what a kept run tells, or what it wrote before it was cut short
+abbrev pub IsEndedKept : (List (Option Outcome) → Type 0) → DiskMet → Request → Tested → History → Begun → Option (List ℕ) → Option (List ℕ)
+    → Result Answer Cut → Type 0
+IsEndedKept images disk request tested history first before after (Ok answer) = IsToldKept images request tested history first before after answer
+IsEndedKept images disk request tested history first before after (Err Journal) = IsCutByDisk images disk tested history first before after
+IsEndedKept images disk request tested history first before after (Err Output) = IsCutByWrite images request tested history first before after
+IsEndedKept images disk request tested history first before after (Err NoMemory) = IsCutByMemory images tested history first before after
+
+-- whatever search the run is of
+abbrev pub EndsKept : Searched → Running → TesterMet → List Answered → Keeping → DiskMet → SinkMet → Result Answer Cut → Type 0
+EndsKept search running tester remembered journal disk sink result =
+    (request : Request) (opened : List (Option Outcome)) (first : Begun)
+    → IsKeptRun search request tester.before remembered opened first [] journal.kept running
+    → IsEndedKept (AreImagesOf disk journal.identity (length journal.kept) tester.after.is_lenient) disk request tester.after search.history.now first
+    sink.before sink.after result

@@ -1,0 +1,6 @@
+pub mod Parting
+pub mod Listing
+pub mod Grouping
+pub mod Sharing
+pub mod Telling
+pub mod Joining

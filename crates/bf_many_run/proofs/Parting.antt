@@ -1,0 +1,29 @@
+-- The words of a line.
+use Rattle.std.proofs.Common.{◌≡◌, ℕ, false, ◌==◌, List, [], ◌∷◌, ◌++◌, refl, sym, ap, ◌∙◌, append_assoc}
+use Rattle.std.proofs.lemmas.Bool.{cond-false, or_parts}
+use Rattle.std.specs.List.{list_any}
+use Rattle.bf_commands.specs.Many.{parted, with_byte}
+
+-- the word in front of a blank
+pub word_in_front : (word rest : List ℕ) → list_any (λ b. b == 32) word ≡ false → parted (word ++ 32 ∷ rest) ≡ word ∷ parted rest
+unfolding parted
+word_in_front [] rest h = refl
+word_in_front (b ∷ bs) rest h =
+    let parts = or_parts (b == 32) (list_any (λ b. b == 32) bs) h in
+    cond-false (b == 32) ([] ∷ parted (bs ++ 32 ∷ rest)) (with_byte b (parted (bs ++ 32 ∷ rest))) parts.0
+    ∙ ap (with_byte b) (word_in_front bs rest parts.1)
+
+-- a line without one is one word
+pub only_word : (text : List ℕ) → list_any (λ b. b == 32) text ≡ false → parted text ≡ text ∷ []
+unfolding parted
+only_word [] h = refl
+only_word (b ∷ bs) h =
+    let parts = or_parts (b == 32) (list_any (λ b. b == 32) bs) h in
+    cond-false (b == 32) ([] ∷ parted bs) (with_byte b (parted bs)) parts.0
+    ∙ ap (with_byte b) (only_word bs parts.1)
+
+-- one word more of those so far, and those from here on
+pub one_more : {X : Type 0} (front rest : List X) (x : X) (whole now : List X) → whole ≡ front ++ x ∷ rest → now ≡ front ++ x ∷ []
+    → whole ≡ now ++ rest
+one_more front rest x whole now is pushed =
+    is ∙ sym (append_assoc front (x ∷ []) rest) ∙ ap (λ (l : List _). l ++ rest) (sym pushed)

@@ -1,0 +1,5 @@
+pub mod Command
+pub mod Tells
+pub mod Lists
+pub mod Texts
+pub mod Groups
