@@ -114,14 +114,12 @@ make_line() {
     done
 }
 
-# No process runs on whose words have the sleep of this run.
-nothing_sleeps() { expect 'no test runs on' [ -z "$(pgrep -f "$long_sleep")" ]; }
-
-# Nothing of a test runs on after six seconds.
-soon_nothing_sleeps() {
+# No process runs on whose words have the sleep of this run. One that was sent a signal may be seen for a moment longer, and
+# what ends by itself for six seconds.
+nothing_sleeps() {
     turns=0
     while [ -n "$(pgrep -f "$long_sleep")" ] && [ $turns -lt 60 ]; do turns=$((turns + 1)) && sleep 0.1; done
-    nothing_sleeps
+    expect 'no test runs on' [ -z "$(pgrep -f "$long_sleep")" ]
 }
 
 # Nothing of a run is left: no worktree but the main one, no folder of a run, no process of a test.

@@ -195,7 +195,7 @@ test_killed() {
     until [ -e .git/farmdawn/began ]; do expect 'the test runs' kill -0 $! && sleep 0.05; done
     kill -KILL $!
     wait $! 2>/dev/null
-    soon_nothing_sleeps
+    nothing_sleeps
     expect 'the next test has the commit' [ "$(farmdawn-worktree -- sh -c 'cat content; git rev-parse HEAD' "$commit")" = "2
 $commit" ]
 }
@@ -211,7 +211,7 @@ test_parents() {
         until [ -e .git/farmdawn/began ]; do expect 'the test runs' kill -0 $! && sleep 0.05; done
         kill -KILL $!
         wait $! 2>/dev/null
-        soon_nothing_sleeps
+        nothing_sleeps
     done
 }
 
@@ -414,7 +414,7 @@ test_program_killed() {
     sleep 0.5
     kill -KILL $!
     wait $! 2>/dev/null
-    soon_nothing_sleeps
+    nothing_sleeps
 }
 
 # What the pages say of signed tags and commits: where a plain export fails, and where it gives commits other names.
