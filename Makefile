@@ -3,10 +3,13 @@
 # make install PREFIX=FOLDER: proves and builds the program, and puts it into FOLDER/bin, with the scripts, their manual
 #   pages and the shells' completions
 # make uninstall PREFIX=FOLDER: removes what was installed
+# make dist: packs the program that make install or make test built, PROGRAM, into DIST, for machines without the kit
 # make test: every proof, must-fail edit, test and program of this checkout
 # make check: the tests of the scripts
 # make bench: what the programs cost, at small sizes (benches/bench.py has the others)
 PREFIX ?= /usr/local
+PROGRAM ?= crates/farmdawn/out/farmdawn
+DIST ?= dist
 
 SCRIPTS = git-farmdawn farmdawn-worktree farmdawn-srun farmdawn-ssh
 # what a script starts for itself, and has no page
@@ -17,7 +20,7 @@ BASH_COMPLETIONS = $(DESTDIR)$(PREFIX)/share/bash-completion/completions
 ZSH_COMPLETIONS = $(DESTDIR)$(PREFIX)/share/zsh/site-functions
 FISH_COMPLETIONS = $(DESTDIR)$(PREFIX)/share/fish/vendor_completions.d
 
-.PHONY: demo install install-scripts uninstall test check bench
+.PHONY: demo install install-scripts uninstall dist test check bench
 demo:
 	cd crates/farmdawn && rt try --data test.sh=../../demo/test.sh --data broken=../../demo/broken -- \
 		run --workers 4 main v1.0 -- sh test.sh < ../../demo/stream
@@ -40,6 +43,9 @@ uninstall:
 	for name in farmdawn git-farmdawn; do \
 		rm -f "$(BASH_COMPLETIONS)/$$name" "$(ZSH_COMPLETIONS)/_$$name" "$(FISH_COMPLETIONS)/$$name.fish"; \
 	done
+
+dist:
+	sh packaging/make-dist "$(PROGRAM)" "$(DIST)"
 
 test:
 	bash .ci/run

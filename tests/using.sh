@@ -48,6 +48,9 @@ install_built() {
     mkdir -p shim
     {
         echo '#!/bin/sh'
+        # shellcheck disable=SC2016
+        echo 'case $1 in install) ;; dist) set -- "$@" PROGRAM="'"$farmdawn"'" ;; esac'
+        # shellcheck disable=SC2016
         echo 'case $1 in install) ;; *) exec '"$(command -v make)"' "$@" ;; esac'
         echo "make=$(command -v make)"
         # shellcheck disable=SC2016
@@ -69,11 +72,11 @@ run_block() {
     done
 }
 
-# The blocks that install and make the practice repository are always run, and behind them those that need this; where
+# The blocks that install, pack and make the practice repository are always run, and behind them those that need this; where
 # nothing is named, those that need neither ccache nor Slurm.
 is_wanted() {
     case ${1##*/}:$2 in
-    0[12]:*) ;;
+    0[123]:*) ;;
     *:) ! grep -qw -e ccache -e slurm "$1/needs" ;;
     *) grep -qw "$2" "$1/needs" ;;
     esac
