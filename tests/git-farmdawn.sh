@@ -56,6 +56,61 @@ test_merges() {
     agree main topic1 topic3
 }
 
+# Commits that change some paths alone, beside git bisect with the same paths; tests/paths.py has random ones.
+needs_paths() { needs_all; }
+test_paths() {
+    make_line 2 9
+    mkdir -p in/side || exit 1
+    for number in 1 2 3 4 5 6 7 8 9; do
+        echo $number >content
+        [ $((number % 2)) = 0 ] || echo $number >in/odd
+        [ $((number % 3)) != 0 ] || echo $number >in/side/third
+        [ $number -lt 5 ] || echo bug >bug
+        git add -A && git commit -q -m "then $number" || exit 1
+    done
+    ask() { answer_of git farmdawn --workers 2 "$@" main main~9 -- sh -c "cd \"\$(git rev-parse --show-toplevel)\" && $command"; }
+    expect 'a file' [ "$(ask --path in/odd)" = "$(first_bad main~4)" ]
+    expect 'as git bisect run has it' [ "$(first_bad "$(git_answer main main~9 -- in/odd)")" = "$(first_bad main~4)" ]
+    expect 'a folder of another' [ "$(ask --path in/side/)" = "$(first_bad main~3)" ]
+    expect 'no other commit is tested' [ "$(grep -c ': testing' told)" -le 3 ]
+    expect 'both' [ "$(ask --path in/side --path in/odd)" = "$(first_bad main~4)" ]
+    cd in/side || exit 1
+    expect 'from a folder' [ "$(ask --path third)" = "$(first_bad main~3)" ]
+    expect 'beside it' [ "$(ask --path ../odd)" = "$(first_bad main~4)" ]
+    expect 'by a full name' [ "$(ask --path "$PWD/../side")" = "$(first_bad main~3)" ]
+    expect 'itself' [ "$(ask --path .)" = "$(first_bad main~3)" ]
+    for way in '--path ../odd --path .' '--path third' ''; do
+        # shellcheck disable=SC2086
+        git farmdawn --log-dir "../../../logs/$(echo "$way" | tr / _)" $way main main~9 -- sh -c 'test ! -e ../../bug' >log 2>told
+    done
+    cd ../.. || exit 1
+    expect 'outcomes are kept for all paths' [ -z "$(find ../logs -name '*.log' | sed 's|.*/||' | sort | uniq -d)" ]
+    git farmdawn --path in/odd main~3 main~9 -- sh -c "$command" >log
+    expect 'git takes the log' sh -c 'git bisect replay log | grep -q "is the first bad commit"'
+    git bisect reset >/dev/null 2>&1
+    expect 'the bad end is what is left' [ "$(answer_of git farmdawn --path in/side main~4 main~9 -- sh -c "$command")" = "$(first_bad main~4)" ]
+    expect 'which is told' grep -q "none of the commits that change these paths is bad, and $(git rev-parse main~4) changes none of them" told
+    nothing_left
+}
+
+# What cannot be searched by is named, and nothing is tested.
+needs_wrong_paths() { needs_all; }
+test_wrong_paths() {
+    make_line 4 2
+    mkdir inner || exit 1
+    for path in '' nowhere .. ../elsewhere /etc inner/../../x 'con*' ':(top)content' ':/content' "'content'" '-x' 'two
+lines'; do
+        git farmdawn --path "$path" main main~3 -- touch ../tested >log 2>told
+        expect "no path: $path" [ $? -eq 1 ]
+        expect 'it is named' grep -qF -e "--path ${path%%[
+]*}" told
+    done
+    expect 'nothing was tested' [ ! -e ../tested ]
+    git rm -q bug && git commit -q -m 'without' && git commit -q --allow-empty -m last || exit 1
+    expect 'one that is no more' [ "$(answer_of git farmdawn --path bug main main~5 -- test -e bug)" = "$(first_bad main~1)" ]
+    nothing_left
+}
+
 needs_unrelated_good() { needs_all; }
 test_unrelated_good() {
     make_line 10 6
@@ -771,7 +826,7 @@ test_interrupts() {
 }
 
 by_clock='logs_and_limits lost_follower warnings'
-[ $# -gt 0 ] || set -- line merges unrelated_good terms encodings signed signed_by_gpg sha256 shallow part_of_many submodules \
+[ $# -gt 0 ] || set -- line merges paths wrong_paths unrelated_good terms encodings signed signed_by_gpg sha256 shallow part_of_many submodules \
     places words folders_and_scripts tracked_files links_of_commits torn_outcomes foreign_folders environment bash_environment \
     left_by_tests odd_words odd_paths lost_output full_disk many_skips few_programs stops warnings hanging log_limit prune tools \
     logs_and_limits lost_follower lost_log wrong_words going_on dead_runs check_ends interrupts

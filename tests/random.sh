@@ -1,6 +1,6 @@
 #!/bin/sh
-# A few rounds of the tests by random numbers: hostile input, repositories, folders of commits, lists of searches, and runs
-# that are killed. Their own pages say how more are run, and beside which programs.
+# A few rounds of the tests by random numbers: hostile input, repositories, these by path, folders of commits, lists of
+# searches, and runs that are killed. Their own pages say how more are run, and beside which programs.
 . "$(dirname "$0")/helpers.sh"
 
 needs_hostile() { has python3 && has_program; }
@@ -8,6 +8,9 @@ test_hostile() { expect 'hostile input' python3 "$top/tests/hostile.py" --count 
 
 needs_repositories() { has python3 git flock setsid && has_program; }
 test_repositories() { FARMDAWN=$farmdawn expect 'repositories' python3 "$top/tests/repositories.py" --count 10; }
+
+needs_paths() { needs_repositories; }
+test_paths() { FARMDAWN=$farmdawn expect 'repositories by path' python3 "$top/tests/paths.py" --count 24 --jobs 2; }
 
 needs_folders() { has python3 git && has_program; }
 test_folders() { FARMDAWN=$farmdawn expect 'folders of commits' python3 "$top/tests/folders.py" --count 3; }
@@ -18,5 +21,5 @@ test_lists() { FARMDAWN=$farmdawn expect 'lists of searches' python3 "$top/tests
 needs_crashes() { has python3 && has_program; }
 test_crashes() { FARMDAWN=$farmdawn expect 'runs that are killed' python3 "$top/tests/crashes.py" --kills 9; }
 
-[ $# -gt 0 ] || set -- hostile repositories folders lists crashes
+[ $# -gt 0 ] || set -- hostile repositories paths folders lists crashes
 run_tests "$@"

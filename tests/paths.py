@@ -1,0 +1,205 @@
+#!/usr/bin/env python3
+"""Random repositories searched by path: git farmdawn --path beside git bisect start BAD GOOD -- PATH and git bisect run.
+
+Usage: tests/paths.py [--seed S] [--count N] [--from N] [--jobs N]
+
+The repositories are those of tests/repositories.py, with some files that commits change now and then, and that merges take
+from one side, from the other or from none. The paths are files and folders of these, with odd names among them, and the
+line is given at the top or in a folder.
+
+Only commits that git lists for these paths, the bad end and merge bases are tested; where the outcomes are kept, the same line
+without --path has the answer that it has without them. And the first bad commit is that of git bisect run. What differs is told
+with its reason, which is looked for in this order:
+
+bad end: no commit that changes the paths is bad. git has no answer then, and git farmdawn names the bad end and says so.
+anew: git simplifies merges again from the marks that it has, and so tested a commit that its first list had not.
+both right: each answer is bad, and no commit that changes the paths is left between it and the good ones of its own log; that
+may be so of several commits where the verdicts are not plain, or come by a commit that changes none of the paths.
+
+Where the verdicts are bad from one commit on, and that one changes the paths, no difference is right but anew.
+"""
+import argparse
+import collections
+import os
+import random
+import re
+import shutil
+import subprocess
+import sys
+import tempfile
+from concurrent.futures import ThreadPoolExecutor
+
+from repositories import CALM, Question, call, git, put_file, random_parents, random_question, read_answer, read_log, verdicts
+
+NAMES = ["a", "in/b", "in/deep/c d", "in/ümläut", "-x", "*", "in/[a]", ":(top)q", "it's \"so\"", "back\\slash"]
+UNCHANGED = "changes none of them; the same line without --path"
+
+
+def quoted(path):
+    """A path in a stream of git fast-import."""
+    return '"' + path.replace("\\", "\\\\").replace('"', '\\"') + '"'
+
+
+def random_files(choice, names, parents):
+    """The files of a commit by those of its parents."""
+    files = dict(choice.choice(parents)) if parents else {}
+    for name in {name for parent in parents for name in parent}:
+        if len(parents) > 1 and choice.random() < 0.3:
+            files[name] = choice.choice([parent.get(name, "gone") for parent in parents])
+    for name in names:
+        if choice.random() < (0.15 if len(parents) > 1 else 0.35):
+            files[name] = choice.choice("1234")
+    return {name: text for name, text in files.items() if text != "gone" and choice.random() < 0.97}
+
+
+def make_repository(choice, folder):
+    """A repository with a ref c0, c1, .. on each commit; the commits' names, the verdicts, whether these are plain, the paths."""
+    parents = random_parents(choice, choice.randrange(3, 26))
+    statuses, plain = verdicts(choice, parents)
+    names, files, text, rising = choice.sample(NAMES, 3), [], [], choice.random() < 0.7
+    for number, named in enumerate(parents):
+        files.append(random_files(choice, names, [files[parent] for parent in named]))
+        date = 1700000000 + (number * 60 if rising else choice.randrange(100000))
+        text.append(f"reset refs/heads/c{number}\n\ncommit refs/heads/c{number}\nmark :{number + 1}\ncommitter gen <gen@gen> {date} +0000\ndata <<END\nchange {number}\nEND\n")
+        text += [f"{'merge' if index else 'from'} :{parent + 1}\n" for index, parent in enumerate(named)]
+        text.append("deleteall\n" + put_file("verdict", f"{statuses[number]}\n") + put_file("in/number", f"{number}\n"))
+        text += [put_file(quoted(name), content) for name, content in sorted(files[-1].items())]
+    call(".", "git", "init", "-q", "-b", "main", folder)
+    call(folder, "git", "fast-import", "--quiet", stdin="".join(text).encode())
+    call(folder, "git", "checkout", "-q", f"c{choice.randrange(len(parents))}")
+    paths = choice.sample(names, choice.choice([1, 1, 2]))
+    paths = [choice.choice(["in", "in/deep"]) if path.startswith("in/deep") and choice.random() < 0.5 else path for path in paths]
+    return git(folder, "rev-parse", *(f"c{number}" for number in range(len(parents)))), statuses, plain, paths
+
+
+Said = collections.namedtuple("Said", "status answer marks told")
+
+
+def by_tool(choice, folder, question, paths, *words):
+    inside = "in" if choice.random() < 0.4 else "."
+    options = [word for path in paths for word in ("--path", os.path.relpath(path, inside))]
+    done = subprocess.run(["git", "farmdawn", "--workers", "2", *question.options, *options, *words, question.bad, *question.goods, "--", "sh", "-c",
+                           'exit $(cat "$(git rev-parse --show-toplevel)/verdict")'], cwd=os.path.join(folder, inside), env=CALM, capture_output=True)
+    text = done.stdout.decode()
+    return Said(done.returncode, read_answer(text), read_log(text, question.terms), done.stderr.decode()), text
+
+
+def by_git(folder, question, paths):
+    literal = [f":(literal){path}" for path in paths]
+    status, text = call(folder, "git", "bisect", "start", *question.options, question.bad, *question.goods, "--", *literal)
+    for _ in range(20):
+        if status == 0 and not read_answer(text):
+            status, more = call(folder, "git", "bisect", "run", "sh", "-c", "exit $(cat verdict)")
+            text += more
+    log = call(folder, "git", "bisect", "log")[1]
+    call(folder, "git", "bisect", "reset")
+    return Said(status, read_answer(text), read_log(log, question.terms), "")
+
+
+def listed(folder, question, paths, bad, goods):
+    """The commits that git lists for the paths."""
+    return git(folder, "rev-list", *(option for option in question.options if option == "--first-parent"), bad, *(f"^{good}" for good in goods), "--",
+               *(f":(literal){path}" for path in paths))
+
+
+def is_right(folder, question, paths, said):
+    """Whether the answer is bad, and no commit that changes the paths is left below it."""
+    goods = [name for term, name in said.marks if term == question.terms[1]]
+    return (question.terms[0], said.answer) in said.marks and listed(folder, question, paths, said.answer, goods) in ([said.answer], [])
+
+
+def faults(folder, question, paths, tool):
+    """What is wrong by itself in what git farmdawn did."""
+    bases = git(folder, "merge-base", "--all", question.bad, *question.goods)
+    first = listed(folder, question, paths, question.bad, [*question.goods, *bases])
+    tested = {name for _, name in tool.marks}.difference([question.bad, *question.goods])
+    if not tested <= {*first, *bases}:
+        yield "it tested a commit that changes none of the paths"
+    if (UNCHANGED in tool.told) != (tool.answer == question.bad and question.bad not in first):
+        yield "it told of the bad end where it must not, or the other way round"
+    if isinstance(tool.answer, str) and tool.answer != question.bad and not is_right(folder, question, paths, tool):
+        yield "its answer does not follow from its log"
+
+
+def against_git(folder, question, paths, tool, theirs, changes):
+    """How the answer of git bisect run stands to ours."""
+    bases = git(folder, "merge-base", "--all", question.bad, *question.goods)
+    first = [*listed(folder, question, paths, question.bad, [*question.goods, *bases]), question.bad, *question.goods, *bases]
+    if tool.answer == theirs.answer:
+        return "same answer" if tool.answer else "no answer in both"
+    if UNCHANGED in tool.told and theirs.answer is None:
+        return "bad end"
+    if not {name for _, name in theirs.marks} <= set(first):
+        return "anew"
+    if question.plain and changes:
+        return "DIFFERENT"
+    if all(isinstance(said.answer, str) for said in (tool, theirs)) and is_right(folder, question, paths, tool) and is_right(folder, question, paths, theirs):
+        return "both right"
+    if 128 in (tool.status, theirs.status) or tool.status == 6:
+        return "one of them met a test that stops the search"
+    if any(isinstance(said.answer, frozenset) for said in (tool, theirs)):
+        return "only skipped commits left in one of them"
+    return "one of them met a bad merge base" if tool.status == 3 or theirs.status == 3 else "DIFFERENT"
+
+
+def last_bad(question, said):
+    return [name for term, name in said.marks if term == question.terms[0]][-1:]
+
+
+def replayed(folder, text, question):
+    """The commit that git comes to by the log. It cannot begin where no commit changes the paths."""
+    log = os.path.join(os.path.dirname(folder), "log")
+    with open(log, "w") as file:
+        file.write(text)
+    call(folder, "git", "bisect", "replay", log)
+    found = git(folder, "rev-parse", f"refs/bisect/{question.terms[0]}")
+    call(folder, "git", "bisect", "reset")
+    return found
+
+
+def try_one(number, arguments):
+    choice = random.Random(f"paths {arguments.seed} {number}")
+    work = tempfile.mkdtemp()
+    folder = os.path.join(work, "repository")
+    try:
+        names, statuses, plain, paths = make_repository(choice, folder)
+        question = random_question(choice, names, plain, "verdict")._replace(skips=[])
+        question = question._replace(plain=plain)
+        known = [path for path in paths if git(folder, "rev-list", "-1", "--full-history", question.bad, *question.goods, "--", f":(literal){path}")]
+        tool, text = by_tool(choice, folder, question, paths)
+        if known != paths:
+            wrong = [] if (tool.status, text) == (1, "") and "no commit has this path" in tool.told else ["a path that no commit has is not told"]
+            return number, question, paths, tool, None, wrong, "refused"
+        theirs = by_git(folder, question, paths)
+        wrong = list(faults(folder, question, paths, tool))
+        culprits = [name for name, status in zip(names, statuses) if status and not any(
+            statuses[names.index(parent)] for parent in git(folder, "rev-list", "--parents", "-n", "1", name)[1:])]
+        changes = plain and all(name in listed(folder, question, paths, question.bad, question.goods) for name in culprits)
+        beside = against_git(folder, question, paths, tool, theirs, changes)
+        if tool.status in (0, 2) and beside != "bad end" and replayed(folder, text, question) != last_bad(question, tool):
+            wrong.append("git comes to another commit by the log")
+        return number, question, paths, tool, theirs, wrong, beside
+    finally:
+        shutil.rmtree(work, ignore_errors=True)
+
+
+def main():
+    parser = argparse.ArgumentParser(usage=__doc__)
+    for option, default in (("--seed", 1), ("--count", 50), ("--from", 0), ("--jobs", 1)):
+        parser.add_argument(option, type=int, default=default, dest=option.strip("-").replace("from", "first"))
+    arguments = parser.parse_args()
+    counts, failures = collections.Counter(), 0
+    with ThreadPoolExecutor(arguments.jobs) as pool:
+        numbers = range(arguments.first, arguments.first + arguments.count)
+        for number, question, paths, tool, theirs, wrong, beside in pool.map(lambda n: try_one(n, arguments), numbers):
+            counts[beside] += 1
+            if wrong or beside not in ("same answer", "no answer in both", "refused", "bad end", "both right"):
+                print(f"{number}: {beside} {wrong}: {question} {paths}\n  git farmdawn {tool}\n  git bisect run {theirs}", flush=True)
+            failures += bool(wrong) or beside == "DIFFERENT"
+    print(", ".join(f"{key}: {count}" for key, count in sorted(counts.items())))
+    print(f"{arguments.count} repositories: {arguments.count - failures} right, {failures} wrong")
+    sys.exit(1 if failures else 0)
+
+
+if __name__ == "__main__":
+    main()
