@@ -791,7 +791,7 @@ test_lost_log() {
 needs_wrong_words() { needs_all; }
 test_wrong_words() {
     make_line 3 1
-    for words in '--workers 0' '--workers 65' '--workers x' '--workers 01' '--timeout 0' '--timeout -1' '--nothing' '--skip nowhere' '--copy nowhere' '--term-new nowhere --term-old nowhere'; do
+    for words in '--workers 0' '--workers 65' '--workers x' '--workers 01' '--timeout 0' '--timeout -1' '--nothing' '--skip nowhere' '--copy nowhere' '--path nowhere' '--term-new nowhere --term-old nowhere'; do
         # shellcheck disable=SC2086
         expect "a fault: $words" sh -c '! git farmdawn "$@" main main~2 -- touch ../tested >out 2>err' sh $words
         expect 'nothing on standard output' [ ! -s out ]
