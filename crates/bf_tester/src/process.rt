@@ -4,6 +4,7 @@ ghost use Rattle.bf_search.specs.declared.outcomes.Outcome.{Outcome};
 ghost use Rattle.bf_tester.specs.declared.answer.Answer.{Answer};
 ghost use Rattle.bf_tester.specs.Grounds.{Ground};
 ghost use Rattle.bf_tester.specs.Looks.{SawRaised};
+ghost use Rattle.bf_tester.specs.Replies.{DropsByOneLook};
 ghost use Rattle.bf_tester.specs.Shown.{ShowsSame};
 ghost use Rattle.bf_tester.specs.Tests.{NotesReply, HasCauseOf, KeepsManner, KeepsFaults, AreOfOneKind, tested_after, tested_by};
 
@@ -53,6 +54,7 @@ impl ProcessTester {
         ensures answers { ⟦<ProcessTester as Tester>⟧.answers result ≡ [] }
         ensures command { ⟦<ProcessTester as Tester>⟧.command result ≡ [] }
         ensures faults { ⟦<ProcessTester as Tester>⟧.faults result ≡ 0 }
+        ensures failed { ⟦<ProcessTester as Tester>⟧.failed result ≡ None }
         ensures is_split { ⟦<ProcessTester as Tester>⟧.is_split result ≡ false }
         ensures is_lenient { ⟦<ProcessTester as Tester>⟧.is_lenient result ≡ false }
         ensures tested { tested_by result ≡ [] }
@@ -98,6 +100,7 @@ impl ProcessTester {
     ) -> TestReply
         ensures noted { NotesReply ⟦<ProcessTester as Tester>⟧ self.old self.new place name result }
         ensures tested { tested_by self.new ≡ tested_after result (tested_by self.old) place tree }
+        ensures looked { DropsByOneLook stop.old stop.new result }
         ensures dropped { result ≡ TestReply.Dropped → SawRaised stop.new }
         ensures bare { stop.new.bare ≡ stop.old.bare }
         ensures cause { HasCauseOf ⟦<ProcessTester as Tester>⟧ self.old self.new result }
@@ -167,8 +170,7 @@ impl ProcessTester {
     ) -> TestReply
         ensures noted { NotesReply ⟦<ProcessTester as Tester>⟧ self.old self.new place name result }
         ensures tested { self.new.tested ≡ self.old.tested }
-        ensures dropped { result ≡ TestReply.Dropped → SawRaised stop.new }
-        ensures bare { stop.new.bare ≡ stop.old.bare }
+        ensures looked { DropsByOneLook stop.old stop.new result }
         ensures cause { HasCauseOf ⟦<ProcessTester as Tester>⟧ self.old self.new result }
         ensures manner { KeepsManner ⟦<ProcessTester as Tester>⟧ self.old self.new }
     {
@@ -291,24 +293,20 @@ impl Tester for ProcessTester {
 
     /// Looks at the flag once, and is dropped exactly where that look finds it raised. A command that
     /// cannot be started or waited for fails.
-    fn test<R: Host>(
-        &mut self,
-        rt: &R,
-        place: u32,
-        name: Oid,
-        stop: &mut StopView<'_>,
-    ) -> TestReply {
+    fn test<R: Host>(&mut self, rt: &R, place: u32, name: Oid, stop: &mut StopView<'_>) -> TestReply
+        ensures looked { DropsByOneLook stop.old stop.new result }
+        ensures noted { NotesReply ⟦<ProcessTester as Tester>⟧ self.old self.new place name result }
+        ensures cause { HasCauseOf ⟦<ProcessTester as Tester>⟧ self.old self.new result }
+        ensures manner { KeepsManner ⟦<ProcessTester as Tester>⟧ self.old self.new }
+    {
         self.test_in_folder(rt, place, name, None, stop)
     }
 
     fn split(&self) -> Result<ProcessTester, AllocError> {
         Ok(ProcessTester {
-            alloc: self.alloc,
             notes: self.notes.split()?,
-            tested: Vec::new(self.alloc),
-            faults: 0,
-            failed: None,
             is_silent: self.is_silent,
+            ..ProcessTester::new(self.alloc)
         })
     }
 
