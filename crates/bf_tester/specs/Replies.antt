@@ -1,5 +1,6 @@
 -- What a reply to a test says of the tester.
 use Rattle.std.specs.Prelude.{◌≡◌, ℕ, Bool, true, false, ◌||◌, List, [], ◌∷◌, ◌++◌, Option, Some, None}
+use Rattle.bf_io.specs.Causes.{raised}
 use Rattle.bf_oid.specs.declared.object.Oid.{Oid}
 use Rattle.bf_search.specs.declared.outcomes.Outcome.{Outcome}
 use Rattle.bf_search.specs.Outcomes.{planned}
@@ -60,8 +61,9 @@ is_failed (Done outcome) = false
 is_failed Dropped = false
 is_failed NoMemory = false
 
--- one look at the flag decides whether a request is dropped
+-- one look at the flag was made, and decides whether a request is dropped
 pub record DropsByOneLook (before after : Look) (reply : TestReply) : Type 0 where
+  pub looked : after.looks ≡ raised before.looks
   pub seen : after.seen ≡ (before.seen || is_dropped reply)
   pub bare : after.bare ≡ before.bare
   pub quiet : before.bare ≡ true → is_dropped reply ≡ false

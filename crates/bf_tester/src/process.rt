@@ -4,6 +4,7 @@ ghost use Rattle.bf_search.specs.declared.outcomes.Outcome.{Outcome};
 ghost use Rattle.bf_tester.specs.declared.answer.Answer.{Answer};
 ghost use Rattle.bf_tester.specs.Grounds.{Ground};
 ghost use Rattle.bf_tester.specs.Looks.{SawRaised};
+ghost use Rattle.bf_tester.specs.Replies.{DropsByOneLook, is_dropped};
 ghost use Rattle.bf_tester.specs.Shown.{ShowsSame};
 ghost use Rattle.bf_tester.specs.Tests.{NotesReply, HasCauseOf, KeepsManner, KeepsFaults, AreOfOneKind, tested_after, tested_by};
 
@@ -53,6 +54,7 @@ impl ProcessTester {
         ensures answers { ⟦<ProcessTester as Tester>⟧.answers result ≡ [] }
         ensures command { ⟦<ProcessTester as Tester>⟧.command result ≡ [] }
         ensures faults { ⟦<ProcessTester as Tester>⟧.faults result ≡ 0 }
+        ensures failed { ⟦<ProcessTester as Tester>⟧.failed result ≡ None }
         ensures is_split { ⟦<ProcessTester as Tester>⟧.is_split result ≡ false }
         ensures is_lenient { ⟦<ProcessTester as Tester>⟧.is_lenient result ≡ false }
         ensures tested { tested_by result ≡ [] }
@@ -98,16 +100,20 @@ impl ProcessTester {
     ) -> TestReply
         ensures noted { NotesReply ⟦<ProcessTester as Tester>⟧ self.old self.new place name result }
         ensures tested { tested_by self.new ≡ tested_after result (tested_by self.old) place tree }
+        ensures looked { DropsByOneLook stop.old stop.new result }
         ensures dropped { result ≡ TestReply.Dropped → SawRaised stop.new }
         ensures bare { stop.new.bare ≡ stop.old.bare }
         ensures cause { HasCauseOf ⟦<ProcessTester as Tester>⟧ self.old self.new result }
         ensures manner { KeepsManner ⟦<ProcessTester as Tester>⟧ self.old self.new }
     {
+        if stop.raised() {
+            return TestReply::Dropped;
+        }
         // Room first, so that a test is noted with its tree or not at all.
         if self.tested.reserve(1).is_err() {
             return TestReply::NoMemory;
         }
-        let reply = self.test_in_folder(rt, place, name, Some(folder), stop);
+        let reply = self.test_on(rt, place, name, Some(folder));
         if let TestReply::Done(_) = reply {
             self.tested.push_reserved(Tested { place, tree });
         }
@@ -155,26 +161,21 @@ impl ProcessTester {
         }
     }
 
-    /// Looks at the flag once, and is dropped exactly where that look finds it raised. A command that
-    /// cannot be started or waited for fails.
-    fn test_in_folder<R: Processes + Eprint>(
+    /// Tests the commit of this name, in a folder where one is given. A command that cannot be started or
+    /// waited for fails.
+    fn test_on<R: Processes + Eprint>(
         &mut self,
         rt: &R,
         place: u32,
         name: Oid,
         folder: Option<&[u8]>,
-        stop: &mut StopView<'_>,
     ) -> TestReply
         ensures noted { NotesReply ⟦<ProcessTester as Tester>⟧ self.old self.new place name result }
         ensures tested { self.new.tested ≡ self.old.tested }
-        ensures dropped { result ≡ TestReply.Dropped → SawRaised stop.new }
-        ensures bare { stop.new.bare ≡ stop.old.bare }
+        ensures undropped { is_dropped result ≡ false }
         ensures cause { HasCauseOf ⟦<ProcessTester as Tester>⟧ self.old self.new result }
         ensures manner { KeepsManner ⟦<ProcessTester as Tester>⟧ self.old self.new }
     {
-        if stop.raised() {
-            return TestReply::Dropped;
-        }
         match self.run_on(rt, name, folder) {
             Ok(outcome) => {
                 let outcome = read(self.notes.is_lenient(), outcome);
@@ -291,24 +292,23 @@ impl Tester for ProcessTester {
 
     /// Looks at the flag once, and is dropped exactly where that look finds it raised. A command that
     /// cannot be started or waited for fails.
-    fn test<R: Host>(
-        &mut self,
-        rt: &R,
-        place: u32,
-        name: Oid,
-        stop: &mut StopView<'_>,
-    ) -> TestReply {
-        self.test_in_folder(rt, place, name, None, stop)
+    fn test<R: Host>(&mut self, rt: &R, place: u32, name: Oid, stop: &mut StopView<'_>) -> TestReply
+        ensures looked { DropsByOneLook stop.old stop.new result }
+        ensures noted { NotesReply ⟦<ProcessTester as Tester>⟧ self.old self.new place name result }
+        ensures cause { HasCauseOf ⟦<ProcessTester as Tester>⟧ self.old self.new result }
+        ensures manner { KeepsManner ⟦<ProcessTester as Tester>⟧ self.old self.new }
+    {
+        if stop.raised() {
+            return TestReply::Dropped;
+        }
+        self.test_on(rt, place, name, None)
     }
 
     fn split(&self) -> Result<ProcessTester, AllocError> {
         Ok(ProcessTester {
-            alloc: self.alloc,
             notes: self.notes.split()?,
-            tested: Vec::new(self.alloc),
-            faults: 0,
-            failed: None,
             is_silent: self.is_silent,
+            ..ProcessTester::new(self.alloc)
         })
     }
 
