@@ -63,6 +63,15 @@ fn right_at(words: &[Word], word: usize) -> &'static str {
     value.unwrap_or_else(|| line_of(command_at(words, word)))
 }
 
+/// Says on the standard error which argument is no text, by the number of its word. Where it cannot be written nothing
+/// is said.
+pub(crate) fn tell_no_text<R: Eprint>(rt: &R, argument: usize) {
+    let _ = match argument.checked_sub(1) {
+        Some(word) => eprintln!(rt; "farmdawn: word {word} is not UTF-8, and each word must be"),
+        None => eprintln!(rt; "farmdawn: its own name, by which it was started, is not UTF-8"),
+    };
+}
+
 /// Says on the standard error which word is at fault, what would be right there, and where more is told. Where it
 /// cannot be written nothing is said.
 pub(crate) fn tell<R: Eprint>(rt: &R, words: &[Word], word: u32) {

@@ -7,6 +7,7 @@ ghost use Rattle.std.specs.Prelude.{◌≡◌, [], false};
 mod args;
 mod help;
 mod hint;
+mod noted;
 
 use bf_checkout::{DirFolder, Folder, FolderTester, Workshop};
 use bf_farmed::farm_main;
@@ -18,6 +19,7 @@ use bf_recall::Recall;
 use bf_shelf::{DirShelf, Shelf};
 use bf_tester::{ProcessTester, Tester};
 use help::{HELP, VERSION};
+use noted::{LastErrors, Noted};
 use std::alloc::{AllocError, Global};
 use std::env::{self, VarError};
 use std::io;
@@ -81,9 +83,10 @@ fn nothing(alloc: Global) -> Result<Arc<Content>, AllocError> {
 }
 
 fn main(rt: HostRuntime) -> ExitCode {
-    let mut out = StdSink::new(io::writer(&rt));
-    let status = match args::words(&rt) {
-        Ok(words) => match words.as_slice() {
+    let errors = LastErrors::new();
+    let mut out = StdSink::new(Noted::new(io::writer(&rt), &errors.output));
+    let status = match args::read(&rt) {
+        Ok(line) => match line.words.as_slice() {
             [word] if word.as_slice() == b"--help".as_slice() => say(&mut out, HELP, Status::Done),
             [word] if word.as_slice() == b"--version".as_slice() => {
                 say(&mut out, VERSION, Status::Done)
@@ -94,8 +97,8 @@ fn main(rt: HostRuntime) -> ExitCode {
                 JOURNAL.to_string(rt.alloc()),
             ) {
                 (Ok(folder), Ok(content), Ok(journal)) => {
-                    let mut stream = StdSource::new(rt.reader());
-                    let mut shelf = DirShelf::new(rt, rt.alloc());
+                    let mut stream = StdSource::new(Noted::new(rt.reader(), &errors.input));
+                    let mut shelf = DirShelf::new(Noted::new(rt, &errors.files), rt.alloc());
                     let mut tester = Recall::new(rt.alloc(), tester_of(&rt));
                     let mut shop = Workshop::new(tester_of(&rt), folder, content);
                     let mut disk = DiskFile::new(rt, journal);
@@ -109,8 +112,12 @@ fn main(rt: HostRuntime) -> ExitCode {
                         &mut disk,
                         &mut out,
                     );
-                    if let Status::Usage { word } = status {
-                        hint::tell(&rt, words, word);
+                    match (status, line.no_text) {
+                        (Status::Usage { .. }, Some(argument)) => {
+                            hint::tell_no_text(&rt, argument)
+                        }
+                        (Status::Usage { word }, None) => hint::tell(&rt, words, word),
+                        _ => {}
                     }
                     status
                 }
@@ -119,5 +126,6 @@ fn main(rt: HostRuntime) -> ExitCode {
         },
         Err(_) => Status::NoMemory,
     };
+    errors.tell(&rt, status);
     ExitCode::from(status.number())
 }
