@@ -41,7 +41,7 @@ use Rattle.bf_output.specs.Simulate.{IsRunTold, IsSimulated, plan_of, ran, run_o
 use Rattle.bf_output.specs.declared.status.Status.TheVariants as status
 use Rattle.bf_output.specs.Tested.{Tested, IsTested, IsFrontIfTold, run_on, told_of_run}
 use Rattle.bf_output.specs.Traces.{course_of, traced_if}
-use Rattle.bf_output.proofs.Unused.{none_used, same_end}
+use Rattle.bf_output.proofs.Unused.{no_leg, none_used, same_end}
 use Rattle.bf_output.specs.Told.{Told, told_by}
 
 pub one_loading : (bytes : List ℕ) (limits : Limits) (one other : Result History ImportFault) → Loads bytes limits one → Loads bytes limits other → one ≡ other
@@ -150,6 +150,7 @@ nothing_tested request tested history first none = record {
       whole = refl;
       last = failed_leads (setting_of (course_of request history first) first.search) (nothing history) (run_on history first (nothing history)).end
           (same_end history.parents (outcomes_of_table (nothing history)) (none_known (length history.parents)) first.search request.leg);
+      ended = no_leg history.parents (outcomes_of_table (nothing history)) (none_known (length history.parents)) first.search request.leg;
     };
     is = refl;
     known = record {

@@ -1,10 +1,10 @@
 -- A run that knows no outcome uses none, and ends in the same way whatever its legs are.
-use Rattle.std.proofs.Common.{◌≡◌, ℕ, zero, suc, List, [], length, Option, Some, None, refl, sym, ap, ◌∙◌}
+use Rattle.std.proofs.Common.{◌≡◌, ◌≢◌, ℕ, zero, suc, List, [], length, Option, Some, None, refl, sym, ap, ◌∙◌}
 use Rattle.bf_search.specs.declared.asks.Ask.{Ask}
 use Rattle.bf_search.specs.declared.asks.Ask.TheVariants.{WaitBoth, WaitBad, WaitGood, Test, MergeBaseBad, GoodNotAncestor, BothSides, FirstBad, OnlySkipped}
 use Rattle.bf_search.specs.declared.outcomes.Outcome.{Outcome}
 use Rattle.bf_search.specs.Outcomes.{Outcomes}
-use Rattle.bf_search.specs.Run.{Run, after_look, after_step, turn, run_within, run, one_at_a_time}
+use Rattle.bf_search.specs.Run.{Leg, Run, after_look, after_step, turn, run_within, run, one_at_a_time}
 use Rattle.bf_search.specs.State.{Search, ask}
 
 module _ (graph : List (List ℕ)) (known : Outcomes) (none : (p : ℕ) → known p ≡ None) where
@@ -55,3 +55,20 @@ module _ (graph : List (List ℕ)) (known : Outcomes) (none : (p : ℕ) → know
   unfolding run
   same_end s zero = refl
   same_end s (suc k) = end_in_turns (length graph) k s
+
+  end_is_no_leg : (go : Option ℕ → Search → Run) (left : Option ℕ) (s : Search) (a : Ask) → (after_step known go left s a).end ≢ Leg
+  end_is_no_leg go left s (Test p) = λ e. cc (sym (ap (λ (o : Option Outcome). (after_look known go left s p o).end) (none p)) ∙ e)
+  end_is_no_leg go left s (FirstBad p) = λ e. cc
+  end_is_no_leg go left s (OnlySkipped ps) = λ e. cc
+  end_is_no_leg go left s (MergeBaseBad p) = λ e. cc
+  end_is_no_leg go left s (GoodNotAncestor p) = λ e. cc
+  end_is_no_leg go left s (BothSides p) = λ e. cc
+  end_is_no_leg go left s WaitBoth = λ e. cc
+  end_is_no_leg go left s WaitBad = λ e. cc
+  end_is_no_leg go left s WaitGood = λ e. cc
+
+  -- it makes no mark, and so it does not end with its leg
+  pub no_leg : (s : Search) (k : ℕ) → (one_at_a_time graph s known k).end ≢ Leg
+  unfolding run_within run
+  no_leg s zero = end_is_no_leg (run_within (length graph) graph known) None (ask graph s).search (ask graph s).step.ask
+  no_leg s (suc k) = end_is_no_leg (run_within (length graph) graph known) (Some (suc k)) (ask graph s).search (ask graph s).step.ask

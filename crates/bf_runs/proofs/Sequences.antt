@@ -391,7 +391,7 @@ module _ (course : Course) (told : Option (List Outcome)) (before after : List A
     over = λ whole so_far between other.
         let is = ends_with course h.sorted so_far stand report.table h.over between.reached between.goes_on keeps.part (not_leg other) in
         record {
-          are = record { stand = stand; whole = between.legs; last = h.history };
+          are = record { stand = stand; whole = between.legs; last = h.history; ended = not_leg other };
           is = is;
           known = known;
           alone = alone whole so_far between []

@@ -72,11 +72,13 @@ pub record Legs : Type 0 where
 abbrev pub all_of : Legs → List (List Event)
 all_of legs = legs.whole ++ legs.last ∷ []
 
--- the legs are legal from the first to the last, which leads to this table
+-- The legs are legal from the first to the last, which leads to this table. The last one did not end after its marks: behind
+-- such a leg comes another, though it may have no event.
 pub record AreLegs (course : Course) (legs : Legs) (table : List (Option Outcome)) : Type 0 where
   pub stand : Stand
   pub whole : LegsLead course (first_stand course) legs.whole stand
   pub last : IsLeg course stand legs.last table
+  pub ended : (leg_run course stand.search table).end ≢ Leg
 
 -- all that is known was answered by the tester and, where outcomes are told, is one of these
 pub record IsKnown (names : List Oid) (told : Option (List Outcome)) (answers : List Answer) (table : List (Option Outcome)) : Type 0 where
