@@ -36,15 +36,6 @@ impl Plan {
         Ok(Plan { outcomes })
     }
 
-    /// An equal plan.
-    pub(crate) fn copy_of(alloc: Global, plan: &Plan) -> Result<Plan, AllocError>
-        ensures { IfOk result (λ copy. copy ≡ plan.now) }
-    {
-        Ok(Plan {
-            outcomes: Vec::from_slice(alloc, plan.outcomes.as_slice())?,
-        })
-    }
-
     /// The outcome of a place, read leniently where that is asked. Past the end of the plan a test exits
     /// with 125.
     #[tactic(auto, using(crate::proofs::Reading::planned_read_as))]

@@ -18,12 +18,13 @@ use bf_io::Word;
 use bf_oid::Oid;
 use std::alloc::{AllocError, Global};
 use std::marker::Model;
+use std::sync::Arc;
 
 /// A tester that answers a written plan and never fails. Contracts see the plan and the notes.
 #[derive(Drop)]
 pub struct PlanTester {
     alloc: Global,
-    plan: Plan,
+    plan: Arc<Plan>,
     notes: Notes,
 }
 
@@ -32,7 +33,7 @@ impl Model for PlanTester {
 
     ghost Value = { Planned };
 
-    ghost view = { λ t. record { plan = t.plan; notes = t.notes } };
+    ghost view = { λ t. record { plan = t.plan.value; notes = t.notes } };
 }
 
 impl PlanTester {
@@ -47,7 +48,7 @@ impl PlanTester {
     {
         Ok(PlanTester {
             alloc,
-            plan: Plan::read(alloc, letters)?,
+            plan: Arc::new(alloc, Plan::read(alloc, letters)?)?,
             notes: Notes::new(alloc),
         })
     }
@@ -99,13 +100,13 @@ impl Tester for PlanTester {
         self.notes.done(place, name, outcome)
     }
 
-    /// A tester of the same plan and command, with no answers.
+    /// A tester of the same plan and command, with no answers. The plan is shared, and nothing of it is copied.
     fn split(&self) -> Result<PlanTester, AllocError>
         ensures { IfOk result (λ t. t ≡ split_planned self.now) }
     {
         Ok(PlanTester {
             alloc: self.alloc,
-            plan: Plan::copy_of(self.alloc, &self.plan)?,
+            plan: self.plan.clone()?,
             notes: self.notes.split()?,
         })
     }

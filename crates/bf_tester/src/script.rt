@@ -89,7 +89,7 @@ impl Gate {
 #[derive(Drop)]
 pub struct ScriptTester {
     alloc: Global,
-    plan: Plan,
+    plan: Arc<Plan>,
     notes: Notes,
     fails: Vec<FailRule>,
     gate: Option<Arc<Gate>>,
@@ -104,7 +104,7 @@ impl Model for ScriptTester {
     ghost Value = { Scripted };
 
     ghost view = { λ t. record {
-      plan = t.plan;
+      plan = t.plan.value;
       notes = t.notes;
       fails = t.fails.items;
       is_gated = is_some t.gate;
@@ -133,7 +133,7 @@ impl ScriptTester {
     {
         Ok(ScriptTester {
             alloc,
-            plan: Plan::read(alloc, letters)?,
+            plan: Arc::new(alloc, Plan::read(alloc, letters)?)?,
             notes: Notes::new(alloc),
             fails,
             gate,
@@ -224,13 +224,14 @@ impl Tester for ScriptTester {
         self.notes.done(place, name, outcome)
     }
 
-    /// A tester of the same script and command behind the same gate, with no answers and no faults.
+    /// A tester of the same script and command behind the same gate, with no answers and no faults. The plan is
+    /// shared, and nothing of it is copied.
     fn split(&self) -> Result<ScriptTester, AllocError>
         ensures { IfOk result (λ t. t ≡ split_scripted self.now) }
     {
         Ok(ScriptTester {
             alloc: self.alloc,
-            plan: Plan::copy_of(self.alloc, &self.plan)?,
+            plan: self.plan.clone()?,
             notes: self.notes.split()?,
             fails: Vec::from_slice(self.alloc, self.fails.as_slice())?,
             gate: match &self.gate {
