@@ -1,6 +1,6 @@
--- What `simulate` tells of a search that came to its end begins with its log.
+-- What `simulate` and `run` tell of a search that came to its end begins with its log.
 use Rattle.std.proofs.Common.{◌≡◌, ℕ, Bool, true, false, List, [], ◌∷◌, ◌++◌, Option, Some, None, IfSome, Result, Ok, Err, IfErr, inl, inr, refl, sym, ap}
-use Rattle.std.proofs.Common.{subst, ◌∙◌, append_assoc, option_map, if◌then◌else◌}
+use Rattle.std.proofs.Common.{subst, ◌∙◌, append_assoc, if◌then◌else◌}
 use Rattle.bf_grammar.specs.Limits.{standard_limits}
 use Rattle.bf_grammar.specs.declared.fault.StreamFault.{StreamFault}
 use Rattle.bf_grammar.specs.declared.fault.StreamFault.TheVariants as stream
@@ -15,26 +15,31 @@ use Rattle.bf_names.specs.Names.{name, range}
 use Rattle.bf_reading.specs.declared.line.LogLine.{LogLine}
 use Rattle.bf_reading.specs.Reading.{read_log}
 use Rattle.bf_replay.specs.Meaning.{replay_in}
+use Rattle.bf_runs.specs.Legs.{Legs}
 use Rattle.bf_search.specs.declared.outcomes.Outcome.{Outcome}
+use Rattle.bf_search.specs.Outcomes.{Outcomes, outcomes_of_plan, outcomes_of_table}
+use Rattle.bf_search.specs.Run.{one_at_a_time}
+use Rattle.bf_search.specs.Run as searched
 use Rattle.bf_shelf.specs.declared.shelf.LoadFault.{LoadFault}
 use Rattle.bf_shelf.specs.declared.shelf.LoadFault.TheVariants.{Missing, TooLong, Failed, NoMemory}
 use Rattle.bf_shelf.specs.declared.shelf.ShelfFile.{ShelfFile}
 use Rattle.bf_words.specs.declared.request.Request.{Request}
 use Rattle.bf_words.specs.declared.verb.Verb.{Verb}
-use Rattle.bf_words.specs.declared.verb.Verb.TheVariants.{Simulate}
+use Rattle.bf_words.specs.declared.verb.Verb.TheVariants.{Simulate, Run, Next, Replay, Gen, Sample}
 use Rattle.bf_words.specs.Words as asked
 use Rattle.bf_words.specs.Words.{word_at}
 use Rattle.bf_output.specs.Beginning.{Begun, name_or_refusal, named, named_if_given, gathered, one_named, all_named, meant, places_meant, all_meant}
 use Rattle.bf_output.specs.Beginning.{begun_by_words, begun_by_log, begun_by, with_ends, begun_with_skips, has_ends, log_on}
-use Rattle.bf_output.specs.Logged.{EndsSearch, file_given, outcomes_written, IsLogged}
+use Rattle.bf_output.specs.Logged.{EndsSearch, IsFileGiven, searches, AreOutcomesOf, IsLogged}
 use Rattle.bf_output.specs.Logs.{file_or_refusal, lines_or_refusal, replayed_or_refusal, replayed_log}
-use Rattle.bf_output.specs.Output.{Given, IsOverFile, IsOverLog, IsOverLoaded, IsOverStream, IsOutput, IsOutputFor, IsOutputOf, IsSearchedFrom}
+use Rattle.bf_output.specs.Output.{Given, IsOverFile, IsOverLog, IsOverLoaded, IsOverStream, IsOutput, IsOutputFor, IsOutputOf, IsSearched, IsSearchedFrom}
 use Rattle.bf_output.specs.Inputs.{file_of}
 use Rattle.bf_output.specs.Refusals.{name_refused, no_content, refused_at, waiting, refusal, too_large, log_refused}
 use Rattle.bf_output.specs.Returning.{FileGiven}
 use Rattle.bf_output.specs.Simulate.{IsRunTold, IsSimulated, plan_of, run_over}
-use Rattle.bf_output.specs.Tested.{Tested}
+use Rattle.bf_output.specs.Tested.{Tested, IsTested, run_on, told_of_run}
 use Rattle.bf_output.specs.Told.{Told, ◌>>=◌}
+use Rattle.bf_output.specs.Traces.{traced_if}
 use Rattle.bf_output.proofs.Returning.{log_gives_back, goes_on_from_start, goes_on_from_parts}
 
 -- ---- no refusal has the status of an end
@@ -167,25 +172,85 @@ simulated_begins : (request : Request) (words : List (List ℕ)) (history : Hist
 simulated_begins request words history first told ends (inl is) = run_begins request.trace request (plan_of request words) history first told is
 simulated_begins request words history first told ends (inr cut) = absurd (subst (λ (t : Told). EndsSearch t.status) cut ends)
 
+traced_begins : (is_asked : Bool) (history : History) (first : Begun) (legs : Legs) (run : searched.Run) (told : Told)
+    → told ≡ traced_if is_asked history legs (told_of_run history first run) → BeginsWith (log_on history first run.entries) told.text
+traced_begins false history first legs run told is = (_, ap (λ (t : Told). t.text) is)
+traced_begins true history first legs run told is =
+    (_, ap (λ (t : Told). t.text) is ∙ append_assoc (log_on history first run.entries) _ _)
+
+-- a search on these outcomes, and the log that a text begins with
+abbrev Searched : Verb → Request → List (List ℕ) → Tested → History → Begun → List ℕ → Type 0
+Searched verb request words tested history first text =
+    (known : Outcomes) × AreOutcomesOf verb request words tested history known
+    × BeginsWith (log_on history first (one_at_a_time history.parents first.search known 0).entries) text
+
+tested_begins : (request : Request) (words : List (List ℕ)) (tested : Tested) (history : History) (first : Begun) (told : Told)
+    → IsTested request tested history first told → Searched Run request words tested history first told.text
+tested_begins request words tested history first told is = (
+  outcomes_of_table is.table,
+  (is.table, is.over.known, refl {a = outcomes_of_table is.table}),
+  traced_begins request.trace history first is.legs (run_on history first is.table) told is.tells,
+)
+
+searched_begins : (verb : Verb) (request : Request) (words : List (List ℕ)) (tested : Tested) (history : History) (first : Begun) (told : Told)
+    → EndsSearch told.status → IsSearched verb request words tested history first told
+    → Searched verb request words tested history first told.text
+searched_begins Simulate request words tested history first told ends is = (
+  outcomes_of_plan (plan_of request words),
+  refl {a = outcomes_of_plan (plan_of request words)},
+  simulated_begins request words history first told ends is,
+)
+searched_begins Run request words tested history first told ends (inl is) = tested_begins request words tested history first told is
+searched_begins Run request words tested history first told ends (inr (inl cut)) =
+    absurd (subst (λ (t : Told). EndsSearch t.status) cut.tells ends)
+searched_begins Run request words tested history first told ends (inr (inr lost)) =
+    absurd (subst (λ (t : Told). EndsSearch t.status) lost.tells ends)
+searched_begins Next request words tested history first told ends is = absurd is
+searched_begins Replay request words tested history first told ends is = absurd is
+searched_begins Gen request words tested history first told ends is = absurd is
+searched_begins Sample request words tested history first told ends is = absurd is
+
+-- what a search tells is told over a stream, and from where it begins
+over_stream : (verb : Verb) (request : Request) (given : Given) (stream : Option (List ℕ)) (told : Told) → searches verb ≡ true
+    → IsOutputOf verb request given stream told → IsOverStream request given stream told
+over_stream Simulate request given stream told e is = is
+over_stream Run request given stream told e is = is
+over_stream Next request given stream told e is = absurd (cc)
+over_stream Replay request given stream told e is = absurd (cc)
+over_stream Gen request given stream told e is = absurd (cc)
+over_stream Sample request given stream told e is = absurd (cc)
+
+from_beginning : (verb : Verb) (request : Request) (words : List (List ℕ)) (tested : Tested) (file : FileGiven) (history : History) (told : Told)
+    → searches verb ≡ true → IsOverFile verb request words tested file history told
+    → IsSearchedFrom (begun_with_skips request words file history) verb request words tested history told
+from_beginning Simulate request words tested file history told e is = is
+from_beginning Run request words tested file history told e is = is
+from_beginning Next request words tested file history told e is = absurd (cc)
+from_beginning Replay request words tested file history told e is = absurd (cc)
+from_beginning Gen request words tested file history told e is = absurd (cc)
+from_beginning Sample request words tested file history told e is = absurd (cc)
+
 -- ---- the whole
 
-module _ (request : Request) (words : List (List ℕ)) (read : asked.request words ≡ Ok request) (bytes : List ℕ) (told : Told)
-    (ends : EndsSearch told.status) where
+module _ (request : Request) (words : List (List ℕ)) (read : asked.request words ≡ Ok request) (tested : Tested) (bytes : List ℕ)
+    (told : Told) (ends : EndsSearch told.status) where
   returning : (file : FileGiven) (history : History) (first : Begun) → Loads bytes standard_limits (Ok history)
       → begun_with_skips request words file history ≡ Ok first
-      → BeginsWith (log_on history first (run_over history first (plan_of request words)).entries) told.text
-      → IsLogged request words file bytes told.text
-  returning file history first loads begins (rest, is) = record {
+      → Searched request.verb request words tested history first told.text
+      → IsLogged request words tested file bytes told.text
+  returning file history first loads begins (known, outcomes, (rest, is)) = record {
     history = history;
     loads = loads;
     first = first;
     begins = begins;
+    known = known;
+    outcomes = outcomes;
     is = record {
       rest = rest;
       printed = is;
-      gives_back = log_gives_back request words file history first (outcomes_written request words) None read loaded begins;
-      from_start = λ none. goes_on_from_start request words history first (outcomes_written request words) read loaded (by_words none);
-      from_parts = λ none. goes_on_from_parts request words history first (outcomes_written request words) read loaded (by_words none);
+      gives_back = log_gives_back request words file history first known None read loaded begins;
+      from_start = λ none. goes_on_from_start request words history first known read loaded (by_words none);
+      from_parts = λ none. goes_on_from_parts request words history first known read loaded (by_words none);
     };
   }
     where
@@ -195,40 +260,41 @@ module _ (request : Request) (words : List (List ℕ)) (read : asked.request wor
       by_words : file ≡ None → begun_with_skips request words None history ≡ Ok first
       by_words none = subst (λ (f : FileGiven). begun_with_skips request words f history ≡ Ok first) none begins
 
-  from_search : (file : FileGiven) (history : History) (tested : Tested) (begun : Result Begun Told) → begun_with_skips request words file history ≡ begun
-      → Loads bytes standard_limits (Ok history) → IsSearchedFrom begun Simulate request words tested history told
-      → IsLogged request words file bytes told.text
-  from_search file history tested (Err refused) e loads is =
+  from_search : (file : FileGiven) (history : History) (begun : Result Begun Told) → begun_with_skips request words file history ≡ begun
+      → Loads bytes standard_limits (Ok history) → IsSearchedFrom begun request.verb request words tested history told
+      → IsLogged request words tested file bytes told.text
+  from_search file history (Err refused) e loads is =
       absurd (subst NeverEnds e (begun_ends request words file history) (subst (λ (t : Told). EndsSearch t.status) is ends))
-  from_search file history tested (Ok first) e loads is =
-      returning file history first loads e (simulated_begins request words history first told ends is)
+  from_search file history (Ok first) e loads is =
+      returning file history first loads e (searched_begins request.verb request words tested history first told ends is)
 
-  from_log : (tested : Tested) (files : List ShelfFile) (history : History) (told_files : Option (List ShelfFile)) → told_files ≡ Some files
-      → (replay : Option ℕ) → IsOverLog replay request (record { words = words; files = told_files; tested = tested }) history told
-      → IsOverFile request.verb request words tested (option_map (λ i. file_of words i files) replay) history told
-  from_log tested files history told_files e None is = is
-  from_log tested files history told_files e (Some i) is =
-      let over : IfSome told_files (λ fs. IsOverFile request.verb request words tested (Some (file_of words i fs)) history told) = is in
-      subst (λ (o : Option (List ShelfFile)). IfSome o (λ fs. IsOverFile request.verb request words tested (Some (file_of words i fs)) history told)) e over
+  from_log : (files : Option (List ShelfFile)) (history : History) (file : FileGiven) (replay : Option ℕ) → IsFileGiven replay words files file
+      → IsOverLog replay request (record { words = words; files = files; tested = tested }) history told
+      → IsOverFile request.verb request words tested file history told
+  from_log files history file None none is =
+      subst (λ (f : FileGiven). IsOverFile request.verb request words tested f history told) (sym none) is
+  from_log files history file (Some i) (all, shown, found) is =
+      let over : IfSome files (λ fs. IsOverFile request.verb request words tested (Some (file_of words i fs)) history told) = is in
+      subst (λ (f : FileGiven). IsOverFile request.verb request words tested f history told) (sym found)
+      (subst (λ (o : Option (List ShelfFile)). IfSome o (λ fs. IsOverFile request.verb request words tested (Some (file_of words i fs)) history told))
+      shown over)
 
-  from_loaded : (tested : Tested) (files : List ShelfFile) (told_files : Option (List ShelfFile)) → told_files ≡ Some files → request.verb ≡ Simulate
+  from_loaded : (files : Option (List ShelfFile)) (file : FileGiven) → IsFileGiven request.replay words files file → searches request.verb ≡ true
       → (result : Result History ImportFault) → Loads bytes standard_limits result
-      → IsOverLoaded request (record { words = words; files = told_files; tested = tested }) result told
-      → IsLogged request words (file_given request words files) bytes told.text
-  from_loaded tested files told_files e simulates (Err fault) loads is =
+      → IsOverLoaded request (record { words = words; files = files; tested = tested }) result told
+      → IsLogged request words tested file bytes told.text
+  from_loaded files file given_so does (Err fault) loads is =
       absurd (import_ends fault (subst (λ (t : Told). EndsSearch t.status) is ends))
-  from_loaded tested files told_files e simulates (Ok history) loads is =
-      from_search (file_given request words files) history tested (begun_with_skips request words (file_given request words files) history) refl loads
-      (subst (λ (v : Verb). IsOverFile v request words tested (file_given request words files) history told) simulates
-      (from_log tested files history told_files e request.replay is))
+  from_loaded files file given_so does (Ok history) loads is =
+      from_search file history (begun_with_skips request words file history) refl loads
+      (from_beginning request.verb request words tested file history told does (from_log files history file request.replay given_so is))
 
--- what `simulate` tells of a search that came to its end
-pub logged : (given : Given) (bytes : List ℕ) (files : List ShelfFile) (request : Request) (told : Told) → asked.request given.words ≡ Ok request
-    → request.verb ≡ Simulate → given.files ≡ Some files → EndsSearch told.status → IsOutput given (Some bytes) told
-    → IsLogged request given.words (file_given request given.words files) bytes told.text
-logged given bytes files request told read simulates e ends is =
+-- what a command tells of a search that came to its end
+pub logged : (given : Given) (bytes : List ℕ) (file : FileGiven) (request : Request) (told : Told) → asked.request given.words ≡ Ok request
+    → searches request.verb ≡ true → IsFileGiven request.replay given.words given.files file → EndsSearch told.status
+    → IsOutput given (Some bytes) told → IsLogged request given.words given.tested file bytes told.text
+logged given bytes file request told read does given_so ends is =
     let output : IsOutputOf request.verb request given (Some bytes) told =
     subst (λ (r : Result Request ℕ). IsOutputFor r given (Some bytes) told) read is in
-    let over : IsOverStream request given (Some bytes) told =
-    subst (λ (v : Verb). IsOutputOf v request given (Some bytes) told) simulates output in
-    from_loaded request given.words read bytes told ends given.tested files given.files e simulates over.0 over.1 over.2
+    let over : IsOverStream request given (Some bytes) told = over_stream request.verb request given (Some bytes) told does output in
+    from_loaded request given.words read given.tested bytes told ends given.files file given_so does over.0 over.1 over.2

@@ -1,20 +1,25 @@
--- The log that `simulate` prints of a search that came to its end, and what it gives back.
-use Rattle.std.specs.Prelude.{◌≡◌, ℕ, List, ◌++◌, None, Ok, option_map}
+-- The log that `simulate` and `run` print of a search that came to its end, and what it gives back.
+use Rattle.std.specs.Prelude.{◌≡◌, ℕ, Bool, true, false, List, ◌++◌, Option, Some, None, Ok}
 use Rattle.bf_grammar.specs.Limits.{standard_limits}
 use Rattle.bf_history.specs.Imports.{Loads}
 use Rattle.bf_history.specs.Meanings.{History}
-use Rattle.bf_search.specs.Outcomes.{Outcomes, outcomes_of_plan}
-use Rattle.bf_search.specs.Run.{Run}
+use Rattle.bf_runs.specs.Legs.{IsKnown}
+use Rattle.bf_search.specs.declared.outcomes.Outcome.{Outcome}
+use Rattle.bf_search.specs.Outcomes.{Outcomes, outcomes_of_plan, outcomes_of_table}
+use Rattle.bf_search.specs.Run.{Run, one_at_a_time}
 use Rattle.bf_shelf.specs.declared.shelf.ShelfFile.{ShelfFile}
 use Rattle.bf_words.specs.declared.request.Request.{Request}
+use Rattle.bf_words.specs.declared.verb.Verb.{Verb}
+use Rattle.bf_words.specs.declared.verb.Verb.TheVariants as verb
 use Rattle.bf_output.specs.declared.status.Status.{Status}
 use Rattle.bf_output.specs.declared.status.Status.TheVariants as status
 use Rattle.bf_output.specs.Beginning.{Begun, begun_with_skips, log_on}
 use Rattle.bf_output.specs.Inputs.{file_of}
 use Rattle.bf_output.specs.Returning.{FileGiven, LogGivesBack, GoesOnFromStart, GoesOnFromParts}
-use Rattle.bf_output.specs.Simulate.{plan_of, run_over}
+use Rattle.bf_output.specs.Simulate.{plan_of}
+use Rattle.bf_output.specs.Tested.{Tested}
 
--- the statuses with which a search over a plan ends
+-- the statuses with which a search ends that needs no test any more
 abbrev pub EndsSearch : Status → Type 0
 EndsSearch status.Done = Unit {0}
 EndsSearch (status.Usage word) = ⊥
@@ -40,9 +45,20 @@ EndsSearch (status.JournalRefused kept) = ⊥
 EndsSearch status.JournalFault = ⊥
 EndsSearch (status.ListRefused line) = ⊥
 
--- what the shelf gives for the word of --replay
-abbrev pub file_given : Request → List (List ℕ) → List ShelfFile → FileGiven
-file_given request words files = option_map (λ i. file_of words i files) request.replay
+-- What the shelf gives for the word of --replay: nothing where the words have none, and else, where it tells its files,
+-- the one of that name.
+abbrev pub IsFileGiven : Option ℕ → List (List ℕ) → Option (List ShelfFile) → FileGiven → Type 0
+IsFileGiven None words told file = file ≡ None
+IsFileGiven (Some i) words told file = (files : List ShelfFile) × (told ≡ Some files) × (file ≡ Some (file_of words i files))
+
+-- whether a command searches on the outcomes of a plan or of tests
+abbrev pub searches : Verb → Bool
+searches verb.Simulate = true
+searches verb.Run = true
+searches verb.Next = false
+searches verb.Replay = false
+searches verb.Gen = false
+searches verb.Sample = false
 
 -- The text begins with the log of a run on these outcomes. The whole log gives the state of that run back, and where no
 -- log is replayed the run goes on from its beginning and from the parts of its log.
@@ -54,18 +70,23 @@ pub record IsLogOf (file : FileGiven) (history : History) (first : Begun) (known
   pub from_start : file ≡ None → GoesOnFromStart history first known run
   pub from_parts : file ≡ None → GoesOnFromParts history first known run
 
--- the outcomes of the plan that words write
-abbrev pub outcomes_written : Request → List (List ℕ) → Outcomes
-outcomes_written request words = outcomes_of_plan (plan_of request words)
-
--- the run on these outcomes
-abbrev pub run_written : Request → List (List ℕ) → History → Begun → Run
-run_written request words history first = run_over history first (plan_of request words)
+-- the outcomes of a search: those of the plan that the words write, or those that its tester answered
+abbrev pub AreOutcomesOf : Verb → Request → List (List ℕ) → Tested → History → Outcomes → Type 0
+AreOutcomesOf verb.Simulate request words tested history known = known ≡ outcomes_of_plan (plan_of request words)
+AreOutcomesOf verb.Run request words tested history known =
+    (table : List (Option Outcome)) × IsKnown history.names tested.plan tested.answers table × (known ≡ outcomes_of_table table)
+AreOutcomesOf verb.Next request words tested history known = ⊥
+AreOutcomesOf verb.Replay request words tested history known = ⊥
+AreOutcomesOf verb.Gen request words tested history known = ⊥
+AreOutcomesOf verb.Sample request words tested history known = ⊥
 
 -- the search of these words, over the history of these bytes and behind this file, printed its log
-pub record IsLogged (request : Request) (words : List (List ℕ)) (file : FileGiven) (bytes text : List ℕ) : Type 0 where
+pub record IsLogged (request : Request) (words : List (List ℕ)) (tested : Tested) (file : FileGiven) (bytes text : List ℕ)
+    : Type 0 where
   pub history : History
   pub loads : Loads bytes standard_limits (Ok history)
   pub first : Begun
   pub begins : begun_with_skips request words file history ≡ Ok first
-  pub is : IsLogOf file history first (outcomes_written request words) (run_written request words history first) text
+  pub known : Outcomes
+  pub outcomes : AreOutcomesOf request.verb request words tested history known
+  pub is : IsLogOf file history first known (one_at_a_time history.parents first.search known 0) text
