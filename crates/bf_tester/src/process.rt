@@ -22,8 +22,9 @@ use std::process::{Command, Processes, Stdio};
 
 /// Why a command gave no outcome.
 enum RunFault {
-    /// It could not be started or waited for.
-    Failed,
+    /// It could not be started or waited for. Where the system would not start it, this is the number of its
+    /// reason.
+    Failed(Option<i32>),
     /// There is no memory for its words.
     NoMemory,
 }
@@ -43,6 +44,7 @@ pub struct ProcessTester {
     tested: Vec<Tested>,
     faults: u64,
     failed: Option<u32>,
+    refusal: Option<i32>,
     is_silent: bool,
 }
 
@@ -65,6 +67,7 @@ impl ProcessTester {
             tested: Vec::new(alloc),
             faults: 0,
             failed: None,
+            refusal: None,
             is_silent: false,
         }
     }
@@ -79,6 +82,20 @@ impl ProcessTester {
             is_silent: true,
             ..self
         }
+    }
+
+    /// The first word of the command, empty where there is none.
+    pub fn program(&self) -> &[u8] {
+        match self.notes.command().first() {
+            Some(word) => word.as_slice(),
+            None => b"",
+        }
+    }
+
+    /// The number of the reason for which the system would not start the command of the latest test that
+    /// failed, where that is why it failed.
+    pub fn refusal(&self) -> Option<i32> {
+        self.refusal
     }
 
     /// The allocator that the tester grows by.
@@ -143,6 +160,7 @@ impl ProcessTester {
             mut tested,
             faults,
             failed,
+            refusal,
             is_silent,
         } = other;
         match self.notes.absorb(notes) {
@@ -156,6 +174,7 @@ impl ProcessTester {
                 tested,
                 faults,
                 failed,
+                refusal,
                 is_silent,
             }),
         }
@@ -181,9 +200,10 @@ impl ProcessTester {
                 let outcome = read(self.notes.is_lenient(), outcome);
                 self.notes.done(place, name, outcome)
             }
-            Err(RunFault::Failed) => {
+            Err(RunFault::Failed(refusal)) => {
                 self.faults = self.faults.saturating_add(1);
                 self.failed = Some(place);
+                self.refusal = refusal;
                 TestReply::Failed
             }
             Err(RunFault::NoMemory) => TestReply::NoMemory,
@@ -200,7 +220,7 @@ impl ProcessTester {
         let mut digits = [0; 40];
         oid_hex(name, &mut digits);
         let Ok(name) = std::str::from_utf8(digits.as_slice()) else {
-            return Err(RunFault::Failed);
+            return Err(RunFault::Failed(None));
         };
         let words = self.notes.command();
         if self.is_silent {
@@ -223,7 +243,7 @@ fn run_command<R: Processes>(
     last: &str,
 ) -> Result<Outcome, RunFault> {
     let Some((program, others)) = words.split_first() else {
-        return Err(RunFault::Failed);
+        return Err(RunFault::Failed(None));
     };
     let mut command = Command::new(alloc, text_of(program.as_slice())?)?;
     for word in others {
@@ -234,14 +254,18 @@ fn run_command<R: Processes>(
     }
     command.arg(last)?;
     command.stdin(Stdio::null()).stdout(Stdio::null());
-    let Ok(status) = command.status(rt) else {
-        return Err(RunFault::Failed);
+    let mut child = match command.spawn(rt) {
+        Ok(child) => child,
+        Err(error) => return Err(RunFault::Failed(error.raw_os_error())),
+    };
+    let Ok(status) = child.wait() else {
+        return Err(RunFault::Failed(None));
     };
     match status.code() {
         None => Ok(Outcome::Killed),
         Some(code) => match u8::try_from(code) {
             Ok(code) => Ok(Outcome::Exit(code)),
-            Err(_) => Err(RunFault::Failed),
+            Err(_) => Err(RunFault::Failed(None)),
         },
     }
 }
@@ -250,7 +274,7 @@ fn run_command<R: Processes>(
 fn text_of(word: &[u8]) -> Result<&str, RunFault> {
     match std::str::from_utf8(word) {
         Ok(text) => Ok(text),
-        Err(_) => Err(RunFault::Failed),
+        Err(_) => Err(RunFault::Failed(None)),
     }
 }
 
@@ -319,6 +343,7 @@ impl Tester for ProcessTester {
             tested,
             faults,
             failed,
+            refusal,
             is_silent,
         } = other;
         match self.notes.absorb(notes) {
@@ -329,6 +354,7 @@ impl Tester for ProcessTester {
                 tested,
                 faults,
                 failed,
+                refusal,
                 is_silent,
             }),
         }

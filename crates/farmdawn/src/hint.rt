@@ -1,5 +1,7 @@
-//! What is said on the standard error of a word that is at fault.
+//! What is said on the standard error of a word that is at fault, and of a command that cannot be started.
 use bf_io::Word;
+use bf_tester::ProcessTester;
+use std::io::Error;
 
 /// What is right at the word behind an option that takes a value.
 fn value_of(option: &[u8]) -> Option<&'static str> {
@@ -85,4 +87,16 @@ pub(crate) fn tell<R: Eprint>(rt: &R, words: &[Word], word: u32) {
         _ => eprintln!(rt; "farmdawn: word {word} is missing: {right}"),
     };
     let _ = eprintln!(rt; "farmdawn --help shows each command and option");
+}
+
+/// Says on the standard error which command the system would not start at the latest test that failed, and why. Where
+/// it cannot be written nothing is said.
+pub(crate) fn tell_refusal<R: Eprint>(rt: &R, tester: &ProcessTester) {
+    if let (Some(refusal), Ok(program)) = (
+        tester.refusal(),
+        std::str::from_utf8(tester.program()),
+    ) {
+        let reason = Error::from_raw_os_error(refusal);
+        let _ = eprintln!(rt; "farmdawn: the command {program} cannot be started: {reason}");
+    }
 }

@@ -82,6 +82,25 @@ fn nothing(alloc: Global) -> Result<Arc<Content>, AllocError> {
     Ok(Arc::new(alloc, Content::empty(alloc)?)?)
 }
 
+/// Says on the standard error what a word that is at fault should be, or why a command was not started.
+fn tell_why<R: Eprint>(
+    rt: &R,
+    line: &Line,
+    status: Status,
+    tester: &ProcessTester,
+    shop: &ProcessTester,
+) {
+    match (status, line.no_text) {
+        (Status::Usage { .. }, Some(argument)) => hint::tell_no_text(rt, argument),
+        (Status::Usage { word }, None) => hint::tell(rt, line.words.as_slice(), word),
+        (Status::TestFault { .. }, _) => {
+            hint::tell_refusal(rt, tester);
+            hint::tell_refusal(rt, shop);
+        }
+        _ => {}
+    }
+}
+
 fn main(rt: HostRuntime) -> ExitCode {
     let errors = LastErrors::new();
     let mut out = StdSink::new(Noted::new(io::writer(&rt), &errors.output));
@@ -112,13 +131,7 @@ fn main(rt: HostRuntime) -> ExitCode {
                         &mut disk,
                         &mut out,
                     );
-                    match (status, line.no_text) {
-                        (Status::Usage { .. }, Some(argument)) => {
-                            hint::tell_no_text(&rt, argument)
-                        }
-                        (Status::Usage { word }, None) => hint::tell(&rt, words, word),
-                        _ => {}
-                    }
+                    tell_why(&rt, &line, status, tester.inner(), shop.tester());
                     status
                 }
                 _ => Status::NoMemory,
