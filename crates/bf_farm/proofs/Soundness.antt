@@ -12,7 +12,9 @@ use Rattle.bf_search.specs.Farm.{Setting, Farm, step}
 use Rattle.bf_search.specs.Outcomes.{outcomes_of_table}
 use Rattle.bf_farm.specs.Cores.{CoreView, IsSameStart}
 use Rattle.bf_tester.specs.declared.answer.Answer.{Answer}
-use Rattle.bf_tester.specs.Replies.{answer_of, FollowsPlan}
+use Rattle.bf_tester.specs.declared.answer.TestReply.{TestReply}
+use Rattle.bf_tester.specs.declared.answer.TestReply.TheVariants as replies
+use Rattle.bf_tester.specs.Replies.{answer_of, answers_after, FollowsPlan}
 use Rattle.bf_farm.specs.Boards.{BoardView, Does, DoesIf, IsSameBoard}
 use Rattle.bf_farm.specs.Reports.{IsAnswered, AreAmong, TableIn}
 use Rattle.bf_farm.specs.Sound.{IsSound, IsSoundPost, IsSoundEvent, ArePartOf, GivesBack}
@@ -134,6 +136,16 @@ among_itself answers = All-contains_itself answers
 
 pub among_then : (a b c : List Answer) → AreAmong c b → AreAmong b a → AreAmong c a
 among_then a b c x y = λ k d l. All-contains (λ (v : Answer). Contains c v) b (get_or a k d) x (y k d l)
+
+pub among_same : (new old : List Answer) → new ≡ old → AreAmong new old
+among_same new old e = subst (λ (l : List Answer). AreAmong l old) (sym e) (among_itself old)
+
+-- no reply to a test loses an answer
+pub among_replied : (reply : TestReply) (new old : List Answer) (p : ℕ) (name : Oid) → new ≡ answers_after reply old p name → AreAmong new old
+among_replied (replies.Done outcome) new old p name e = among_before new old (answer_of p name outcome ∷ []) e
+among_replied replies.Dropped new old p name e = among_same new old e
+among_replied replies.Failed new old p name e = among_same new old e
+among_replied replies.NoMemory new old p name e = among_same new old e
 
 answered_wider : (names : List Oid) (more answers : List Answer) (p : ℕ) (outcome : Outcome) → AreAmong more answers
     → IsAnswered names answers p outcome → IsAnswered names more p outcome

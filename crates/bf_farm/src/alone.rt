@@ -6,7 +6,7 @@ ghost use Rattle.bf_farm.specs.Cores.{IsSameStart, IsSameLength};
 ghost use Rattle.bf_farm.specs.Ends.{IsAsking, IsNext, GainsClaim, MissesFewer};
 ghost use Rattle.bf_farm.specs.Reports.{TableIn, TableFollows};
 ghost use Rattle.bf_farm.specs.Sound.{IsSound, KeepsSound};
-ghost use Rattle.bf_farm.specs.Testers.{KeepsManner, StaysSound, GainsBy, EndsBy, TurnEndsBy};
+ghost use Rattle.bf_farm.specs.Testers.{KeepsManner, HasAnswersOf, StaysSound, GainsBy, EndsBy, TurnEndsBy};
 ghost use Rattle.bf_farm.specs.Testers.{TestsOnBy, TurnTestsBy, TestsClaimedBy, ReportsTestsBy};
 ghost use Rattle.bf_farm.specs.Testers.{IsSoundBy, HasFaultBy, GainsLacking};
 ghost use Rattle.bf_guesses.specs.Ends.{HasEnds};
@@ -68,6 +68,7 @@ fn test_claimed<R: Host, T: Tester>(
     ensures start { OnOk result (IsSameStart board.old.core board.new.core) }
     ensures first { OnOk result (board.new.first ≡ board.old.first) }
     ensures manner { KeepsManner T.Tester tester.old tester.new }
+    ensures own { HasAnswersOf T.Tester tester.new tester.old }
     ensures is_split { T.is_split tester.new ≡ T.is_split tester.old }
     ensures faults { T.faults tester.old ≤ T.faults tester.new }
     ensures ends { IfOk result (TurnEndsBy T.Tester tester.old tester.new board.new) }
@@ -107,6 +108,7 @@ fn take_turn<R: Host, T: Tester>(
     ensures start { OnOk result (IsSameStart board.old.core board.new.core) }
     ensures first { OnOk result (board.new.first ≡ board.old.first) }
     ensures manner { KeepsManner T.Tester tester.old tester.new }
+    ensures own { HasAnswersOf T.Tester tester.new tester.old }
     ensures is_split { T.is_split tester.new ≡ T.is_split tester.old }
     ensures faults { T.faults tester.old ≤ T.faults tester.new }
     ensures ends { IfOk result (TurnEndsBy T.Tester tester.old tester.new board.new) }
@@ -137,6 +139,7 @@ pub(crate) fn go_on<R: Host, T: Tester>(
     ensures start { OnOk result (IsSameStart board.old.core board.new.core) }
     ensures first { OnOk result (board.new.first ≡ board.old.first) }
     ensures manner { KeepsManner T.Tester tester.old tester.new }
+    ensures own { HasAnswersOf T.Tester tester.new tester.old }
     ensures is_split { T.is_split tester.new ≡ T.is_split tester.old }
     ensures later { T.faults tester.old ≤ T.faults tester.new }
     ensures ends { IfOk result (EndsBy T.Tester tester.old tester.new board.new) }
@@ -174,6 +177,7 @@ pub(crate) fn finish<R: Host, T: Tester>(
     ensures halving { IfOk result (Halves board.entry.core.setting) }
     ensures alone { IfOk result (ReportsTestsBy T.Tester tester.old tester.new board.entry) }
     ensures manner { KeepsManner T.Tester tester.old tester.new }
+    ensures own { HasAnswersOf T.Tester tester.new tester.old }
     ensures is_split { T.is_split tester.new ≡ T.is_split tester.old }
 {
     let mut board = board;
@@ -208,6 +212,7 @@ pub fn run_alone<R: Host, T: Tester>(
     ensures halving { IfOk result (Halves (setting_of case.entry)) }
     ensures alone { IfOk result (IsAlone case.entry.table) }
     ensures manner { KeepsManner T.Tester tester.old tester.new }
+    ensures own { HasAnswersOf T.Tester tester.new tester.old }
     ensures is_split { T.is_split tester.new ≡ false }
 {
     let Case {

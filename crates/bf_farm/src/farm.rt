@@ -2,7 +2,7 @@
 ghost use Rattle.std.specs.Prelude.{◌≡◌, false, ◌≤◌, [], length, IfOk};
 ghost use Rattle.bf_farm.specs.Cases.{setting_of, IsReportOn, HasHistoryOn, IsSoundAgain};
 ghost use Rattle.bf_farm.specs.Reports.{TableIn, TableFollows};
-ghost use Rattle.bf_farm.specs.Testers.{KeepsManner, IsSoundBy, HasFaultBy};
+ghost use Rattle.bf_farm.specs.Testers.{KeepsManner, HasAnswersOf, IsSoundBy, HasFaultBy};
 ghost use Rattle.bf_farm.specs.Workers.{ArePartsOf};
 ghost use Rattle.bf_guesses.specs.Ends.{HasEnds};
 
@@ -136,6 +136,7 @@ pub fn run_farm<R: Host, T: Tester>(
     ensures fault { IfOk result (HasFaultBy T.Tester tester.old tester.new) }
     ensures later { T.faults tester.old ≤ T.faults tester.new }
     ensures manner { KeepsManner T.Tester tester.old tester.new }
+    ensures own { HasAnswersOf T.Tester tester.new tester.old }
     ensures is_split { T.is_split tester.new ≡ false }
 {
     let names = case.names;

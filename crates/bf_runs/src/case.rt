@@ -3,7 +3,7 @@ ghost use Rattle.std.specs.Prelude.{◌≡◌, ◌≤◌, false, length, IfOk};
 ghost use Rattle.bf_farm.specs.Answering.{IsAlone};
 ghost use Rattle.bf_farm.specs.Cases.{IsReportOn, HasHistoryOn};
 ghost use Rattle.bf_farm.specs.Reports.{TableIn, TableFollows};
-ghost use Rattle.bf_farm.specs.Testers.{KeepsManner, IsSoundBy, HasFaultBy, GainsLacking};
+ghost use Rattle.bf_farm.specs.Testers.{KeepsManner, HasAnswersOf, IsSoundBy, HasFaultBy, GainsLacking};
 ghost use Rattle.bf_guesses.specs.Ends.{HasEnds};
 
 use bf_farm::{Case, Report, run_alone, run_farm};
@@ -50,6 +50,7 @@ pub fn run_case<R: Host, T: Tester>(
     ensures lacking { workers ≤ 1 →
         IfOk result (GainsLacking T.Tester tester.old tester.new case.entry.table) }
     ensures manner { KeepsManner T.Tester tester.old tester.new }
+    ensures own { HasAnswersOf T.Tester tester.new tester.old }
     ensures is_split { T.is_split tester.new ≡ false }
 {
     if workers > 1 {

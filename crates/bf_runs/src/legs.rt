@@ -1,6 +1,6 @@
 //! A leg of a run.
 ghost use Rattle.std.specs.Prelude.{◌≡◌, ◌≤◌, false, IfOk};
-ghost use Rattle.bf_farm.specs.Testers.{KeepsManner, HasFaultBy};
+ghost use Rattle.bf_farm.specs.Testers.{KeepsManner, HasAnswersOf, HasFaultBy};
 ghost use Rattle.bf_runs.specs.Courses.{KnowsNothing, CanBegin, IsRunOfLeg, LegLeads, LeavesReady};
 ghost use Rattle.bf_runs.specs.Within.{HasEntriesWithin, HasEndingWithin};
 
@@ -52,6 +52,7 @@ pub fn run_leg<R: Host, T: Tester>(
     ensures fault { IfOk result (HasFaultBy T.Tester tester.old tester.new) }
     ensures later { T.faults tester.old ≤ T.faults tester.new }
     ensures manner { KeepsManner T.Tester tester.old tester.new }
+    ensures own { HasAnswersOf T.Tester tester.new tester.old }
     ensures is_split { T.is_split tester.new ≡ false }
 {
     // What the lengths tell is needed: the graph is sorted, and the places of the search are places of it.

@@ -6,6 +6,7 @@ use Rattle.bf_farm.specs.Answering.{IsReport, HasHistory, Halves}
 use Rattle.bf_farm.specs.Testers.{GainsLacking}
 use Rattle.bf_farm.proofs.Noted.{alone_told}
 use Rattle.bf_farm.proofs.Reporting.{sound_start}
+use Rattle.bf_farm.proofs.Soundness.{among_itself}
 use Rattle.bf_farm.proofs.alone.run_alone.Goals as goal
 
 pub finish-requires-clause-sound : goal.finish-requires-clause-sound
@@ -38,3 +39,6 @@ returns-clause-alone g c =
 pub returns-clause-halving : goal.returns-clause-halving
 returns-clause-halving g c =
     subst (λ (s : Setting). Halves s c.in_ok-report.report) c.in_ok-board.ensures.setting c.in_ok-report.ensures.halving
+
+pub returns-in_err-board-clause-own : goal.returns-in_err-board-clause-own
+returns-in_err-board-clause-own g c = among_itself (g.T.Tester.answers c.args.tester.now)

@@ -2,6 +2,7 @@ use Rattle.bf_farm.proofs.Noted.{tests_stay}
 use Rattle.bf_core.proofs.Joining.{if_ok_map}
 use Rattle.bf_farm.proofs.Asked.{on_ok}
 use Rattle.bf_farm.proofs.Gaining.{gains_kept, gains_then}
+use Rattle.bf_farm.proofs.Soundness.{among_itself}
 use Rattle.bf_farm.proofs.alone.take_turn.Goals as goal
 
 pub returns-in-Some-clause-sound : goal.returns-in-Some-clause-sound
@@ -36,3 +37,9 @@ pub returns-in-None-clause-gains : goal.returns-in-None-clause-gains
 returns-in-None-clause-gains g c =
     gains_kept c.args.names.now (g.T.Tester.answers c.args.tester.now) c.args.board.now.core c.next_place.new.board.core c.in_ok-place.ensures.start
     c.in_ok-place.ensures.table
+
+pub returns-in_err-place-clause-own : goal.returns-in_err-place-clause-own
+returns-in_err-place-clause-own g c = among_itself (g.T.Tester.answers c.args.tester.now)
+
+pub returns-in-None-clause-own : goal.returns-in-None-clause-own
+returns-in-None-clause-own g c = among_itself (g.T.Tester.answers c.args.tester.now)

@@ -1,5 +1,5 @@
 use Rattle.std.proofs.lemmas.Option.{slice_get-get_or}
-use Rattle.bf_farm.proofs.Soundness.{sound_tested, sound_untested}
+use Rattle.bf_farm.proofs.Soundness.{among_before, among_same, sound_tested, sound_untested}
 use Rattle.bf_search.specs.declared.farm.Event.TheVariants as events
 use Rattle.bf_farm.proofs.Asked.{fewer_after, one_stands}
 use Rattle.bf_farm.proofs.Noted.{tested_once, failed_once}
@@ -49,3 +49,19 @@ returns-in-Failed-clause-alone g c = λ before earlier.
     (one_stands c.args.board.now.core c.args.place c.requires.asking) in
     failed_once before (g.T.Tester.answers c.args.tester.now) (g.T.Tester.answers c.test.new.self) earlier c.args.board.now.events
     c.give.new.self.events c.args.place c.in-Failed.ensures.answers done.noted
+
+pub returns-in_ok-post-in-Done-clause-own : goal.returns-in_ok-post-in-Done-clause-own
+returns-in_ok-post-in-Done-clause-own g c =
+    among_before (g.T.Tester.answers c.test.new.self) (g.T.Tester.answers c.args.tester.now) _ c.in-Done.ensures.answers
+
+pub returns-in_err-post-in-Done-clause-own : goal.returns-in_err-post-in-Done-clause-own
+returns-in_err-post-in-Done-clause-own g c =
+    among_before (g.T.Tester.answers c.test.new.self) (g.T.Tester.answers c.args.tester.now) _ c.in-Done.ensures.answers
+
+pub returns-in-Failed-clause-own : goal.returns-in-Failed-clause-own
+returns-in-Failed-clause-own g c =
+    among_same (g.T.Tester.answers c.test.new.self) (g.T.Tester.answers c.args.tester.now) c.in-Failed.ensures.answers
+
+pub returns-in-NoMemory-clause-own : goal.returns-in-NoMemory-clause-own
+returns-in-NoMemory-clause-own g c =
+    among_same (g.T.Tester.answers c.test.new.self) (g.T.Tester.answers c.args.tester.now) c.in-NoMemory.ensures.answers

@@ -3,7 +3,7 @@ use Rattle.bf_search.specs.declared.outcomes.Outcome.{Outcome}
 use Rattle.bf_farm.specs.Answering.{HasFault}
 use Rattle.bf_farm.specs.Reports.{Manner}
 use Rattle.bf_farm.specs.Sound.{IsSound}
-use Rattle.bf_farm.proofs.Soundness.{table_wider}
+use Rattle.bf_farm.proofs.Soundness.{among_itself, among_then, table_wider}
 use Rattle.bf_farm.proofs.Teams.{parts_of_team}
 use Rattle.bf_farm.proofs.farm.run_farm.Goals as goal
 
@@ -22,3 +22,19 @@ pub returns-clause-fault : goal.returns-clause-fault
 returns-clause-fault g c =
     subst (λ (n : ℕ). HasFault n (g.T.Tester.faults c.finish.new.tester) (g.T.Tester.failed c.finish.new.tester) c.in_ok-report.report)
     c.in_ok-absorb_all.ensures.faults c.in_ok-report.ensures.fault
+
+pub returns-in_err-team-clause-own : goal.returns-in_err-team-clause-own
+returns-in_err-team-clause-own g c = among_itself (g.T.Tester.answers c.args.tester.now)
+
+pub returns-in_err-board-clause-own : goal.returns-in_err-board-clause-own
+returns-in_err-board-clause-own g c = among_itself (g.T.Tester.answers c.args.tester.now)
+
+pub returns-in_err-report-clause-own : goal.returns-in_err-report-clause-own
+returns-in_err-report-clause-own g c =
+    among_then (g.T.Tester.answers c.args.tester.now) (g.T.Tester.answers c.absorb_all.new.tester) (g.T.Tester.answers c.finish.new.tester)
+    c.finish.ensures.own c.in_ok-absorb_all.ensures.own
+
+pub returns-clause-own : goal.returns-clause-own
+returns-clause-own g c =
+    among_then (g.T.Tester.answers c.args.tester.now) (g.T.Tester.answers c.absorb_all.new.tester) (g.T.Tester.answers c.finish.new.tester)
+    c.finish.ensures.own c.in_ok-absorb_all.ensures.own
