@@ -10,7 +10,7 @@ PREFIX ?= /usr/local
 
 SCRIPTS = git-farmdawn farmdawn-worktree farmdawn-srun farmdawn-ssh
 # what a script starts or reads for itself, and has no page
-PARTS = farmdawn-part farmdawn-history
+PARTS = farmdawn-part farmdawn-history farmdawn-progress
 BIN = $(DESTDIR)$(PREFIX)/bin
 MAN = $(DESTDIR)$(PREFIX)/share/man/man1
 BASH_COMPLETIONS = $(DESTDIR)$(PREFIX)/share/bash-completion/completions
