@@ -8,13 +8,15 @@ from one side, from the other or from none. The paths are files and folders of t
 line is given at the top or in a folder.
 
 Only commits that git lists for these paths, the bad end and merge bases are tested. The same line without --path tests none of
-them again, and the numbers of commits that it tells as left are those behind marks of its log. And the first bad commit is that of git bisect run. What differs is told
-with its reason, which is looked for in this order:
+them again, and the numbers of commits that it tells as left are those behind marks of its log. And the first bad commit is that
+of git bisect run. What differs is told with its reason, which is looked for in this order:
 
 bad end: no commit that changes the paths is bad. git has no answer then, and git farmdawn names the bad end and says so.
 anew: git simplifies merges again from the marks that it has, and so tested a commit that its first list had not.
 both right: each answer is bad, and no commit that changes the paths is left between it and the good ones of its own log; that
 may be so of several commits where the verdicts are not plain, or come by a commit that changes none of the paths.
+one of them: where other commits were tested, one met a test that stops the search, a bad merge base, or skipped commits alone, to
+which git farmdawn counts a bad end that changes none of the paths.
 
 Where the verdicts are bad from one commit on, and that one changes the paths, no difference is right but anew.
 """
