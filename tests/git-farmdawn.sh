@@ -706,6 +706,37 @@ test_warnings() {
     nothing_left
 }
 
+# What a test meant, and what is left: as many commits as git lists for the marks so far, with one worker and no merge base.
+needs_progress() { needs_all; }
+test_progress() {
+    make_line 12 7
+    git commit -q --allow-empty -m "$(printf 'bell \a, \033[31m')" || exit 1
+    git farmdawn --workers 1 --term-new broken --skip main~4 main main~12 -- sh -c "$command" >log 2>told
+    expect 'the answer' [ "$(tail -n 1 log)" = "$(git rev-parse main~5) is the first broken commit" ] || exit 1
+    sed -n 's/^git bisect \([a-z]*\) \([0-9a-f]\{40\}\)$/\1 \2/p' log | grep -v skip >marks
+    while read -r term name; do
+        case $term in broken) bad=$name ;; good) goods="${goods-} ^$name" ;; esac
+        # shellcheck disable=SC2086
+        git rev-list --count "${bad:-main}" ^main~12 ${goods-}
+    done <marks | sed '$d' | sort -u >due
+    expect 'as many are told as left' [ "$(sed -n 's/ commits* left, .*about.*//p' told | sort -u | comm -23 - due)" = '' ]
+    expect 'with those that are skipped' grep -q ' commits left, 1 of them skipped, about' told
+    expect 'each test is told' [ "$(grep -c '^\(good  \|broken\)  [0-9a-f]\{12\}  change [0-9]*  ([0-9]* s)$' told)" -eq "$(grep -c ': testing' told)" ]
+    git farmdawn --workers 1 main main~12 -- sh -c 'exit 255' >log 2>told
+    expect 'and one that stops the search' grep -q '^stop  [0-9a-f]\{12\}  change [0-9]*  (exit 255, [0-9]* s)$' told
+    git farmdawn --workers 4 --check-ends main~1 main~12 -- sh -c "$command" >log 2>told
+    git farmdawn --check-ends main main~12 -- true >log 2>told
+    expect 'no control character comes through' grep -q '^good  [0-9a-f]\{12\}  bell ?, ?\[31m  ([0-9]* s)$' told
+    git farmdawn --quiet --fresh main main~12 -- sh -c "$command" >log 2>told
+    expect 'nothing is told quietly' [ ! -s told ]
+    git farmdawn --quiet main main~12 -- sh -c 'echo why; exit 255' >log 2>told
+    expect 'but what is wrong' grep -q '^    why$' told
+    nothing_left
+}
+
+needs_terminal() { needs_all && has python3 stty; }
+test_terminal() { expect 'on a terminal' python3 "$top/tests/terminal.py"; }
+
 # A test that hangs is not waited for where the answer is known without it.
 needs_hanging() { needs_all && has pgrep; }
 test_hanging() {
@@ -828,6 +859,6 @@ test_interrupts() {
 by_clock='logs_and_limits lost_follower warnings'
 [ $# -gt 0 ] || set -- line merges paths wrong_paths unrelated_good terms encodings signed signed_by_gpg sha256 shallow part_of_many submodules \
     places words folders_and_scripts tracked_files links_of_commits torn_outcomes foreign_folders environment bash_environment \
-    left_by_tests odd_words odd_paths lost_output full_disk many_skips few_programs stops warnings hanging log_limit prune tools \
+    left_by_tests odd_words odd_paths lost_output full_disk many_skips few_programs stops warnings progress terminal hanging log_limit prune tools \
     logs_and_limits lost_follower lost_log wrong_words going_on dead_runs check_ends interrupts
 run_tests "$@"

@@ -7,14 +7,16 @@ The repositories are those of tests/repositories.py, with some files that commit
 from one side, from the other or from none. The paths are files and folders of these, with odd names among them, and the
 line is given at the top or in a folder.
 
-Only commits that git lists for these paths, the bad end and merge bases are tested; where the outcomes are kept, the same line
-without --path has the answer that it has without them. And the first bad commit is that of git bisect run. What differs is told
-with its reason, which is looked for in this order:
+Only commits that git lists for these paths, the bad end and merge bases are tested. The same line without --path tests none of
+them again, and the numbers of commits that it tells as left are those behind marks of its log. And the first bad commit is that
+of git bisect run. What differs is told with its reason, which is looked for in this order:
 
 bad end: no commit that changes the paths is bad. git has no answer then, and git farmdawn names the bad end and says so.
 anew: git simplifies merges again from the marks that it has, and so tested a commit that its first list had not.
 both right: each answer is bad, and no commit that changes the paths is left between it and the good ones of its own log; that
 may be so of several commits where the verdicts are not plain, or come by a commit that changes none of the paths.
+one of them: where other commits were tested, one met a test that stops the search, a bad merge base, or skipped commits alone, to
+which git farmdawn counts a bad end that changes none of the paths.
 
 Where the verdicts are bad from one commit on, and that one changes the paths, no difference is right but anew.
 """
@@ -53,7 +55,7 @@ def random_files(choice, names, parents):
 
 
 def make_repository(choice, folder):
-    """A repository with a ref c0, c1, .. on each commit; the commits' names, the verdicts, whether these are plain, the paths."""
+    """A repository with a ref c0, c1, .. on each commit; the commits' names, the verdicts, whether these are plain, the paths, the parents."""
     parents = random_parents(choice, choice.randrange(3, 26))
     statuses, plain = verdicts(choice, parents)
     names, files, text, rising = choice.sample(NAMES, 3), [], [], choice.random() < 0.7
@@ -69,16 +71,15 @@ def make_repository(choice, folder):
     call(folder, "git", "checkout", "-q", f"c{choice.randrange(len(parents))}")
     paths = choice.sample(names, choice.choice([1, 1, 2]))
     paths = [choice.choice(["in", "in/deep"]) if path.startswith("in/deep") and choice.random() < 0.5 else path for path in paths]
-    return git(folder, "rev-parse", *(f"c{number}" for number in range(len(parents)))), statuses, plain, paths
+    return git(folder, "rev-parse", *(f"c{number}" for number in range(len(parents)))), statuses, plain, paths, parents
 
 
 Said = collections.namedtuple("Said", "status answer marks told")
 
 
-def by_tool(choice, folder, question, paths, *words):
-    inside = "in" if choice.random() < 0.4 else "."
+def by_tool(folder, question, paths, inside):
     options = [word for path in paths for word in ("--path", os.path.relpath(path, inside))]
-    done = subprocess.run(["git", "farmdawn", "--workers", "2", *question.options, *options, *words, question.bad, *question.goods, "--", "sh", "-c",
+    done = subprocess.run(["git", "farmdawn", "--workers", "2", *question.options, *options, question.bad, *question.goods, "--", "sh", "-c",
                            'exit $(cat "$(git rev-parse --show-toplevel)/verdict")'], cwd=os.path.join(folder, inside), env=CALM, capture_output=True)
     text = done.stdout.decode()
     return Said(done.returncode, read_answer(text), read_log(text, question.terms), done.stderr.decode()), text
@@ -119,6 +120,46 @@ def faults(folder, question, paths, tool):
         yield "it told of the bad end where it must not, or the other way round"
     if isinstance(tool.answer, str) and tool.answer != question.bad and not is_right(folder, question, paths, tool):
         yield "its answer does not follow from its log"
+
+
+def reached(parents, starts, first_parent=False):
+    """The commits that some reach, by number."""
+    found, open_ones = set(), list(starts)
+    while open_ones:
+        number = open_ones.pop()
+        if number not in found:
+            found.add(number)
+            open_ones += parents[number][:1] if first_parent else parents[number]
+    return found
+
+
+def counts_of(said, question, names, parents):
+    """How many commits are left, and how many of these are skipped, behind each mark of a log."""
+    bad, goods, skips = None, [], set()
+    for term, name in said.marks:
+        number = names.index(name)
+        bad = number if term == question.terms[0] else bad
+        goods += [number] if term == question.terms[1] else []
+        skips |= {number} if term == "skip" else set()
+        left = reached(parents, [bad], "--first-parent" in question.options).difference(reached(parents, goods))
+        yield len(left), len(left & skips)
+
+
+def go_on(folder, question, before, inside, names, parents):
+    """What is wrong in the same line without --path: tests that were run before, or numbers that are not those of the log."""
+    after, _ = by_tool(folder, question, [], inside)
+    tested = [set(re.findall(r": testing ([0-9a-f]{12})$", said.told, re.M)) for said in (before, after)]
+    if {name for name in tested[0] & tested[1] if statuses_of(before, name) != "stop"}:
+        yield f"without --path a commit is tested again: {after.told}"
+    due = iter(counts_of(after, question, names, parents))
+    told = re.findall(r"^(\d+) commits? left, (?:(\d+) of them skipped, )?about", after.told, re.M)
+    if not all((int(left), int(skipped or 0)) in due for left, skipped in told):
+        yield f"the numbers that are left: {told}, {list(counts_of(after, question, names, parents))}"
+
+
+def statuses_of(said, short):
+    """The word that a test was told with, or nothing where it was ended."""
+    return (re.findall(rf"^(\S+) +{short}  ", said.told, re.M) or ["stop"])[0]
 
 
 def against_git(folder, question, paths, tool, theirs, changes):
@@ -162,16 +203,17 @@ def try_one(number, arguments):
     work = tempfile.mkdtemp()
     folder = os.path.join(work, "repository")
     try:
-        names, statuses, plain, paths = make_repository(choice, folder)
+        names, statuses, plain, paths, parents = make_repository(choice, folder)
         question = random_question(choice, names, plain, "verdict")._replace(skips=[])
         question = question._replace(plain=plain)
         known = [path for path in paths if git(folder, "rev-list", "-1", "--full-history", question.bad, *question.goods, "--", f":(literal){path}")]
-        tool, text = by_tool(choice, folder, question, paths)
+        inside = choice.choice(["in", ".", "."])
+        tool, text = by_tool(folder, question, paths, inside)
         if known != paths:
             wrong = [] if (tool.status, text) == (1, "") and "no commit has this path" in tool.told else ["a path that no commit has is not told"]
             return number, question, paths, tool, None, wrong, "refused"
         theirs = by_git(folder, question, paths)
-        wrong = list(faults(folder, question, paths, tool))
+        wrong = [*faults(folder, question, paths, tool), *go_on(folder, question, tool, inside, names, parents)]
         culprits = [name for name, status in zip(names, statuses) if status and not any(
             statuses[names.index(parent)] for parent in git(folder, "rev-list", "--parents", "-n", "1", name)[1:])]
         changes = plain and all(name in listed(folder, question, paths, question.bad, question.goods) for name in culprits)

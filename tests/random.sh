@@ -10,7 +10,7 @@ needs_repositories() { has python3 git flock setsid && has_program; }
 test_repositories() { FARMDAWN=$farmdawn expect 'repositories' python3 "$top/tests/repositories.py" --count 10; }
 
 needs_paths() { needs_repositories; }
-test_paths() { FARMDAWN=$farmdawn expect 'repositories by path' python3 "$top/tests/paths.py" --count 24 --jobs 2; }
+test_paths() { FARMDAWN=$farmdawn expect 'repositories by path' python3 "$top/tests/paths.py" --count 20 --jobs 2; }
 
 needs_folders() { has python3 git && has_program; }
 test_folders() { FARMDAWN=$farmdawn expect 'folders of commits' python3 "$top/tests/folders.py" --count 3; }

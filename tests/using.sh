@@ -65,9 +65,9 @@ run_block() {
         name=${command%.command}
         # shellcheck source=/dev/null
         . "$command" >"$name.output" 2>&1
-        # another home, another number of the command, and as many outcomes as there was time for
+        # another home, another number of the command, as many outcomes as there was time for, and a test as long as it took
         sed -i "s|$HOME|/home/ann|g; s/from [0-9]* outcomes/from N outcomes/; s/results-[0-9a-f]\{12\}/results-NUMBER/
-            s/what [0-9]* searches/what N searches/" "$name.shown" "$name.output"
+            s/what [0-9]* searches/what N searches/; s/([0-9]* s)$/(N s)/" "$name.shown" "$name.output"
         expect "what the page shows of '$(cat "$command")'" is_shown "$name.shown" "$name.output"
     done
 }
