@@ -61,7 +61,7 @@ _farmdawn() {
 
 _git_farmdawn() {
     case $cur in
-    -*) __gitcomp '--help --workers --first-parent --term-new --term-old --skip --path --check-ends --timeout --copy --submodules --log-dir --log-limit --quiet --certificate --check --fresh --prune' ;;
+    -*) __gitcomp '--help --workers --first-parent --term-new --term-old --skip --path --check-ends --timeout --copy --submodules --log-dir --log-limit --quiet --report --certificate --check --fresh --prune' ;;
     *) __git_complete_refs ;;
     esac
 }

@@ -18,6 +18,7 @@ complete -c git-farmdawn -l log-dir -x -a '(__fish_complete_directories)' -d 'ke
 complete -c git-farmdawn -l log-limit -x -d 'keep so much of each output, as 500k or 10M'
 complete -c git-farmdawn -l certificate -r -F -d 'write what others need to check the answer'
 complete -c git-farmdawn -l check -r -F -d 'check such a file'
+complete -c git-farmdawn -l report -x -a '(__fish_complete_directories)' -d 'leave a page and result.json there'
 complete -c git-farmdawn -l prune -d 'remove what is kept of searches that do not run'
 complete -c git-farmdawn -l quiet -d 'tell only what is wrong'
 complete -c git-farmdawn -l fresh -d 'forget the outcomes of earlier runs'
