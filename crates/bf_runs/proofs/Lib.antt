@@ -1,3 +1,4 @@
+pub mod Fewer
 pub mod Fresh
 pub mod Ran
 pub mod Sequences

@@ -36,6 +36,7 @@ use Rattle.bf_search.specs.declared.outcomes.Verdict.{Verdict}
 use Rattle.bf_search.specs.declared.outcomes.Verdict.TheVariants.{Mark as MarkOf, Abort}
 use Rattle.bf_search.specs.Within.{IsEntryWithin}
 use Rattle.bf_search.specs.Farm.{Setting, Farm, step, after_events, end_of}
+use Rattle.bf_search.specs.LeftToAsk.{left_to_ask}
 use Rattle.bf_search.specs.Outcomes.{Outcomes, outcomes_of_table, verdict_of}
 use Rattle.bf_search.specs.Run.{Run, End, Leg, with_entries, with_used, marked_one, leg_of, after_verdict, after_look, after_step, after_ask, turn, run_within}
 use Rattle.bf_search.specs.Run.{run, one_at_a_time}
@@ -49,6 +50,7 @@ use Rattle.bf_runs.specs.Courses.{course_from}
 use Rattle.bf_runs.specs.Legs.{Course, Stand, first_stand, setting_of, leg_run, IsLeg, stand_after, LegsLead, Legs, AreLegs, IsKnown, AreTestsOf, IsTestedAlone}
 use Rattle.bf_runs.specs.Legs.{GoesOnFrom, IsBetween, IsOver, IsReady, IsLegRun, LeadsOn}
 use Rattle.bf_search.specs.Within.{IsEndingWithin}
+use Rattle.bf_runs.proofs.Fewer.{leg_leaves_fewer}
 use Rattle.bf_runs.proofs.Ran.{IsEndWithin, run_is_within}
 
 -- ---- a leg that did not end after its marks is the run without legs
@@ -468,6 +470,14 @@ module _ (search : Searched) (session : Session) (table : List (Option Outcome))
 
   leg_run_is : IsLegRun (course_from search session.search) session report
   leg_run_is = is_leg_run (course_from search session.search) told before after session table report (reported session.search)
+
+  -- a leg that ended after its marks leaves fewer places to ask for
+  pub leg_fewer : report.ending ≡ ending.Leg → left_to_ask search.history.now.parents report.state.search < left_to_ask search.history.now.parents session.search
+  leg_fewer e =
+      let h = reported session.search in
+      subst (λ (t : Session). left_to_ask search.history.now.parents t.search < left_to_ask search.history.now.parents session.search) (sym leg_run_is.state)
+      (leg_leaves_fewer search.history.now.parents (outcomes_of_table report.table) h.sorted session.search search.leg h.over
+      (sym leg_run_is.ending ∙ ap end_of e))
 
   pub leg_places : All (IsEntryWithin (length search.history.now.parents)) report.entries.items
   leg_places =

@@ -1,10 +1,12 @@
 -- What the code searches, as the definition of legs has it.
-use Rattle.std.specs.Prelude.{◌≡◌, ℕ, List, Option}
+use Rattle.std.specs.Prelude.{◌≡◌, ◌<◌, ℕ, List, Option}
 use Rattle.bf_farm.specs.declared.report.Report.{Report}
 use Rattle.bf_runs.specs.declared.case.Search.{Search as Searched}
 use Rattle.bf_runs.specs.declared.legs.Standing.{Standing}
 use Rattle.bf_runs.specs.Legs.{Course, Stand, nothing_known, IsReady, IsLegRun, LeadsOn}
+use Rattle.bf_search.specs.declared.farm.Ending.TheVariants as ending
 use Rattle.bf_search.specs.declared.outcomes.Outcome.{Outcome}
+use Rattle.bf_search.specs.LeftToAsk.{left_to_ask}
 use Rattle.bf_search.specs.State.{Search, IsSearchOver}
 use Rattle.bf_state.specs.Session.{Session}
 use Rattle.bf_tester.specs.declared.tester.Tester.{Ghosts}
@@ -34,6 +36,11 @@ CanBegin by tester search session table =
 -- the report is the run of the leg that begins here, wherever the search began
 abbrev pub IsRunOfLeg : Searched → Standing → Report → Type 0
 IsRunOfLeg search standing report = (first : Search) → IsLegRun (course_from search first) standing.state report
+
+-- a leg that ended after its marks leaves fewer places to ask for than it found
+abbrev pub LeavesFewer : List (List ℕ) → Standing → Report → Type 0
+LeavesFewer graph standing report =
+    report.ending ≡ ending.Leg → left_to_ask graph report.state.search < left_to_ask graph standing.state.search
 
 module _ {T : Type 0} (by : Ghosts T) (old new : T) (search : Searched) where
   -- the leg that begins here leads on, wherever the search began, while the tester tests more

@@ -1,7 +1,7 @@
 //! A leg of a run.
 ghost use Rattle.std.specs.Prelude.{◌≡◌, ◌≤◌, false, IfOk};
 ghost use Rattle.bf_farm.specs.Testers.{KeepsManner, HasAnswersOf, HasFaultBy};
-ghost use Rattle.bf_runs.specs.Courses.{KnowsNothing, CanBegin, IsRunOfLeg, LegLeads, LeavesReady};
+ghost use Rattle.bf_runs.specs.Courses.{KnowsNothing, CanBegin, IsRunOfLeg, LeavesFewer, LegLeads, LeavesReady};
 ghost use Rattle.bf_runs.specs.Within.{HasEntriesWithin, HasEndingWithin};
 
 use crate::case::{Search, run_case};
@@ -33,7 +33,7 @@ impl Standing {
 /// Tests what a search asks for, until it has ended, so many marks were made as a leg has, or a test has failed.
 ///
 /// The report is the run on what is known at its end, whatever the number of workers. After the last leg the
-/// runs of all legs are, in sequence, the run without legs.
+/// runs of all legs are, in sequence, the run without legs. Each leg but the last leaves fewer places to ask for.
 pub fn run_leg<R: Host, T: Tester>(
     rt: &R,
     alloc: Global,
@@ -46,6 +46,7 @@ pub fn run_leg<R: Host, T: Tester>(
     requires is_split { T.is_split tester.old ≡ false }
     ensures run { IfOk result (IsRunOfLeg search.entry standing) }
     ensures leads_on { IfOk result (LegLeads T.Tester tester.old tester.new search.entry standing) }
+    ensures fewer { IfOk result (LeavesFewer search.entry.history.now.parents standing) }
     ensures ready { IfOk result (LeavesReady T.Tester tester.old tester.new search.entry) }
     ensures places { IfOk result (HasEntriesWithin search.entry.history.now.parents) }
     ensures end { IfOk result (HasEndingWithin search.entry.history.now.parents) }

@@ -5,7 +5,7 @@ ghost use Rattle.bf_io.specs.Causes.{FailsOnlyAt};
 ghost use Rattle.bf_output.specs.Tested.{tested_by};
 ghost use Rattle.bf_answers.specs.Answers.{IsCaused};
 ghost use Rattle.bf_answers.specs.Devices.{KeepsManner, met_sink, met_tester};
-ghost use Rattle.bf_searches.specs.Searching.{BeginsRun, IsGoneCaused, IsLegReady, LeadsOnWith, LeadsOverWith, LeadsRunOn, LeavesReady};
+ghost use Rattle.bf_searches.specs.Searching.{BeginsRun, IsGoneCaused, IsLegReady, LeadsOnWith, LeadsOverWith, LeadsRunOn, LeavesFewer, LeavesReady};
 ghost use Rattle.bf_answers.specs.Ready.{IsStarted};
 ghost use Rattle.bf_searches.specs.Searching.{CutsRest, CutsRun, TellsRest, TellsRun};
 ghost use Rattle.bf_answers.specs.Tellings.{AreWithin};
@@ -98,6 +98,7 @@ pub fn go_on<R: Host, T: Tester>(
     ensures goes { LeadsRunOn search.entry running
         (met_tester T.Tester tester.old tester.new) result }
     ensures next { LeavesReady search.entry (met_tester T.Tester tester.old tester.new) result }
+    ensures fewer { LeavesFewer search.entry running result }
     ensures later { T.faults tester.old ≤ T.faults tester.new }
     ensures cause { IfOk result (IsGoneCaused (met_tester T.Tester tester.old tester.new)) }
     ensures manner { KeepsManner T.Tester tester.old tester.new }
@@ -114,7 +115,8 @@ pub fn go_on<R: Host, T: Tester>(
 }
 
 /// Tests leg by leg what a search asks for, until it has ended or a test fails. After each leg the lines so far
-/// are written and the sink is flushed. The answer is what is left to write.
+/// are written and the sink is flushed. The answer is what is left to write. There are no more legs than commits,
+/// since each leg but the last leaves fewer to ask for: only the tests may be waited for.
 fn go_through<R: Host, T: Tester, K: Sink>(
     rt: &R,
     search: Search<'_>,
@@ -135,7 +137,7 @@ fn go_through<R: Host, T: Tester, K: Sink>(
     ensures is_split { T.is_split tester.new ≡ false }
 {
     let mut running = running;
-    for _ in rt.forever() {
+    'legs: loop {
         match go_on(rt, search, running, tester)? {
             Gone::Over(answer) => return Ok(answer),
             Gone::On(next) => running = next,
@@ -143,7 +145,6 @@ fn go_through<R: Host, T: Tester, K: Sink>(
         write_and_flush(out, running.telling.text.as_slice())?;
         running.telling.text.clear();
     }
-    unreachable!()
 }
 
 /// Tests what a search asks for that has begun. The answer is what is left to write.
