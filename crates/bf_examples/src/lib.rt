@@ -11,3 +11,5 @@ mod naming;
 mod reading;
 #[cfg(test)]
 mod searching;
+#[cfg(test)]
+mod sharing;
