@@ -1,8 +1,8 @@
 #!/usr/bin/env python3
 """What a reader has to read to believe a claim: the definitions that it rests on, found by what each file of specs/ names and
-where it has it from. Compares the tables of docs/AUDIT.md with that, and prints what is not so; `--write` writes them anew and
-keeps the sentences; `list FILE NAME` prints the text of all that a definition rests on, in reading order: what is used stands
-in an earlier file, or in the same one."""
+where it has it from. Compares the tables of docs/AUDIT.md with that, and the figures of README.md, and prints what is not
+so; `--write` writes them anew and keeps the sentences; `list FILE NAME` prints the text of all that a definition rests on,
+in reading order: what is used stands in an earlier file, or in the same one."""
 import collections
 import dataclasses
 import glob
@@ -12,6 +12,8 @@ import sys
 
 TOP = os.path.dirname(os.path.dirname(os.path.abspath(__file__)))
 PAGE = os.path.join(TOP, "docs", "AUDIT.md")
+FRONT = os.path.join(TOP, "README.md")  # it has the figures, too, in the same order
+FIGURE = re.compile(r"\d+ definitions in \d+ lines")
 HEADLINE = ("bf_search.specs.Run", "one_at_a_time")
 TEXT = ("bf_output.specs.Output", "IsOutput")
 USE = re.compile(r"^(?:ghost )?use Rattle\.(\S+?)(?:\.\{([^}]*)\}| as (\S+?));?$", re.M)
@@ -174,6 +176,12 @@ def made(book, page):
     return page
 
 
+def front_with(page):
+    """The front page with the figures of this one."""
+    figures_here = iter(FIGURE.findall(page))
+    return FIGURE.sub(lambda _: next(figures_here), read(FRONT))
+
+
 def main(words):
     book, page = Book(), read(PAGE)
     if words[:1] == ["list"]:
@@ -182,13 +190,16 @@ def main(words):
         return True
     now = made(book, page)
     if words == ["--write"]:
-        with open(PAGE, "w", encoding="utf-8") as file:
-            file.write(now)
+        for path, text in ((PAGE, now), (FRONT, front_with(now))):
+            with open(path, "w", encoding="utf-8") as file:
+                file.write(text)
         return True
     wrong = [line for line in now.split("\n") if line not in page.split("\n")]
     wrong += [f"has no sentence: {row}" for row in now.split("\n") if re.search(r"^\| `.*\|\s*\|", row)]
     if now != page and not wrong:
         wrong = ["docs/AUDIT.md has lines more, or in another order"]
+    if front_with(now) != read(FRONT):
+        wrong.append("README.md has other figures")
     print(*wrong, sep="\n", end="\n" if wrong else "")
     return not wrong
 
