@@ -78,7 +78,8 @@ impl Model for Journal {
 impl Journal {
     /// Opens the journal that a disk has of the run with this identity and so many places, and makes it
     /// where there is none. It keeps what the disk stands for. A crash at any moment of the call leaves an
-    /// image that the disk could have left before it, or one that stands for what the disk stood for.
+    /// image that the disk could have left before it, or one that stands for what the disk stood for. The journal
+    /// of another run is left as it is.
     pub fn open<D: Disk>(
         alloc: Global,
         disk: &mut D,
@@ -91,6 +92,11 @@ impl Journal {
             → IfSome (D.told disk.old) (λ bytes. table_in identity len bytes ≡ Err kept) }
         ensures untouched { (kept : _) → result ≡ Err (JournalFault.Mismatch kept)
             → D.told disk.new ≡ D.told disk.old }
+        ensures settled { (kept : _) → result ≡ Err (JournalFault.Mismatch kept)
+            → IsSettled D.told D.may_leave disk.new }
+        ensures no_more { (kept : _) → result ≡ Err (JournalFault.Mismatch kept)
+            → IfSome (D.told disk.old) (λ _. LeavesOnly D.moment D.left_since
+            disk.old disk.new (D.may_leave disk.old)) }
         ensures journal { IfOk result (λ journal. journal ≡ keeping identity journal.kept true) }
         ensures places { IfOk result (λ journal. length journal.kept ≡ len) }
         ensures fits { IfOk result (Fits D.told D.may_leave disk.new) }
