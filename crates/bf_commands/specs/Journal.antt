@@ -1,9 +1,12 @@
 -- The command `journal`: a run whose outcomes are kept in a file, leg by leg.
 use Rattle.std.specs.Prelude.{◌≡◌, ◌≢◌, ◌⊎◌, ℕ, max, Bool, List, [], ◌++◌, length, codes, Option, Some, None, IfSome, Result, Ok, Err}
+use Rattle.bf_farm.specs.Reports.{IsAnswered}
 use Rattle.bf_history.specs.Meanings.{History}
 use Rattle.bf_io.specs.Causes.{Rose}
+use Rattle.bf_journal.specs.Disk.{NoMore, Only}
 use Rattle.bf_journal.specs.Identity.{run_identity}
 use Rattle.bf_journal.specs.Image.{table_in}
+use Rattle.bf_journal.specs.Journal.{IsAsOpened}
 use Rattle.bf_oid.specs.declared.object.Oid.{Oid}
 use Rattle.bf_runs.specs.Legs.{IsKnown}
 use Rattle.bf_search.specs.declared.entries.Entry.{Entry}
@@ -12,7 +15,8 @@ use Rattle.bf_search.specs.declared.outcomes.Verdict.TheVariants.{Abort}
 use Rattle.bf_search.specs.Outcomes.{outcomes_of_table, verdict_of}
 use Rattle.bf_search.specs.Run.{Run}
 use Rattle.bf_shelf.specs.declared.shelf.LoadFault.{LoadFault}
-use Rattle.bf_state.specs.Runs.{GoesOn}
+use Rattle.bf_state.specs.Runs.{GoesOn, IsPartOf}
+use Rattle.bf_tester.specs.declared.answer.Answer.{Answer}
 use Rattle.bf_tester.specs.Plans.{read_as}
 use Rattle.bf_words.specs.declared.request.Request.{Request}
 use Rattle.bf_output.specs.declared.status.Status.TheVariants as status
@@ -28,7 +32,9 @@ use Rattle.bf_commands.specs.Orders.{request_of}
 -- what a call met of the disk that a journal is kept on
 pub record DiskMet : Type 1 where
   pub before : Option (List ℕ)  -- the bytes that it had, where it tells them
-  pub may_leave : List ℕ → Type 0  -- the images that a crash may leave after the call
+  pub could_leave : List ℕ → Type 0  -- the images that a crash could leave before the call
+  pub left : List ℕ → Type 0  -- those that a crash at some moment of the call might have left
+  pub may_leave : List ℕ → Type 0  -- those that a crash may leave after it
   pub faults : ℕ  -- its count before the call
   pub faults_now : ℕ
 
@@ -65,15 +71,49 @@ KeepsAll is_lenient kept known = (p : ℕ) (outcome : Outcome)
     → outcomes_of_table known p ≡ Some outcome → verdict_of outcome ≢ Abort
     → (found : Outcome) × (outcomes_of_table kept p ≡ Some found) × IsKeptAs is_lenient found outcome
 
--- an image keeps them
-abbrev pub IsKeptIn : Oid → ℕ → Bool → List (Option Outcome) → List ℕ → Type 0
-IsKeptIn identity len is_lenient known image =
-    (kept : List (Option Outcome)) × (table_in identity len image ≡ Ok kept) × KeepsAll is_lenient kept known
+-- An outcome that may be put: one that the tester answered, as all that is known was, and that does not end the run.
+abbrev pub MayBePut : List Oid → List Answer → List (Option Outcome) → ℕ → Outcome → Type 0
+MayBePut names answers known p outcome =
+    (IsAnswered names answers p outcome ⊎ (outcomes_of_table known p ≡ Some outcome)) × (verdict_of outcome ≢ Abort)
 
--- and so does each image that a crash may leave, where the disk tells its bytes
-abbrev pub AreImagesOf : DiskMet → Oid → ℕ → Bool → List (Option Outcome) → Type 0
-AreImagesOf disk identity len is_lenient known =
-    IfSome disk.before (λ _. (image : List ℕ) → disk.may_leave image → IsKeptIn identity len is_lenient known image)
+-- each outcome that is kept was found when the journal was opened, or else may be put
+abbrev pub KeepsOnly : (ℕ → Outcome → Type 0) → List (Option Outcome) → List (Option Outcome) → Type 0
+KeepsOnly MayPut found kept = (p : ℕ) (outcome : Outcome)
+    → outcomes_of_table kept p ≡ Some outcome → (outcomes_of_table found p ≡ Some outcome) ⊎ MayPut p outcome
+
+-- An image goes on from what was found when the journal was opened: it keeps all of that as it was, and beside it only what may
+-- be put.
+pub record Continues (identity : Oid) (len : ℕ) (MayPut : ℕ → Outcome → Type 0) (found : List (Option Outcome)) (image : List ℕ) : Type 0 where
+  pub kept : List (Option Outcome)
+  pub reads : table_in identity len image ≡ Ok kept
+  pub opened : IsPartOf (outcomes_of_table found) (outcomes_of_table kept)
+  pub only : KeepsOnly MayPut found kept
+
+-- it does, and keeps all that is known
+pub record IsKeptIn (identity : Oid) (len : ℕ) (MayPut : ℕ → Outcome → Type 0) (is_lenient : Bool) (found table : List (Option Outcome)) (image : List ℕ) : Type 0 where
+  pub on : Continues identity len MayPut found image
+  pub known : KeepsAll is_lenient on.kept table
+
+-- Each image that a crash may leave after the call does so, and one that a crash at some moment of the call might have left goes
+-- on from what was found, or could be left before the call.
+pub record AreImages (disk : DiskMet) (identity : Oid) (len : ℕ) (MayPut : ℕ → Outcome → Type 0) (is_lenient : Bool) (found table : List (Option Outcome))
+    : Type 0 where
+  pub now : (image : List ℕ) → disk.may_leave image → IsKeptIn identity len MayPut is_lenient found table image
+  pub ever : (image : List ℕ) → disk.left image → disk.could_leave image ⊎ Continues identity len MayPut found image
+
+-- where the disk tells its bytes, so it is with the journal of a run on what its tester answered
+abbrev pub AreImagesOf : DiskMet → Oid → List Oid → Tested → List (Option Outcome) → List (Option Outcome) → Type 0
+AreImagesOf disk identity names tested found table =
+    IfSome disk.before (λ _. AreImages disk identity (length names) (MayBePut names tested.answers table) tested.is_lenient found table)
+
+-- the journal of another run is left as it was: a crash leaves the bytes from before, and at no moment of the call more than before
+pub record IsLeftAlone (disk : DiskMet) (bytes : List ℕ) : Type 0 where
+  pub now : Only bytes disk.may_leave
+  pub ever : NoMore disk.could_leave disk.left
+
+-- where the disk failed while it was opened, each image could be left before, or stands for what the bytes stand for
+abbrev pub IsOpenedAt : DiskMet → Oid → ℕ → List ℕ → Type 0
+IsOpenedAt disk identity len bytes = (image : List ℕ) → disk.left image → IsAsOpened disk.could_leave identity len bytes image
 
 -- ---- what is told
 
@@ -98,19 +138,20 @@ pub record IsJournalCut (disk : DiskMet) (tested : Tested) (history : History) (
   pub front : IsLogFront history first (run_on history first table) written
   pub tells : told ≡ journal_fault written
 
--- a run as `run` tells it, or cut short by the disk; each outcome of it is in each image of the disk
-abbrev pub IsRunKept : DiskMet → Oid → Request → Tested → History → Begun → Told → Type 0
-IsRunKept disk identity request tested history first told =
-    ((is : IsTested request tested history first told) × AreImagesOf disk identity (length history.names) tested.is_lenient is.table)
-    ⊎ (((is : IsTestCut request tested history first told) × AreImagesOf disk identity (length history.names) tested.is_lenient is.table)
-    ⊎ (((is : IsTestLost tested.plan history first told) × AreImagesOf disk identity (length history.names) tested.is_lenient is.table)
+-- a run as `run` tells it, or cut short by the disk; what was found and each outcome of it are in each image of the disk
+abbrev pub IsRunKept : DiskMet → Oid → List (Option Outcome) → Request → Tested → History → Begun → Told → Type 0
+IsRunKept disk identity found request tested history first told =
+    ((is : IsTested request tested history first told) × AreImagesOf disk identity history.names tested found is.table)
+    ⊎ (((is : IsTestCut request tested history first told) × AreImagesOf disk identity history.names tested found is.table)
+    ⊎ (((is : IsTestLost tested.plan history first told) × AreImagesOf disk identity history.names tested found is.table)
     ⊎ ((table : List (Option Outcome)) × IsJournalCut disk tested history first table told
-    × AreImagesOf disk identity (length history.names) tested.is_lenient table)))
+    × AreImagesOf disk identity history.names tested found table)))
 
 abbrev pub IsOpenedTold : Opened → DiskMet → Oid → Request → Tested → History → Begun → Told → Type 0
-IsOpenedTold (Kept outcomes) disk identity request tested history first told = IsRunKept disk identity request tested history first told
-IsOpenedTold (Other kept) disk identity request tested history first told = told ≡ journal_refused kept
-IsOpenedTold Failed disk identity request tested history first told = told ≡ journal_fault []
+IsOpenedTold (Kept found) disk identity request tested history first told = IsRunKept disk identity found request tested history first told
+IsOpenedTold (Other kept) disk identity request tested history first told = (told ≡ journal_refused kept) × IfSome disk.before (IsLeftAlone disk)
+IsOpenedTold Failed disk identity request tested history first told =
+    (told ≡ journal_fault []) × IfSome disk.before (IsOpenedAt disk identity (length history.names))
 
 -- the journal is opened once the search has begun
 abbrev pub IsJournalled : DiskMet → Request → List (List ℕ) → Tested → History → Begun → Told → Type 0

@@ -9,6 +9,7 @@ ghost use Rattle.bf_checkout.specs.Shops.{AreTestedIn};
 ghost use Rattle.bf_checkout_run.specs.CheckingOut.{HasGroundsOf};
 ghost use Rattle.bf_journal_run.specs.Journalling.{AreUnasked};
 ghost use Rattle.bf_journal_run.specs.Legs.{met_disk};
+ghost use Rattle.bf_journal_run.specs.Searching.{IsUnopenedIfRefused};
 ghost use Rattle.bf_recall.specs.Recalling.{remembering};
 ghost use Rattle.bf_farmed.specs.Farming as farming;
 ghost use Rattle.bf_farmed.specs.Farming.{Answers, HasTestCause, IsComplete, IsRecalled, IsShopUsed, IsUsed, PrintsLog, commanded, farm_met, furnishes, keeps, ordered};
@@ -149,6 +150,9 @@ pub fn farm_main<
         (met_tester ⟦<Recall<T> as Tester>⟧ tester.old tester.new) result }
     ensures shop_untested { IsUntestedIfRefused
         (met_tester ⟦<Workshop<U, D> as Tester>⟧ shop.old shop.new) result }
+    ensures unopened { IsUnopenedIfRefused disk.old disk.new result }
+    ensures untouched { (kept : _) → result ≡ Status.JournalRefused kept
+        → J.told disk.new ≡ J.told disk.old }
     ensures is_split { T.is_split tester.new.inner ≡ false }
     ensures shop_is_split { U.is_split shop.new.tester ≡ false }
 {
@@ -241,6 +245,9 @@ fn carry_out<
         (met_tester ⟦<Recall<T> as Tester>⟧ tester.old tester.new) result }
     ensures shop_untested { IsUntestedIfRefused
         (met_tester ⟦<Workshop<U, D> as Tester>⟧ shop.old shop.new) result }
+    ensures unopened { IsUnopenedIfRefused disk.old disk.new result }
+    ensures untouched { (kept : _) → result ≡ Status.JournalRefused kept
+        → J.told disk.new ≡ J.told disk.old }
     ensures is_split { T.is_split tester.new.inner ≡ false }
     ensures shop_is_split { U.is_split shop.new.tester ≡ false }
 {

@@ -7,7 +7,7 @@ use Rattle.bf_answers.specs.Devices.{SinkMet, TesterMet}
 use Rattle.bf_answers.specs.Ready.{IsCausedTold, IsConcluded}
 use Rattle.bf_answers.specs.SoFar.{NeverRefuses}
 use Rattle.bf_answers.specs.Writes.{IsWritten}
-use Rattle.bf_commands.specs.Journal.{AreImagesOf, DiskMet, HasDiskFailed, IsJournalled, IsKeptIn, IsRunKept, Opens, identity_of, journal_fault, journal_refused}
+use Rattle.bf_commands.specs.Journal.{AreImages, AreImagesOf, Continues, DiskMet, HasDiskFailed, IsJournalled, IsKeptIn, IsLeftAlone, IsOpenedAt, IsOpenedTold, IsRunKept, MayBePut, Opens, identity_of, journal_fault, journal_refused}
 use Rattle.bf_commands.specs.Journal.Opened.{Other, Failed}
 use Rattle.bf_farm.proofs.Asked.{rose_since}
 use Rattle.bf_history.specs.Meanings.{History}
@@ -15,9 +15,13 @@ use Rattle.bf_io.proofs.Told.{Appends-trans, AppendsFront-second}
 use Rattle.bf_io.specs.Causes.{Rose}
 use Rattle.bf_io.specs.declared.device.SinkFault.TheVariants as sinks
 use Rattle.bf_io.specs.Told.{AppendsFront}
+use Rattle.bf_journal.proofs.Moments.{LeavesOnly-none, LeavesOnly-then, LeavesOnly-within}
+use Rattle.bf_journal.specs.declared.disk.Disk.{Ghosts}
 use Rattle.bf_journal.specs.declared.journal.JournalFault.{JournalFault}
+use Rattle.bf_journal.specs.Disk.{LeavesOnly, Only}
 use Rattle.bf_journal.specs.Identity.{run_identity}
-use Rattle.bf_journal.specs.Journal.{Keeping, keeping}
+use Rattle.bf_journal.specs.Image.{table_in}
+use Rattle.bf_journal.specs.Journal.{IsAsOpened, Keeping, keeping}
 use Rattle.bf_oid.specs.declared.object.Oid.{Oid}
 use Rattle.bf_output.specs.Beginning.{Begun}
 use Rattle.bf_output.specs.declared.status.Status.{Status}
@@ -25,13 +29,16 @@ use Rattle.bf_output.specs.declared.status.Status.TheVariants as status
 use Rattle.bf_output.specs.Tested.{Tested}
 use Rattle.bf_output.specs.Told.{Told}
 use Rattle.bf_search.specs.declared.outcomes.Outcome.{Outcome}
+use Rattle.bf_search.specs.Outcomes.{outcomes_of_table}
 use Rattle.bf_searches.proofs.Untested.{of_search}
 use Rattle.bf_words.specs.declared.request.Request.{Request}
 use Rattle.bf_words.specs.declared.verb.Verb.TheVariants.{Run}
 use Rattle.bf_journal_run.specs.declared.cut.Cut.{Cut}
 use Rattle.bf_journal_run.specs.declared.cut.Cut.TheVariants.{Journal, Output, NoMemory}
-use Rattle.bf_journal_run.specs.Legs.{IsCutByDisk, IsEndedKept}
-use Rattle.bf_journal_run.specs.Searching.{SaysKept}
+use Rattle.bf_journal_run.specs.Kept.{AreLasting, Lasts}
+use Rattle.bf_journal_run.specs.Legs.{IsCutByDisk, IsEndedKept, met_disk}
+use Rattle.bf_journal_run.specs.Searching.{IsBeforeOpening, IsRefusedOnly, SaysKept}
+use Rattle.bf_journal_run.proofs.Keeping.{part_itself}
 
 -- ---- the journal that was opened
 
@@ -62,47 +69,112 @@ long_journal (Err fault) n m same is = tt
 
 -- ---- since the journal was opened
 
--- the images of a disk that told its bytes before
-images_before : (disk earlier : DiskMet) (identity meant : Oid) (n m : ℕ) (is_lenient : Bool) (table : List (Option Outcome))
-    → earlier.may_leave ≡ disk.may_leave → is_some disk.before ≡ is_some earlier.before → identity ≡ meant → n ≡ m
-    → AreImagesOf disk identity n is_lenient table → AreImagesOf earlier meant m is_lenient table
-images_before disk earlier identity meant n m is_lenient table left same own long images =
-    as_meant (λ i k. AreImagesOf earlier i k is_lenient table) identity meant n m own long
-    (subst (λ (may_leave : List ℕ → Type 0). IfSome earlier.before (λ _. (image : List ℕ) → may_leave image → IsKeptIn identity n is_lenient table image))
-    (sym left) (by disk.before earlier.before same images))
-  where
-    by : (one other : Option (List ℕ)) → is_some one ≡ is_some other
-        → IfSome one (λ _. (image : List ℕ) → disk.may_leave image → IsKeptIn identity n is_lenient table image)
-        → IfSome other (λ _. (image : List ℕ) → disk.may_leave image → IsKeptIn identity n is_lenient table image)
-    by one None same images = tt
-    by None (Some bytes) same images = cc same
-    by (Some other) (Some bytes) same images = images
+module _ {J : Type 0} (by : Ghosts J) where
+  -- while it was opened
+  pub opened_at : (old new : J) (identity : Oid) (len : ℕ)
+      → IfSome (by.told old) (λ bytes. LeavesOnly by.moment by.left_since old new (IsAsOpened (by.may_leave old) identity len bytes))
+      → IfSome (by.told old) (IsOpenedAt (met_disk by old new) identity len)
+  opened_at old new identity len opens = at (by.told old) opens
+    where
+      at : (told : Option (List ℕ)) → IfSome told (λ bytes. LeavesOnly by.moment by.left_since old new (IsAsOpened (by.may_leave old) identity len bytes))
+          → IfSome told (IsOpenedAt (met_disk by old new) identity len)
+      at None opens = tt
+      at (Some bytes) opens = opens.each
+
+  -- before it is
+  pub unopened_yet : ((disk : J) (image : List ℕ) → by.left_since disk (by.moment disk) image → by.may_leave disk image) → (disk : J) (identity : Oid) (len : ℕ)
+      → IfSome (by.told disk) (λ bytes. LeavesOnly by.moment by.left_since disk disk (IsAsOpened (by.may_leave disk) identity len bytes))
+  unopened_yet only_now disk identity len = at (by.told disk)
+    where
+      at : (told : Option (List ℕ)) → IfSome told (λ bytes. LeavesOnly by.moment by.left_since disk disk (IsAsOpened (by.may_leave disk) identity len bytes))
+      at None = tt
+      at (Some bytes) =
+          LeavesOnly-none by.moment by.left_since disk (IsAsOpened (by.may_leave disk) identity len bytes) (λ image left. inl (only_now disk image left))
+
+  -- the journal of another run is left as it was
+  pub left_alone : (old new : J) → by.told new ≡ by.told old → IfSome (by.told new) (λ bytes. Only bytes (by.may_leave new))
+      → IfSome (by.told old) (λ _. LeavesOnly by.moment by.left_since old new (by.may_leave old))
+      → IfSome (by.told old) (IsLeftAlone (met_disk by old new))
+  left_alone old new same settled left =
+      at (by.told old) (subst (λ (told : Option (List ℕ)). IfSome told (λ bytes. Only bytes (by.may_leave new))) same settled) left
+    where
+      at : (told : Option (List ℕ)) → IfSome told (λ bytes. Only bytes (by.may_leave new))
+          → IfSome told (λ _. LeavesOnly by.moment by.left_since old new (by.may_leave old)) → IfSome told (IsLeftAlone (met_disk by old new))
+      at None settled left = tt
+      at (Some bytes) settled left = record { now = settled; ever = left.each }
+
+  module _ (old mid new : J) (journal : Keeping) (meant : Oid) (names : List Oid) (tested : Tested) (table : List (Option Outcome))
+      (own : journal.identity ≡ meant) (long : length journal.kept ≡ length names) where
+    abbrev MayPut : ℕ → Outcome → Type 0
+    MayPut p x = MayBePut names tested.answers table p x
+
+    abbrev IsLeft : List ℕ → Type 0
+    IsLeft image = by.may_leave old image ⊎ Continues meant (length names) (MayBePut names tested.answers table) journal.kept image
+
+    opened_image : (bytes image : List ℕ) → table_in meant (length names) bytes ≡ Ok journal.kept
+        → IsAsOpened (by.may_leave old) meant (length names) bytes image → IsLeft image
+    opened_image bytes image found (inl could) = inl could
+    opened_image bytes image found (inr same) =
+        inr (record {
+          kept = journal.kept;
+          reads = same ∙ found;
+          opened = part_itself (outcomes_of_table journal.kept);
+          only = λ p x was. inl was;
+        })
+
+    later_image : (image : List ℕ) → Continues journal.identity (length journal.kept) MayPut journal.kept image → IsLeft image
+    later_image image on =
+        inr (as_meant (λ (i : Oid) (k : ℕ). Continues i k MayPut journal.kept image) journal.identity meant (length journal.kept) (length names) own long on)
+
+    kept_image : (image : List ℕ) → IsKeptIn journal.identity (length journal.kept) MayPut tested.is_lenient journal.kept table image
+        → IsKeptIn meant (length names) MayPut tested.is_lenient journal.kept table image
+    kept_image image kept =
+        as_meant (λ (i : Oid) (k : ℕ). IsKeptIn i k MayPut tested.is_lenient journal.kept table image) journal.identity meant (length journal.kept)
+        (length names) own long kept
+
+    -- the images of the call: while the journal was opened, and since then
+    pub images_of_run : is_some (by.told mid) ≡ is_some (by.told old)
+        → IfSome (by.told old) (λ bytes. LeavesOnly by.moment by.left_since old mid (IsAsOpened (by.may_leave old) meant (length names) bytes))
+        → IfSome (by.told old) (λ bytes. table_in meant (length names) bytes ≡ Ok journal.kept) → AreLasting by mid new journal names tested journal.kept table
+        → AreImagesOf (met_disk by old new) meant names tested journal.kept table
+    images_of_run same opens found lasting = at (by.told old) (by.told mid) same opens found lasting
+      where
+        at : (told then_told : Option (List ℕ)) → is_some then_told ≡ is_some told
+            → IfSome told (λ bytes. LeavesOnly by.moment by.left_since old mid (IsAsOpened (by.may_leave old) meant (length names) bytes))
+            → IfSome told (λ bytes. table_in meant (length names) bytes ≡ Ok journal.kept)
+            → IfSome then_told (λ _. Lasts by mid new journal names tested journal.kept table)
+            → IfSome told (λ _. AreImages (met_disk by old new) meant (length names) (MayBePut names tested.answers table) tested.is_lenient journal.kept table)
+        at None then_told same opens found lasting = tt
+        at (Some bytes) None same opens found lasting = cc same
+        at (Some bytes) (Some then_bytes) same opens found lasting =
+            let first : LeavesOnly by.moment by.left_since old mid IsLeft =
+            LeavesOnly-within by.moment by.left_since old mid (IsAsOpened (by.may_leave old) meant (length names) bytes) IsLeft opens
+            (λ image is. opened_image bytes image found is) in
+            let all : LeavesOnly by.moment by.left_since old new IsLeft =
+            LeavesOnly-then by.moment by.left_since old mid new IsLeft (Continues journal.identity (length journal.kept) MayPut journal.kept) first lasting.ever
+            (λ image on. later_image image on) in
+            record { now = λ image may. kept_image image (lasting.now image may); ever = all.each }
 
 -- what a kept run tells is no refusal
-pub never_refused : (disk : DiskMet) (identity : Oid) (request : Request) (words : List (List ℕ)) (tested : Tested) (history : History) (first : Begun)
-    → NeverRefuses (IsRunKept disk identity request tested history first)
-never_refused disk identity request words tested history first = λ told is refused. by told is refused
+pub never_refused : (disk : DiskMet) (identity : Oid) (found : List (Option Outcome)) (request : Request) (words : List (List ℕ)) (tested : Tested) (history : History) (first : Begun)
+    → NeverRefuses (IsRunKept disk identity found request tested history first)
+never_refused disk identity found request words tested history first = λ told is refused. by told is refused
   where
-    by : (told : Told) → IsRunKept disk identity request tested history first told → IsBeforeSearch told.status → ⊥
+    by : (told : Told) → IsRunKept disk identity found request tested history first told → IsBeforeSearch told.status → ⊥
     by told (inl (is, kept)) refused = of_search Run request words tested history first told (inl is) refused
     by told (inr (inl (is, kept))) refused = of_search Run request words tested history first told (inr (inl is)) refused
     by told (inr (inr (inl (is, kept)))) refused = of_search Run request words tested history first told (inr (inr is)) refused
     by told (inr (inr (inr (table, is, kept)))) refused = subst (λ (t : Told). IsBeforeSearch t.status) is.tells refused
 
-module _ (disk now : DiskMet) (own meant : Oid) (n : ℕ) (request : Request) (words : List (List ℕ)) (tester : TesterMet) (history : History) (first : Begun)
-    (left : disk.may_leave ≡ now.may_leave) (same : is_some now.before ≡ is_some disk.before) (named : own ≡ meant) (long : n ≡ length history.names)
+module _ (disk now : DiskMet) (meant : Oid) (found : List (Option Outcome)) (Images : List (Option Outcome) → Type 0) (request : Request)
+    (words : List (List ℕ)) (tester : TesterMet) (history : History) (first : Begun)
+    (kept_of_table : (table : List (Option Outcome)) → Images table → AreImagesOf disk meant history.names tester.after found table)
     (rose : HasDiskFailed now → HasDiskFailed disk) where
-  abbrev Images : List (Option Outcome) → Type 0
-  Images table = AreImagesOf now own n tester.after.is_lenient table
-
   abbrev Tells : Told → Type 0
-  Tells told = IsRunKept disk meant request tester.after history first told
-
-  kept_of_table : (table : List (Option Outcome)) → Images table → AreImagesOf disk meant (length history.names) tester.after.is_lenient table
-  kept_of_table table images = images_before now disk own meant n (length history.names) tester.after.is_lenient table left same named long images
+  Tells told = IsRunKept disk meant found request tester.after history first told
 
   never : NeverRefuses Tells
-  never = never_refused disk meant request words tester.after history first
+  never = never_refused disk meant found request words tester.after history first
 
   -- the disk failed behind some legs
   of_disk : (before mid after : Option (List ℕ)) (result : Status) → IsCutByDisk Images now tester.after history first before mid
@@ -201,13 +273,56 @@ said_write first mid now Cut le (inr rose) failed same = rose_since first mid no
 
 module _ (disk : DiskMet) (request : Request) (words : List (List ℕ)) (tester : TesterMet) (history : History) (first : Begun) (before after : Option (List ℕ))
     (result : Status) where
-  pub of_another : (kept : Oid) → Opens disk (identity_of history request words) (length history.names) (Other kept) → IsUntested tester
-      → IsWritten before after (codes "journal of another run\n") (status.JournalRefused kept) result
+  pub of_another : (kept : Oid) → Opens disk (identity_of history request words) (length history.names) (Other kept) → IfSome disk.before (IsLeftAlone disk)
+      → IsUntested tester → IsWritten before after (codes "journal of another run\n") (status.JournalRefused kept) result
       → IsConcluded (IsCausedTold true tester (IsJournalled disk request words tester.after history first)) before after result
-  of_another kept opened untested written =
-      inl (journal_refused kept, ((Other kept, opened, refl), (λ place e. cc e, λ refused. untested)), (λ e. cc e), written)
+  of_another kept opened alone untested written =
+      inl (journal_refused kept, ((Other kept, opened, (refl, alone)), (λ place e. cc e, λ refused. untested)), (λ e. cc e), written)
 
-  pub of_failed : HasDiskFailed disk → IsWritten before after (codes "journal fault\n") status.JournalFault result
+  pub of_failed : HasDiskFailed disk → IfSome disk.before (IsOpenedAt disk (identity_of history request words) (length history.names))
+      → IsWritten before after (codes "journal fault\n") status.JournalFault result
       → IsConcluded (IsCausedTold true tester (IsJournalled disk request words tester.after history first)) before after result
-  of_failed failed written =
-      inl (journal_fault [], ((Failed, failed, refl), (λ place e. cc e, λ refused. absurd refused)), (λ e. cc e), written)
+  of_failed failed opened written =
+      inl (journal_fault [], ((Failed, failed, (refl, opened)), (λ place e. cc e, λ refused. absurd refused)), (λ e. cc e), written)
+
+-- ---- the statuses before a search
+
+-- a run that is told has none of them
+pub run_refused : (Is : Told → Type 0) (tester : TesterMet) (before after : Option (List ℕ)) (result : Status) (Same : Type 0) → NeverRefuses Is
+    → IsConcluded (IsCausedTold true tester Is) before after result → IsRefusedOnly result Same
+run_refused Is tester before after result Same never (inl (told, (is, fits), lost, inl (e, all))) = λ refused. absurd (never told is (subst IsBeforeSearch e refused))
+run_refused Is tester before after result Same never (inl (told, is, lost, inr (inl e, front))) = λ refused. absurd (subst IsBeforeSearch e refused)
+run_refused Is tester before after result Same never (inl (told, is, lost, inr (inr e, front))) = λ refused. absurd (subst IsBeforeSearch e refused)
+run_refused Is tester before after result Same never (inr (e, kept)) = λ refused. absurd (subst IsBeforeSearch e refused)
+
+-- the journal of another run has one
+pub another_refused : (before after : Option (List ℕ)) (text : List ℕ) (kept : Oid) (result : Status) (Same : Type 0)
+    → IsWritten before after text (status.JournalRefused kept) result → Same → IsRefusedOnly result Same
+another_refused before after text kept result Same (inl (e, all)) same = λ refused. (kept, e, same)
+another_refused before after text kept result Same (inr (inl e, front)) same = λ refused. absurd (subst IsBeforeSearch e refused)
+another_refused before after text kept result Same (inr (inr e, front)) same = λ refused. absurd (subst IsBeforeSearch e refused)
+
+-- a fault has none
+pub fault_refused : (before after : Option (List ℕ)) (text : List ℕ) (result : Status) (Same : Type 0)
+    → IsWritten before after text status.JournalFault result → IsRefusedOnly result Same
+fault_refused before after text result Same (inl (e, all)) = λ refused. absurd (subst IsBeforeSearch e refused)
+fault_refused before after text result Same (inr (inl e, front)) = λ refused. absurd (subst IsBeforeSearch e refused)
+fault_refused before after text result Same (inr (inr e, front)) = λ refused. absurd (subst IsBeforeSearch e refused)
+
+pub memory_refused : (result : Status) (Same : Type 0) → result ≡ status.NoMemory → IsRefusedOnly result Same
+memory_refused result Same e = λ refused. absurd (subst IsBeforeSearch e refused)
+
+before_search : (result : Status) → IsBeforeOpening result → IsBeforeSearch result
+before_search (status.JournalRefused kept) before = tt
+before_search other before = before
+
+-- what follows of the disk
+pub unopened_only : (result : Status) (Same Unopened : Type 0) → IsRefusedOnly result Same → IsBeforeOpening result → Unopened
+unopened_only result Same Unopened only before =
+    let (kept, e, same) = only (before_search result before) in
+    absurd (subst IsBeforeOpening e before)
+
+pub untouched_only : (result : Status) (Same : Type 0) (kept : Oid) → IsRefusedOnly result Same → result ≡ status.JournalRefused kept → Same
+untouched_only result Same kept only e =
+    let (found, is, same) = only (subst IsBeforeSearch (sym e) tt) in
+    same

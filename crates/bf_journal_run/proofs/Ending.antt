@@ -3,7 +3,7 @@ use Rattle.std.proofs.Common.{◌≡◌, ◌⊎◌, inl, inr, ℕ, ◌≤◌, Li
 use Rattle.std.proofs.lemmas.List.{append-nil}
 use Rattle.bf_answers.specs.declared.answer.Answer.{Answer}
 use Rattle.bf_answers.specs.Devices.{TesterMet}
-use Rattle.bf_commands.specs.Journal.{DiskMet, HasDiskFailed, IsLogFront, KeepsAll}
+use Rattle.bf_commands.specs.Journal.{DiskMet, HasDiskFailed, IsLogFront, MayBePut}
 use Rattle.bf_farm.proofs.Asked.{rose_since}
 use Rattle.bf_history.specs.Meanings.{History}
 use Rattle.bf_io.specs.Causes.{FailsOnlyAt, Rose}
@@ -27,15 +27,17 @@ use Rattle.bf_words.specs.declared.request.Request.{Request}
 use Rattle.bf_journal_run.specs.Cuts.{cut_of_sink}
 use Rattle.bf_journal_run.specs.declared.cut.Cut.{Cut}
 use Rattle.bf_journal_run.specs.declared.cut.Cut.TheVariants.{Journal, Output, NoMemory}
-use Rattle.bf_journal_run.specs.Legs.{IsCutByMemory, IsCutByWrite, IsEndedKept, IsKeptRun, IsLedKept, IsToldKept}
+use Rattle.bf_journal_run.specs.Legs.{IsCutByMemory, IsCutByWrite, IsEndedKept, IsKeptOn, IsKeptRun, IsLedKept, IsToldKept}
 
--- What was written so far of a run that has come to its next leg: nothing, or all that it tells so far.
-pub record HasComeKept (search : Searched) (request : Request) (tested : Tested) (remembered : List Answered) (opened : List (Option Outcome)) (first : Begun)
+-- What was written so far of a run that has come to its next leg: nothing, or all that it tells so far. Each image that a crash
+-- might have left is of what is known by then.
+pub record HasComeKept (Leaves : List (Option Outcome) → Type 0) (search : Searched) (request : Request) (tested : Tested) (remembered : List Answered) (opened : List (Option Outcome)) (first : Begun)
     (before after : Option (List ℕ)) (kept : List (Option Outcome)) (running : Running) : Type 0 where
   pub written : List ℕ
   pub gained : Appends before after written
   pub is : IsKeptRun search request tested remembered opened first written kept running
   pub begun : (written ≡ []) ⊎ (running.telling.text ≡ [])
+  pub ever : Leaves running.standing.table
 
 -- ---- what cuts a run short
 
@@ -98,12 +100,15 @@ module _ (images : List (Option Outcome) → Type 0) (disk : DiskMet) (search : 
   unwritten tested mid after sinks.NoMemory is gained front kept = lost_by tested tested mid after refl is gained front kept
 
   -- a leg was cut short, of which nothing was written
-  pub cut_in_leg : (tester : TesterMet) (remembered : List Answered) (opened new : List (Option Outcome)) (after : Option (List ℕ)) (cut : Cut)
+  pub cut_in_leg : (Leaves : (ℕ → Outcome → Type 0) → Type 0) (tester : TesterMet) (remembered : List Answered) (opened new : List (Option Outcome))
+      (after : Option (List ℕ)) (cut : Cut)
       → tester.after.plan ≡ tester.before.plan → IsRunning request tester.before search.history.now first written running → (written ≡ []) ⊎ (running.telling.text ≡ [])
-      → Appends before after written → images running.standing.table → (cut ≡ Journal → HasDiskFailed disk)
-      → IsLedKept search request tester remembered opened first written new running.standing.table (Err cut)
+      → Appends before after written
+      → (Leaves (MayBePut search.history.now.names tester.after.answers running.standing.table) → images running.standing.table)
+      → (cut ≡ Journal → HasDiskFailed disk)
+      → IsLedKept Leaves search request tester remembered opened first written new running.standing.table (Err cut)
       → IsEndedKept images disk request tester.after search.history.now first before after (Err cut)
-  cut_in_leg tester remembered opened new after Journal same is begun gained kept failed led =
+  cut_in_leg Leaves tester remembered opened new after Journal same is begun gained kept failed led =
       let table = running.standing.table in
       record {
         table = table;
@@ -111,25 +116,25 @@ module _ (images : List (Option Outcome) → Type 0) (disk : DiskMet) (search : 
         gained = gained;
         is = record {
           failed = failed refl;
-          known = led;
-          planned = front_if_told tester.after.plan search.history.now first table led.planned;
+          known = led.0;
+          planned = front_if_told tester.after.plan search.history.now first table led.0.planned;
           written = written;
           front = log_front request tester.before search.history.now first written running is begun;
           tells = refl;
         };
-        kept = kept;
+        kept = kept led.1;
       }
-  cut_in_leg tester remembered opened new after Output same is begun gained kept failed led = absurd led
-  cut_in_leg tester remembered opened new after NoMemory same is begun gained kept failed led =
-      lost_by tester.before tester.after after after same is gained (AppendsFront-none after running.telling.text) kept
+  cut_in_leg Leaves tester remembered opened new after Output same is begun gained kept failed led = absurd led
+  cut_in_leg Leaves tester remembered opened new after NoMemory same is begun gained kept failed led =
+      lost_by tester.before tester.after after after same is gained (AppendsFront-none after running.telling.text) (kept led)
 
   -- the run is over
-  pub over_kept : (tester : TesterMet) (remembered : List Answered) (opened new known : List (Option Outcome)) (after : Option (List ℕ))
-      (answer : Answer) → Appends before after written
-      → ((table : List (Option Outcome)) → KeepsAll tester.after.is_lenient new table → images table)
-      → IsLedKept search request tester remembered opened first written new known (Ok (Over answer))
+  pub over_kept : (Leaves : (ℕ → Outcome → Type 0) → Type 0) (tester : TesterMet) (remembered : List Answered)
+      (opened new known : List (Option Outcome)) (after : Option (List ℕ)) (answer : Answer) → Appends before after written
+      → ((table : List (Option Outcome)) → IsKeptOn Leaves tester.after.is_lenient opened new known table → images table)
+      → IsLedKept Leaves search request tester remembered opened first written new known (Ok (Over answer))
       → IsToldKept images request tester.after search.history.now first before after answer
-  over_kept tester remembered opened new known after answer gained all led =
+  over_kept Leaves tester remembered opened new known after answer gained all led =
       let (is, kept) = led in
       record {
         written = written;
@@ -145,13 +150,13 @@ failed_since first before now result cut le is only e =
     rose_since first before now le (only.failed (is ∙ ap (λ (c : Cut). Err c) e))
 
 -- the lines so far were written
-pub flushed_kept : (search : Searched) (request : Request) (tested : Tested) (remembered : List Answered) (opened kept : List (Option Outcome)) (first : Begun)
+pub flushed_kept : (Leaves : List (Option Outcome) → Type 0) (search : Searched) (request : Request) (tested : Tested) (remembered : List Answered) (opened kept : List (Option Outcome)) (first : Begun)
     (before mid after : Option (List ℕ)) (written : List ℕ) (running : Running) (text : List ℕ)
     → IsKeptRun search request tested remembered opened first written kept running → Appends before mid written
-    → Appends mid after running.telling.text → text ≡ []
-    → HasComeKept search request tested remembered opened first before after kept
+    → Appends mid after running.telling.text → text ≡ [] → Leaves running.standing.table
+    → HasComeKept Leaves search request tested remembered opened first before after kept
     (record { standing = running.standing; telling = record { known = running.telling.known; text = text; trace = running.telling.trace } })
-flushed_kept search request tested remembered opened kept first before mid after written running text is gained all none = record {
+flushed_kept Leaves search request tested remembered opened kept first before mid after written running text is gained all none ever = record {
   written = written ++ running.telling.text;
   gained = Appends-trans before mid after written running.telling.text gained all;
   is = record {
@@ -164,4 +169,5 @@ flushed_kept search request tested remembered opened kept first before mid after
     all = is.all;
   };
   begun = inr none;
+  ever = ever;
 }

@@ -1,15 +1,22 @@
 -- What keeping outcomes leaves of a journal and its disk.
-use Rattle.std.proofs.Common.{◌≡◌, inl, inr, ◌⊎◌, ℕ, ◌+◌, ◌<◌, ◌≤◌, Bool, false, List, length, set, Option, Some, None, Ok, IfSome, is_some, refl, sym, ap, ◌∙◌, subst, arith}
+use Rattle.std.proofs.Common.{◌≡◌, ◌≢◌, inl, inr, ◌⊎◌, ⊎_elim, ℕ, ◌+◌, ◌<◌, ◌≤◌, Bool, true, false, if◌then◌else◌, List, length, set, Option, Some, None, Ok, IfSome, is_some, refl, sym, ap, ◌∙◌, subst, arith}
 use Rattle.std.proofs.lemmas.Bool.{cases_eq, cases_lt}
-use Rattle.std.proofs.lemmas.List.{get_or_past, get_or-set_other, length-set}
+use Rattle.std.proofs.lemmas.List.{get_or_past, get_or-set_other, get_or-set_same, length-set}
+use Rattle.bf_commands.specs.Journal.{Continues, KeepsOnly, MayBePut}
+use Rattle.bf_farm.specs.Reports.{TableIn}
 use Rattle.bf_journal.specs.Disk.{LeavesOnly, Only}
 use Rattle.bf_journal.specs.Image.{table_in}
+use Rattle.bf_journal.specs.declared.disk.Disk.{Ghosts}
 use Rattle.bf_journal.specs.Journal.{Keeping, with_outcome, FitsBytes, IsBeforeOrAfter, StandsFor}
 use Rattle.bf_journal.proofs.Moments.{LeavesOnly-none, LeavesOnly-then, LeavesOnly-within}
 use Rattle.bf_search.specs.declared.outcomes.Outcome.{Outcome}
-use Rattle.bf_search.specs.Outcomes.{Outcomes, outcomes_of_table}
+use Rattle.bf_oid.specs.declared.object.Oid.{Oid}
+use Rattle.bf_search.specs.declared.outcomes.Verdict.{Verdict}
+use Rattle.bf_search.specs.declared.outcomes.Verdict.TheVariants.{Mark, Abort}
+use Rattle.bf_search.specs.Outcomes.{Outcomes, outcomes_of_table, verdict_of}
 use Rattle.bf_state.specs.Runs.{IsPartOf}
-use Rattle.bf_journal_run.specs.Kept.{IsSameRun, KeepsOne, StandsForMore, kept_of}
+use Rattle.bf_tester.specs.declared.answer.Answer.{Answer}
+use Rattle.bf_journal_run.specs.Kept.{IsSameRun, IsToKeep, KeepsOne, KeepsSince, LeavesOn, StandsForOne, kept_of, marks, to_keep}
 
 -- ---- outcomes by place
 
@@ -44,19 +51,38 @@ same_part : (o kept : Option Outcome) → kept ≡ o → IfSome o (λ x. kept �
 same_part None kept is = tt
 same_part (Some x) kept is = is
 
+-- what is kept was kept before, or is to be kept
+kept_only : (o known kept : Option Outcome) (outcome : Outcome) → kept ≡ kept_of o known → kept ≡ Some outcome
+    → (o ≡ Some outcome) ⊎ (to_keep known ≡ Some outcome)
+kept_only None known kept outcome is e = inr (sym is ∙ e)
+kept_only (Some x) known kept outcome is e = inl (sym is ∙ e)
+
 -- an outcome more, where there was none
-part_put : (kept : List (Option Outcome)) (place : ℕ) (outcome : Outcome) → outcomes_of_table kept place ≡ None
-    → IsPartOf (outcomes_of_table kept) (outcomes_of_table (set kept place (Some outcome)))
-part_put kept place outcome vacant = λ p. by p (cases_eq p place)
-  where
-    by : (p : ℕ) → (p ≡ place) ⊎ (p ≡ place → ⊥)
-        → IfSome (outcomes_of_table kept p) (λ x. outcomes_of_table (set kept place (Some outcome)) p ≡ Some x)
-    by p (inl same) =
-        subst (λ (o : Option Outcome). IfSome o (λ x. outcomes_of_table (set kept place (Some outcome)) p ≡ Some x))
-        (sym (ap (outcomes_of_table kept) same ∙ vacant)) tt
-    by p (inr apart) =
-        same_part (outcomes_of_table kept p) (outcomes_of_table (set kept place (Some outcome)) p)
-        (get_or-set_other kept place p (Some outcome) None apart)
+one_kept : (kept : List (Option Outcome)) (place : ℕ) (outcome : Outcome) (known : Option Outcome) → place < length kept
+    → outcomes_of_table kept place ≡ None → to_keep known ≡ Some outcome → KeepsOne kept place known (set kept place (Some outcome))
+one_kept kept place outcome known within vacant is = (
+  get_or-set_same kept place (Some outcome) None within ∙ sym is ∙ sym (ap (λ (o : Option Outcome). kept_of o known) vacant),
+  λ p apart. get_or-set_other kept place p (Some outcome) None apart,
+)
+
+-- what is to be kept is known, and does not end the run
+marked_if : (outcome x : Outcome) (v : Verdict) → verdict_of outcome ≡ v → (if marks v then Some outcome else None) ≡ Some x
+    → (Some outcome ≡ Some x) × (verdict_of outcome ≢ Abort)
+marked_if outcome x (Mark m) is e = (e, λ other. cc (sym is ∙ other))
+marked_if outcome x Abort is e = cc e
+
+pub known_to_keep : (known : Option Outcome) (x : Outcome) → to_keep known ≡ Some x → (known ≡ Some x) × (verdict_of x ≢ Abort)
+known_to_keep None x e = cc e
+known_to_keep (Some outcome) x e =
+    let (same, mark) = marked_if outcome x (verdict_of outcome) refl e in
+    let is : outcome ≡ x = cc same in
+    (same, λ other. mark (ap verdict_of is ∙ other))
+
+pub may_be_put : (names : List Oid) (answers : List Answer) (known : List (Option Outcome)) (p : ℕ) (x : Outcome) → IsToKeep known p x
+    → MayBePut names answers known p x
+may_be_put names answers known p x is =
+    let (known_so, mark) = known_to_keep (outcomes_of_table known p) x is in
+    (inr known_so, mark)
 
 -- ---- turn by turn
 
@@ -75,6 +101,15 @@ kept_to_part i before known kept to = λ p. by p (cases_lt p i)
     by : (p : ℕ) → (p < i) ⊎ (i ≤ p) → IfSome (outcomes_of_table before p) (λ x. outcomes_of_table kept p ≡ Some x)
     by p (inl low) = kept_part (outcomes_of_table before p) (outcomes_of_table known p) (outcomes_of_table kept p) (to.done p low)
     by p (inr high) = same_part (outcomes_of_table before p) (outcomes_of_table kept p) (to.rest p high)
+
+kept_to_only : (i : ℕ) (before known kept : List (Option Outcome)) → IsKeptTo i before known kept → KeepsOnly (IsToKeep known) before kept
+kept_to_only i before known kept to = λ p outcome e. by p outcome e (cases_lt p i)
+  where
+    by : (p : ℕ) (outcome : Outcome) → outcomes_of_table kept p ≡ Some outcome → (p < i) ⊎ (i ≤ p)
+        → (outcomes_of_table before p ≡ Some outcome) ⊎ IsToKeep known p outcome
+    by p outcome e (inl low) =
+        kept_only (outcomes_of_table before p) (outcomes_of_table known p) (outcomes_of_table kept p) outcome (to.done p low) e
+    by p outcome e (inr high) = inl (sym (to.rest p high) ∙ e)
 
 -- the next one
 pub kept_next : (i : ℕ) (before known kept more : List (Option Outcome)) (o : Option Outcome) → o ≡ outcomes_of_table known i
@@ -102,64 +137,154 @@ kept_all before known kept to p = by (cases_lt p (length known))
         to.rest p high
         ∙ sym (ap (kept_of (outcomes_of_table before p)) (get_or_past known p None high) ∙ kept_none (outcomes_of_table before p))
 
+-- and what was found is kept, and beside it only what is to be
+pub since_part : (before known kept : List (Option Outcome)) → KeepsSince before known kept → IsPartOf (outcomes_of_table before) (outcomes_of_table kept)
+since_part before known kept since = λ p. kept_part (outcomes_of_table before p) (outcomes_of_table known p) (outcomes_of_table kept p) (since p)
+
+pub since_only : (before known kept : List (Option Outcome)) → KeepsSince before known kept → KeepsOnly (IsToKeep known) before kept
+since_only before known kept since = λ p outcome e.
+    kept_only (outcomes_of_table before p) (outcomes_of_table known p) (outcomes_of_table kept p) outcome (since p) e
+
+-- what is known of a part is known of the whole
+pub keep_more : (known table : List (Option Outcome)) → IsPartOf (outcomes_of_table known) (outcomes_of_table table)
+    → (p : ℕ) (x : Outcome) → IsToKeep known p x → IsToKeep table p x
+keep_more known table part p x is =
+    let (so, mark) = known_to_keep (outcomes_of_table known p) x is in
+    let too : outcomes_of_table table p ≡ Some x = subst (λ (o : Option Outcome). IfSome o (λ y. outcomes_of_table table p ≡ Some y)) so (part p) in
+    ap to_keep (too ∙ sym so) ∙ is
+
+-- what is to be kept of what was answered may be put
+pub answered_put : (names : List Oid) (answers : List Answer) (table known : List (Option Outcome)) → TableIn names answers table
+    → (p : ℕ) (x : Outcome) → IsToKeep table p x → MayBePut names answers known p x
+answered_put names answers table known answered p x is =
+    let (so, mark) = known_to_keep (outcomes_of_table table p) x is in
+    (inl (answered p x so), mark)
+
 -- ---- what a crash may leave
 
-pub stands_more : (journal : Keeping) (image : List ℕ) → StandsFor journal image → StandsForMore journal image
-stands_more journal image stands = (journal.kept, stands, part_itself (outcomes_of_table journal.kept))
+-- as it reads in the journal of the same run
+pub same_reads : (first mid : Keeping) (image : List ℕ) (kept : List (Option Outcome)) → IsSameRun first mid
+    → table_in mid.identity (length mid.kept) image ≡ Ok kept → table_in first.identity (length first.kept) image ≡ Ok kept
+same_reads first mid image kept (identity, long) reads =
+    ap (λ (n : ℕ). table_in first.identity n image) (sym long) ∙ ap (λ i. table_in i (length mid.kept) image) (sym identity) ∙ reads
 
-with_more : (journal : Keeping) (place : ℕ) (outcome : Outcome) (image : List ℕ) → outcomes_of_table journal.kept place ≡ None
-    → StandsFor (with_outcome journal place outcome) image → StandsForMore journal image
-with_more journal place outcome image vacant stands =
-    let kept = set journal.kept place (Some outcome) in (
+-- an image that goes on from more, by what may be put
+pub continues_over : (first mid : Keeping) (found : List (Option Outcome)) (May : ℕ → Outcome → Type 0) (image : List ℕ) → IsSameRun first mid
+    → IsPartOf (outcomes_of_table found) (outcomes_of_table mid.kept) → KeepsOnly May found mid.kept
+    → Continues mid.identity (length mid.kept) May mid.kept image → Continues first.identity (length first.kept) May found image
+continues_over first mid found May image same part only on = record {
+  kept = on.kept;
+  reads = same_reads first mid image on.kept same on.reads;
+  opened = part_more (outcomes_of_table found) (outcomes_of_table mid.kept) (outcomes_of_table on.kept) part on.opened;
+  only = λ p outcome e. ⊎_elim (λ was. only p outcome was) (λ new. inr new) (on.only p outcome e);
+}
+
+-- by more that may be put
+pub continues_within : (identity : Oid) (len : ℕ) (May More : ℕ → Outcome → Type 0) (found : List (Option Outcome)) (image : List ℕ)
+    → ((p : ℕ) (outcome : Outcome) → May p outcome → More p outcome) → Continues identity len May found image → Continues identity len More found image
+continues_within identity len May More found image within on = record {
+  kept = on.kept;
+  reads = on.reads;
+  opened = on.opened;
+  only = λ p outcome e. ⊎_elim (λ was. inl was) (λ new. inr (within p outcome new)) (on.only p outcome e);
+}
+
+-- an image that stands for what a journal keeps
+pub continues_kept : (journal : Keeping) (found : List (Option Outcome)) (May : ℕ → Outcome → Type 0) (image : List ℕ)
+    → IsPartOf (outcomes_of_table found) (outcomes_of_table journal.kept) → KeepsOnly May found journal.kept → StandsFor journal image
+    → Continues journal.identity (length journal.kept) May found image
+continues_kept journal found May image part only stands = record { kept = journal.kept; reads = stands; opened = part; only = only }
+
+continues_to : (first : Keeping) (i : ℕ) (known kept : List (Option Outcome)) (image : List ℕ) → table_in first.identity (length first.kept) image ≡ Ok kept
+    → IsKeptTo i first.kept known kept → Continues first.identity (length first.kept) (IsToKeep known) first.kept image
+continues_to first i known kept image reads to = record {
+  kept = kept;
+  reads = reads;
+  opened = kept_to_part i first.kept known kept to;
+  only = kept_to_only i first.kept known kept to;
+}
+
+with_one : (journal : Keeping) (place : ℕ) (outcome : Outcome) (known : Option Outcome) (image : List ℕ) → place < length journal.kept
+    → outcomes_of_table journal.kept place ≡ None → to_keep known ≡ Some outcome → IsBeforeOrAfter journal place outcome image
+    → StandsForOne journal place known image
+with_one journal place outcome known image within vacant is (inl stands) = inl stands
+with_one journal place outcome known image within vacant is (inr stands) =
+    let kept = set journal.kept place (Some outcome) in
+    inr (
       kept,
       subst (λ (n : ℕ). table_in journal.identity n image ≡ Ok kept) (length-set journal.kept place (Some outcome)) stands,
-      part_put journal.kept place outcome vacant,
+      one_kept journal.kept place outcome known within vacant is,
     )
 
-either_more : (journal : Keeping) (place : ℕ) (outcome : Outcome) (image : List ℕ) → outcomes_of_table journal.kept place ≡ None
-    → IsBeforeOrAfter journal place outcome image → StandsForMore journal image
-either_more journal place outcome image vacant (inl stands) = stands_more journal image stands
-either_more journal place outcome image vacant (inr stands) = with_more journal place outcome image vacant stands
+one_more : (first mid : Keeping) (i : ℕ) (known : List (Option Outcome)) (o : Option Outcome) (image : List ℕ) → IsSameRun first mid
+    → o ≡ outcomes_of_table known i → IsKeptTo i first.kept known mid.kept → StandsForOne mid i o image
+    → Continues first.identity (length first.kept) (IsToKeep known) first.kept image
+one_more first mid i known o image same is to (inl stands) =
+    continues_to first i known mid.kept image (same_reads first mid image mid.kept same stands) to
+one_more first mid i known o image same is to (inr (kept, reads, one)) =
+    continues_to first (i + 1) known kept image (same_reads first mid image kept same reads) (kept_next i first.kept known mid.kept kept o is one to)
 
--- more than what was more
-pub more_of_more : (first mid : Keeping) (image : List ℕ) → IsSameRun first mid → IsPartOf (outcomes_of_table first.kept) (outcomes_of_table mid.kept)
-    → StandsForMore mid image → StandsForMore first image
-more_of_more first mid image (identity, long) part (kept, stands, more) = (
-  kept,
-  ap (λ (n : ℕ). table_in first.identity n image) (sym long) ∙ ap (λ i. table_in i (length mid.kept) image) (sym identity) ∙ stands,
-  part_more (outcomes_of_table first.kept) (outcomes_of_table mid.kept) (outcomes_of_table kept) part more,
-)
-
-module _ {D : Type 0} (moment : D → ℕ) (left_since : D → ℕ → List ℕ → Type 0) where
+module _ {J : Type 0} (by : Ghosts J) where
   -- nothing is put
-  pub nothing_put : (may_leave : D → List ℕ → Type 0) (only_now : (disk : D) (image : List ℕ) → left_since disk (moment disk) image → may_leave disk image)
-      (told : Option (List ℕ)) (disk : D) (journal : Keeping) → IfSome told (λ bytes. Only bytes (may_leave disk)) → IfSome told (FitsBytes journal)
-      → IfSome told (λ _. LeavesOnly moment left_since disk disk (StandsForMore journal))
-  nothing_put may_leave only_now None disk journal settled fits = tt
-  nothing_put may_leave only_now (Some bytes) disk journal settled fits =
-      LeavesOnly-none moment left_since disk (StandsForMore journal)
-      (λ image left. stands_more journal image (subst (StandsFor journal) (sym (settled image (only_now disk image left))) fits.stands))
+  pub nothing_put : (Is : List ℕ → Type 0) (only_now : (disk : J) (image : List ℕ) → by.left_since disk (by.moment disk) image → by.may_leave disk image)
+      (told : Option (List ℕ)) (disk : J) (journal : Keeping) → ((image : List ℕ) → StandsFor journal image → Is image)
+      → IfSome told (λ bytes. Only bytes (by.may_leave disk)) → IfSome told (FitsBytes journal)
+      → IfSome told (λ _. LeavesOnly by.moment by.left_since disk disk Is)
+  nothing_put Is only_now None disk journal stands settled fits = tt
+  nothing_put Is only_now (Some bytes) disk journal stands settled fits =
+      LeavesOnly-none by.moment by.left_since disk Is
+      (λ image left. stands image (subst (StandsFor journal) (sym (settled image (only_now disk image left))) fits.stands))
 
-  -- one outcome is
-  pub one_put : (told : Option (List ℕ)) (old new : D) (journal : Keeping) (place : ℕ) (outcome : Outcome) → outcomes_of_table journal.kept place ≡ None
-      → IfSome told (λ _. LeavesOnly moment left_since old new (IsBeforeOrAfter journal place outcome))
-      → IfSome told (λ _. LeavesOnly moment left_since old new (StandsForMore journal))
-  one_put None old new journal place outcome vacant left = tt
-  one_put (Some bytes) old new journal place outcome vacant left =
-      LeavesOnly-within moment left_since old new (IsBeforeOrAfter journal place outcome) (StandsForMore journal) left
-      (λ image either. either_more journal place outcome image vacant either)
+  -- a run goes on from what was found
+  pub nothing_since : (only_now : (disk : J) (image : List ℕ) → by.left_since disk (by.moment disk) image → by.may_leave disk image) (disk : J)
+      (journal : Keeping) (found : List (Option Outcome)) (May : ℕ → Outcome → Type 0)
+      → IsPartOf (outcomes_of_table found) (outcomes_of_table journal.kept) → KeepsOnly May found journal.kept
+      → IfSome (by.told disk) (λ bytes. Only bytes (by.may_leave disk)) → IfSome (by.told disk) (FitsBytes journal)
+      → LeavesOn by disk disk journal found May
+  nothing_since only_now disk journal found May part only settled fits =
+      nothing_put (Continues journal.identity (length journal.kept) May found) only_now (by.told disk) disk journal
+      (λ image stands. continues_kept journal found May image part only stands) settled fits
 
-  -- one more after others
-  pub more_put : (told then_told : Option (List ℕ)) (old mid new : D) (first journal : Keeping) → is_some then_told ≡ is_some told
-      → IsSameRun first journal → IsPartOf (outcomes_of_table first.kept) (outcomes_of_table journal.kept)
-      → IfSome told (λ _. LeavesOnly moment left_since old mid (StandsForMore first))
-      → IfSome then_told (λ _. LeavesOnly moment left_since mid new (StandsForMore journal))
-      → IfSome told (λ _. LeavesOnly moment left_since old new (StandsForMore first))
-  more_put None then_told old mid new first journal same run part left then_left = tt
-  more_put (Some bytes) None old mid new first journal same run part left then_left = cc same
-  more_put (Some bytes) (Some then_bytes) old mid new first journal same run part left then_left =
-      LeavesOnly-then moment left_since old mid new (StandsForMore first) (StandsForMore journal) left then_left
-      (λ image more. more_of_more first journal image run part more)
+  -- one outcome is put
+  pub one_put : (told : Option (List ℕ)) (old new : J) (journal : Keeping) (place : ℕ) (outcome : Outcome) (known : Option Outcome)
+      → place < length journal.kept → outcomes_of_table journal.kept place ≡ None → to_keep known ≡ Some outcome
+      → IfSome told (λ _. LeavesOnly by.moment by.left_since old new (IsBeforeOrAfter journal place outcome))
+      → IfSome told (λ _. LeavesOnly by.moment by.left_since old new (StandsForOne journal place known))
+  one_put None old new journal place outcome known within vacant is left = tt
+  one_put (Some bytes) old new journal place outcome known within vacant is left =
+      LeavesOnly-within by.moment by.left_since old new (IsBeforeOrAfter journal place outcome) (StandsForOne journal place known) left
+      (λ image either. with_one journal place outcome known image within vacant is either)
+
+  -- by more that an image may be
+  pub leaves_within : (told : Option (List ℕ)) (old new : J) (Is More : List ℕ → Type 0) → ((image : List ℕ) → Is image → More image)
+      → IfSome told (λ _. LeavesOnly by.moment by.left_since old new Is) → IfSome told (λ _. LeavesOnly by.moment by.left_since old new More)
+  leaves_within None old new Is More within left = tt
+  leaves_within (Some bytes) old new Is More within left = LeavesOnly-within by.moment by.left_since old new Is More left within
+
+  pub on_within : (old new : J) (journal : Keeping) (found : List (Option Outcome)) (May More : ℕ → Outcome → Type 0)
+      → ((p : ℕ) (outcome : Outcome) → May p outcome → More p outcome) → LeavesOn by old new journal found May → LeavesOn by old new journal found More
+  on_within old new journal found May More within left =
+      leaves_within (by.told old) old new (Continues journal.identity (length journal.kept) May found) (Continues journal.identity (length journal.kept) More found)
+      (λ image on. continues_within journal.identity (length journal.kept) May More found image within on) left
+
+  -- one call after others, where each disk tells its bytes or none does
+  pub leaves_then : (told then_told : Option (List ℕ)) (old mid new : J) (Is Then : List ℕ → Type 0) → is_some then_told ≡ is_some told
+      → IfSome told (λ _. LeavesOnly by.moment by.left_since old mid Is) → IfSome then_told (λ _. LeavesOnly by.moment by.left_since mid new Then)
+      → ((image : List ℕ) → Then image → Is image) → IfSome told (λ _. LeavesOnly by.moment by.left_since old new Is)
+  leaves_then None then_told old mid new Is Then same left then_left within = tt
+  leaves_then (Some bytes) None old mid new Is Then same left then_left within = cc same
+  leaves_then (Some bytes) (Some then_bytes) old mid new Is Then same left then_left within =
+      LeavesOnly-then by.moment by.left_since old mid new Is Then left then_left within
+
+  -- one outcome more after others
+  pub more_put : (old mid new : J) (first journal : Keeping) (i : ℕ) (known : List (Option Outcome)) (o : Option Outcome)
+      → is_some (by.told mid) ≡ is_some (by.told old) → IsSameRun first journal → o ≡ outcomes_of_table known i
+      → IsKeptTo i first.kept known journal.kept → LeavesOn by old mid first first.kept (IsToKeep known)
+      → IfSome (by.told mid) (λ _. LeavesOnly by.moment by.left_since mid new (StandsForOne journal i o))
+      → LeavesOn by old new first first.kept (IsToKeep known)
+  more_put old mid new first journal i known o same run is to left then_left =
+      leaves_then (by.told old) (by.told mid) old mid new (Continues first.identity (length first.kept) (IsToKeep known) first.kept)
+      (StandsForOne journal i o) same left then_left (λ image one. one_more first journal i known o image run is to one)
 
 -- ---- a place of which nothing is kept
 

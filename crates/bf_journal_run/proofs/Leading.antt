@@ -3,7 +3,7 @@ use Rattle.std.proofs.Common.{◌≡◌, ◌≢◌, ℕ, List, Option, Some, IfS
 use Rattle.std.specs.Prelude.{IsErrOf}
 use Rattle.std.specs.Result.{IsErrAnd}
 use Rattle.bf_answers.specs.Devices.{TesterMet}
-use Rattle.bf_commands.specs.Journal.{KeepsAll}
+use Rattle.bf_commands.specs.Journal.{KeepsAll, MayBePut}
 use Rattle.bf_farm.specs.Answering.{HasFault}
 use Rattle.bf_farm.specs.declared.report.Report.{Report}
 use Rattle.bf_farm.specs.Reports.{TableFollows}
@@ -36,8 +36,8 @@ use Rattle.bf_words.specs.declared.request.Request.{Request}
 use Rattle.bf_journal_run.specs.Cuts.{cut_of_journal}
 use Rattle.bf_journal_run.specs.declared.cut.Cut.{Cut}
 use Rattle.bf_journal_run.specs.declared.cut.Cut.TheVariants.{Journal, Output, NoMemory}
-use Rattle.bf_journal_run.specs.Kept.{KeepsSince}
-use Rattle.bf_journal_run.specs.Legs.{IsKeptRun, IsLedKept, IsToldLeg}
+use Rattle.bf_journal_run.specs.Kept.{IsToKeep, KeepsSince}
+use Rattle.bf_journal_run.specs.Legs.{IsKeptOn, IsKeptRun, IsLedKept, IsToldLeg}
 use Rattle.bf_journal_run.proofs.Growing.{leg_grows}
 use Rattle.bf_journal_run.proofs.Since.{keeps_all, since_more}
 
@@ -56,7 +56,7 @@ pub err_if : {T E : Type 0} (P : E → Type 0) (result : Result T E) → IsErrAn
 err_if P (Ok t) is = absurd is
 err_if P (Err e) is = is
 
-module _ (search : Searched) (running : Running) (tester : TesterMet) (report : Report) (request : Request) (remembered now_remembered : List Answered)
+module _ (Leaves : (ℕ → Outcome → Type 0) → Type 0) (search : Searched) (running : Running) (tester : TesterMet) (report : Report) (request : Request) (remembered now_remembered : List Answered)
     (opened : List (Option Outcome)) (first : Begun) (written : List ℕ) (kept new : List (Option Outcome))
     (is : IsKeptRun search request tester.before remembered opened first written kept running)
     (ran : (s : Search) → IsLegRun (course_from search s) running.standing.state report)
@@ -101,23 +101,36 @@ module _ (search : Searched) (running : Running) (tester : TesterMet) (report : 
       more : (p : ℕ) (outcome : Outcome) → outcomes_of_table running.standing.table p ≡ Some outcome → outcomes_of_table report.table p ≡ Some outcome
       more p outcome was = subst (λ (o : Option Outcome). IfSome o (λ x. outcomes_of_table report.table p ≡ Some x)) was (grown.part p)
 
-  gone_kept : (gone : Gone) (inner : List Answered) → KeepsSince kept report.table new
+  kept_on : (inner : List Answered) → KeepsSince kept report.table new
+      → KeepsRemembered tester.after.is_lenient now_remembered tester.after.answers inner → Leaves (IsToKeep report.table)
+      → IsKeptOn Leaves tester.after.is_lenient opened new running.standing.table report.table
+  kept_on inner keeps below leaves = record {
+    since = since keeps;
+    all = all_kept inner keeps below;
+    grows = grown.part;
+    leaves = leaves;
+  }
+
+  gone_kept : (gone : Gone) (inner : List Answered) → KeepsSince kept report.table new → Leaves (IsToKeep report.table)
       → KeepsRemembered tester.after.is_lenient now_remembered tester.after.answers inner → IsToldLeg search.history.now running.telling report gone
-      → IsLedKept search request tester now_remembered opened first written new running.standing.table (Ok gone)
-  gone_kept (On next) inner keeps below told =
-      let moved = told.on (leg_ended report.ending told.over) in
-      record {
-        leg = is.leg;
-        workers = is.workers;
-        so_far =
-            gone_on request tester.before tester.after search.history.now first written running report is.so_far ran_on leads_on same told.told (On next) ready
-            told.text told.known told.trace told.on told.over;
-        long = is.long;
-        remembers = still ∙ is.remembers;
-        since = subst (λ (t : List (Option Outcome)). KeepsSince opened t new) (sym moved.1) (since keeps);
-        all = subst (λ (t : List (Option Outcome)). KeepsAll tester.after.is_lenient new t) (sym moved.1) (all_kept inner keeps below);
-      }
-  gone_kept (Over answer) inner keeps below told =
+      → IsLedKept Leaves search request tester now_remembered opened first written new running.standing.table (Ok gone)
+  gone_kept (On next) inner keeps leaves below told =
+      let moved = told.on (leg_ended report.ending told.over) in (
+        record {
+          leg = is.leg;
+          workers = is.workers;
+          so_far =
+              gone_on request tester.before tester.after search.history.now first written running report is.so_far ran_on leads_on same told.told (On next) ready
+              told.text told.known told.trace told.on told.over;
+          long = is.long;
+          remembers = still ∙ is.remembers;
+          since = subst (λ (t : List (Option Outcome)). KeepsSince opened t new) (sym moved.1) (since keeps);
+          all = subst (λ (t : List (Option Outcome)). KeepsAll tester.after.is_lenient new t) (sym moved.1) (all_kept inner keeps below);
+        },
+        subst (λ (t : List (Option Outcome)). IsKeptOn Leaves tester.after.is_lenient opened new running.standing.table t) (sym moved.1)
+            (kept_on inner keeps below leaves),
+      )
+  gone_kept (Over answer) inner keeps leaves below told =
       let other : report.ending ≢ ending.Leg = λ e. told.on e in
       let over = run_over_on request tester.before tester.after search.history.now first written running report is.so_far ran_on leads_on same other in (
         record {
@@ -129,24 +142,25 @@ module _ (search : Searched) (running : Running) (tester : TesterMet) (report : 
               over_tells request tester.before tester.after search.history.now first written running report is.so_far ran_on leads_on same told.told.text
               told.told.trace answer.status answer.text other told.text told.trace (told.over other).0 (told.over other).1;
         },
-        all_kept inner keeps below,
+        kept_on inner keeps below leaves,
       )
 
   -- where the leg was told it leads on, and else memory ran out
-  pub led : (result : Result Gone Cut) (inner : List Answered) → KeepsSince kept report.table new
+  pub led : (result : Result Gone Cut) (inner : List Answered) → KeepsSince kept report.table new → Leaves (IsToKeep report.table)
+      → Leaves (MayBePut search.history.now.names tester.after.answers running.standing.table)
       → KeepsRemembered tester.after.is_lenient now_remembered tester.after.answers inner
       → IfOk result (IsToldLeg search.history.now running.telling report) → IfErr result (λ cut. cut ≡ NoMemory)
-      → IsLedKept search request tester now_remembered opened first written new running.standing.table result
-  led (Ok gone) inner keeps below told memory = gone_kept gone inner keeps below told
-  led (Err cut) inner keeps below told memory =
-      subst (λ (c : Cut). IsLedKept search request tester now_remembered opened first written new running.standing.table (Err c)) (sym memory) tt
+      → IsLedKept Leaves search request tester now_remembered opened first written new running.standing.table result
+  led (Ok gone) inner keeps leaves left below told memory = gone_kept gone inner keeps leaves below told
+  led (Err cut) inner keeps leaves left below told memory =
+      subst (λ (c : Cut). IsLedKept Leaves search request tester now_remembered opened first written new running.standing.table (Err c)) (sym memory) left
 
   -- where an outcome could not be kept, what was known is known still
-  pub led_cut : (fault : JournalFault)
-      → IsLedKept search request tester now_remembered opened first written new running.standing.table (Err (cut_of_journal fault))
-  led_cut journals.Failed = known_still
-  led_cut (journals.Mismatch found) = known_still
-  led_cut journals.NoMemory = tt
+  pub led_cut : (fault : JournalFault) → Leaves (MayBePut search.history.now.names tester.after.answers running.standing.table)
+      → IsLedKept Leaves search request tester now_remembered opened first written new running.standing.table (Err (cut_of_journal fault))
+  led_cut journals.Failed left = (known_still, left)
+  led_cut (journals.Mismatch found) left = (known_still, left)
+  led_cut journals.NoMemory left = left
 
 -- ---- whatever search it is
 

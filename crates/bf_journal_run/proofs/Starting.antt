@@ -1,8 +1,9 @@
 -- A run of which nothing is tested yet, and whose journal was opened.
-use Rattle.std.proofs.Common.{◌≡◌, ℕ, ◌<◌, arith, Bool, List, [], length, replicate, Option, Some, None, IfSome, Err, refl, sym, ap, ◌∙◌, subst}
-use Rattle.bf_commands.specs.Journal.{AreImagesOf, DiskMet, KeepsAll}
+use Rattle.std.proofs.Common.{◌≡◌, inl, ℕ, ◌<◌, arith, Bool, List, [], length, replicate, Option, Some, None, IfSome, Err, refl, sym, ap, ◌∙◌, subst}
+use Rattle.bf_commands.specs.Journal.{KeepsAll}
 use Rattle.bf_history.specs.Meanings.{History}
 use Rattle.bf_io.proofs.Told.{AppendsFront-none}
+use Rattle.bf_journal.specs.declared.disk.Disk.{Ghosts}
 use Rattle.bf_journal.specs.Disk.{Only}
 use Rattle.bf_journal.specs.Journal.{Keeping, FitsBytes}
 use Rattle.bf_output.proofs.Runs.{front_if_told}
@@ -20,10 +21,10 @@ use Rattle.bf_searches.specs.Searching.{IsRunning}
 use Rattle.bf_tester.specs.declared.answer.Answer.{Answer as Answered}
 use Rattle.bf_words.specs.declared.request.Request.{Request}
 use Rattle.bf_journal_run.specs.declared.cut.Cut.TheVariants.{NoMemory}
-use Rattle.bf_journal_run.specs.Kept.{KeepsSince, answers_of, kept_of}
-use Rattle.bf_journal_run.specs.Legs.{IsEndedKept, IsKeptRun}
-use Rattle.bf_journal_run.proofs.Keeping.{kept_none}
-use Rattle.bf_journal_run.proofs.Lasting.{images_now, images_of}
+use Rattle.bf_journal_run.specs.Kept.{AreLasting, IsToKeep, KeepsSince, answers_of, kept_of}
+use Rattle.bf_journal_run.specs.Legs.{IsEndedKept, IsKeptRun, met_disk}
+use Rattle.bf_journal_run.proofs.Keeping.{kept_none, nothing_since, part_itself}
+use Rattle.bf_journal_run.proofs.Lasting.{lasts_at}
 
 -- where no answer was given, nothing is known
 nothing_known : (names : List Oid) (plan : Option (List Outcome)) (answers : List Answered) (table : List (Option Outcome)) → answers ≡ []
@@ -66,11 +67,14 @@ kept_begun search request tested remembered opened first running leg workers lon
     }
 
 -- memory ran out before anything was tested
-pub nothing_kept : (disk : DiskMet) (journal : Keeping) (is_lenient : Bool) (request : Request) (tested : Tested) (history : History) (first : Begun)
-    (held : Option (List ℕ)) → IfSome disk.before (λ bytes. Only bytes disk.may_leave) → IfSome disk.before (FitsBytes journal)
-    → IsEndedKept (AreImagesOf disk journal.identity (length journal.kept) is_lenient) disk request tested history first held held (Err NoMemory)
-nothing_kept disk journal is_lenient request tested history first held settled fits =
+pub nothing_kept : {J : Type 0} (by : Ghosts J) (disk : J) (journal : Keeping) (request : Request) (tested : Tested) (history : History) (first : Begun)
+    (held : Option (List ℕ)) → ((disk : J) (image : List ℕ) → by.left_since disk (by.moment disk) image → by.may_leave disk image)
+    → IfSome (by.told disk) (λ bytes. Only bytes (by.may_leave disk)) → IfSome (by.told disk) (FitsBytes journal)
+    → IsEndedKept (AreLasting by disk disk journal history.names tested journal.kept) (met_disk by disk disk) request tested history first held held
+    (Err NoMemory)
+nothing_kept by disk journal request tested history first held only_now settled fits =
     let none = replicate (length history.parents) None in
+    let unknown = none_known (length history.parents) in
     record {
       told = out_of_memory history first (run_on history first none);
       is = record {
@@ -80,6 +84,8 @@ nothing_kept disk journal is_lenient request tested history first held settled f
       };
       front = AppendsFront-none held (log_on history first (run_on history first none).entries);
       kept =
-          images_of disk disk.before journal journal is_lenient none refl (refl, refl) (none_to_keep is_lenient journal.kept none (none_known (length history.parents)))
-          (images_now disk.before disk.may_leave journal settled fits);
+          lasts_at by journal journal history.names tested journal.kept none (refl, refl) (since_opened journal.kept none unknown)
+          (none_to_keep tested.is_lenient journal.kept none unknown) disk disk refl
+          (nothing_since by only_now disk journal journal.kept (IsToKeep none) (part_itself (outcomes_of_table journal.kept)) (λ p outcome was. inl was) settled
+          fits) settled fits;
     }

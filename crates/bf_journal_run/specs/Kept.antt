@@ -1,13 +1,16 @@
 -- What a journal keeps of a run, leg by leg.
-use Rattle.std.specs.Prelude.{◌≡◌, ℕ, ◌+◌, Bool, true, false, if◌then◌else◌, List, [], ◌∷◌, ◌++◌, length, Option, Some, None, IfSome, Ok}
+use Rattle.std.specs.Prelude.{◌≡◌, ◌⊎◌, ℕ, ◌+◌, Bool, true, false, if◌then◌else◌, List, [], ◌∷◌, ◌++◌, length, Option, Some, None, IfSome, Ok}
+use Rattle.bf_commands.specs.Journal.{Continues, IsKeptIn, MayBePut}
+use Rattle.bf_journal.specs.Disk.{LeavesOnly}
 use Rattle.bf_journal.specs.Image.{table_in}
-use Rattle.bf_journal.specs.Journal.{Keeping}
+use Rattle.bf_journal.specs.Journal.{Keeping, StandsFor}
+use Rattle.bf_journal.specs.declared.disk.Disk.{Ghosts}
 use Rattle.bf_oid.specs.declared.object.Oid.{Oid}
 use Rattle.bf_search.specs.declared.outcomes.Outcome.{Outcome}
 use Rattle.bf_search.specs.declared.outcomes.Verdict.{Verdict}
 use Rattle.bf_search.specs.declared.outcomes.Verdict.TheVariants.{Mark, Abort}
 use Rattle.bf_search.specs.Outcomes.{outcomes_of_table, verdict_of}
-use Rattle.bf_state.specs.Runs.{IsPartOf}
+use Rattle.bf_output.specs.Tested.{Tested}
 use Rattle.bf_tester.specs.declared.answer.Answer.{Answer}
 
 -- ---- what the tester is to remember
@@ -59,12 +62,26 @@ KeepsOne before place known kept =
 abbrev pub IsSameRun : Keeping → Keeping → Type 0
 IsSameRun old new = (new.identity ≡ old.identity) × (length new.kept ≡ length old.kept)
 
--- an image stands for what a journal keeps, or for more
-abbrev pub StandsForMore : Keeping → List ℕ → Type 0
-StandsForMore journal image =
-    (kept : List (Option Outcome)) × (table_in journal.identity (length journal.kept) image ≡ Ok kept)
-    × IsPartOf (outcomes_of_table journal.kept) (outcomes_of_table kept)
+-- an outcome of a place that is to be kept, as it is known
+abbrev pub IsToKeep : List (Option Outcome) → ℕ → Outcome → Type 0
+IsToKeep known p outcome = to_keep (outcomes_of_table known p) ≡ Some outcome
 
--- and so does each image that a crash may leave, where bytes are told
-abbrev pub AreImagesMore : Option (List ℕ) → (List ℕ → Type 0) → Keeping → Type 0
-AreImagesMore told may_leave journal = IfSome told (λ _. (image : List ℕ) → may_leave image → StandsForMore journal image)
+-- an image stands for what a journal keeps, or for that with what is known of one place
+abbrev pub StandsForOne : Keeping → ℕ → Option Outcome → List ℕ → Type 0
+StandsForOne journal place known image =
+    StandsFor journal image
+    ⊎ ((kept : List (Option Outcome)) × (table_in journal.identity (length journal.kept) image ≡ Ok kept) × KeepsOne journal.kept place known kept)
+
+-- Where the disk tells its bytes, a crash at any moment from one to another leaves an image that goes on from what was found.
+abbrev pub LeavesOn : {J : Type 0} → Ghosts J → J → J → Keeping → List (Option Outcome) → (ℕ → Outcome → Type 0) → Type 0
+LeavesOn by old new journal found MayPut =
+    IfSome (by.told old) (λ _. LeavesOnly by.moment by.left_since old new (Continues journal.identity (length journal.kept) MayPut found))
+
+-- The same of a run on what its tester answered, and each image that a crash may leave at the end keeps all that is known.
+pub record Lasts {J : Type 0} (by : Ghosts J) (old new : J) (journal : Keeping) (names : List Oid) (tested : Tested) (found table : List (Option Outcome)) : Type 0 where
+  pub now : (image : List ℕ) → by.may_leave new image
+      → IsKeptIn journal.identity (length journal.kept) (MayBePut names tested.answers table) tested.is_lenient found table image
+  pub ever : LeavesOnly by.moment by.left_since old new (Continues journal.identity (length journal.kept) (MayBePut names tested.answers table) found)
+
+abbrev pub AreLasting : {J : Type 0} → Ghosts J → J → J → Keeping → List Oid → Tested → List (Option Outcome) → List (Option Outcome) → Type 0
+AreLasting by old new journal names tested found table = IfSome (by.told old) (λ _. Lasts by old new journal names tested found table)

@@ -1,8 +1,8 @@
 -- A run whose outcomes are kept, leg by leg.
-use Rattle.std.specs.Prelude.{◌≡◌, ℕ, List, [], ◌++◌, length, Option, Result, Ok, Err}
+use Rattle.std.specs.Prelude.{◌≡◌, ℕ, Bool, List, [], ◌++◌, length, Option, Result, Ok, Err}
 use Rattle.bf_answers.specs.Devices.{SinkMet, TesterMet}
 use Rattle.bf_answers.specs.declared.answer.Answer.{Answer}
-use Rattle.bf_commands.specs.Journal.{AreImagesOf, DiskMet, IsJournalCut, KeepsAll, journal_fault}
+use Rattle.bf_commands.specs.Journal.{DiskMet, IsJournalCut, KeepsAll, MayBePut, journal_fault}
 use Rattle.bf_farm.specs.declared.report.Report.{Report}
 use Rattle.bf_history.specs.Meanings.{History}
 use Rattle.bf_io.specs.Told.{Appends, AppendsFront}
@@ -14,22 +14,26 @@ use Rattle.bf_output.specs.Told.{Told}
 use Rattle.bf_runs.specs.declared.case.Search.{Search as Searched}
 use Rattle.bf_runs.specs.Legs.{IsKnown}
 use Rattle.bf_search.specs.declared.outcomes.Outcome.{Outcome}
+use Rattle.bf_search.specs.Outcomes.{outcomes_of_table}
 use Rattle.bf_searches.specs.declared.legs.Gone.{Gone}
 use Rattle.bf_searches.specs.declared.legs.Gone.TheVariants.{On, Over}
 use Rattle.bf_searches.specs.declared.legs.Running.{Running}
 use Rattle.bf_searches.specs.declared.telling.Telling.{Telling}
 use Rattle.bf_searches.specs.Searching.{IsRunning, LeadsOnWith, LeadsOverWith}
 use Rattle.bf_searches.specs.Telling.{AddsLegEvents, AddsLegLines, LearnsEntries}
+use Rattle.bf_state.specs.Runs.{IsPartOf}
 use Rattle.bf_tester.specs.declared.answer.Answer.{Answer as Answered}
 use Rattle.bf_words.specs.declared.request.Request.{Request}
 use Rattle.bf_journal_run.specs.declared.cut.Cut.{Cut}
 use Rattle.bf_journal_run.specs.declared.cut.Cut.TheVariants.{Journal, Output, NoMemory}
-use Rattle.bf_journal_run.specs.Kept.{KeepsSince, answers_of}
+use Rattle.bf_journal_run.specs.Kept.{AreLasting, IsToKeep, KeepsSince, LeavesOn, answers_of}
 
 -- what a call met of its disk, by the ghost members of its type
 abbrev pub met_disk : {J : Type 0} → Ghosts J → J → J → DiskMet
 met_disk by before after = record {
   before = by.told before;
+  could_leave = by.may_leave before;
+  left = by.left_since after (by.moment before);
   may_leave = by.may_leave after;
   faults = by.faults before;
   faults_now = by.faults after;
@@ -56,25 +60,37 @@ pub record IsToldLeg (history : History) (before : Telling) (report : Report) (g
   pub on : LeadsOnWith told report gone
   pub over : LeadsOverWith history told report gone
 
+-- A journal keeps what is known after a leg, which is no less than before it, and so did each image that a crash in the leg
+-- might have left.
+pub record IsKeptOn (Leaves : (ℕ → Outcome → Type 0) → Type 0) (is_lenient : Bool) (opened kept known table : List (Option Outcome)) : Type 0 where
+  pub since : KeepsSince opened table kept
+  pub all : KeepsAll is_lenient kept table
+  pub grows : IsPartOf (outcomes_of_table known) (outcomes_of_table table)
+  pub leaves : Leaves (IsToKeep table)
+
 -- a leg leads to the next one, or to the end of the run; or it was cut short
-abbrev pub IsLedKept : Searched → Request → TesterMet → List Answered → List (Option Outcome) → Begun → List ℕ → List (Option Outcome)
-    → List (Option Outcome) → Result Gone Cut → Type 0
-IsLedKept search request tester remembered opened first written kept known (Ok (On running)) =
+abbrev pub IsLedKept : ((ℕ → Outcome → Type 0) → Type 0) → Searched → Request → TesterMet → List Answered → List (Option Outcome) → Begun → List ℕ
+    → List (Option Outcome) → List (Option Outcome) → Result Gone Cut → Type 0
+IsLedKept Leaves search request tester remembered opened first written kept known (Ok (On running)) =
     IsKeptRun search request tester.after remembered opened first written kept running
-IsLedKept search request tester remembered opened first written kept known (Ok (Over answer)) =
+    × IsKeptOn Leaves tester.after.is_lenient opened kept known running.standing.table
+IsLedKept Leaves search request tester remembered opened first written kept known (Ok (Over answer)) =
     (is : IsTested request tester.after search.history.now first (record { status = answer.status; text = written ++ answer.text }))
-    × KeepsAll tester.after.is_lenient kept is.table
-IsLedKept search request tester remembered opened first written kept known (Err Journal) =
+    × IsKeptOn Leaves tester.after.is_lenient opened kept known is.table
+IsLedKept Leaves search request tester remembered opened first written kept known (Err Journal) =
     IsKnown search.history.now.names tester.after.plan tester.after.answers known
-IsLedKept search request tester remembered opened first written kept known (Err Output) = ⊥
-IsLedKept search request tester remembered opened first written kept known (Err NoMemory) = Unit {0}
+    × Leaves (MayBePut search.history.now.names tester.after.answers known)
+IsLedKept Leaves search request tester remembered opened first written kept known (Err Output) = ⊥
+IsLedKept Leaves search request tester remembered opened first written kept known (Err NoMemory) =
+    Leaves (MayBePut search.history.now.names tester.after.answers known)
 
 -- whatever search the run is of
-abbrev pub LeadsKeptOn : Searched → Running → TesterMet → List Answered → List Answered → Keeping → Keeping → Result Gone Cut → Type 0
-LeadsKeptOn search running tester before after old new result =
+abbrev pub LeadsKeptOn : {J : Type 0} → Ghosts J → J → J → Searched → Running → TesterMet → List Answered → List Answered → Keeping → Keeping
+    → Result Gone Cut → Type 0
+LeadsKeptOn by disk disk_now search running tester before after old new result =
     (request : Request) (opened : List (Option Outcome)) (first : Begun) (written : List ℕ)
     → IsKeptRun search request tester.before before opened first written old.kept running
-    → IsLedKept search request tester after opened first written new.kept running.standing.table result
+    → IsLedKept (LeavesOn by disk disk_now old old.kept) search request tester after opened first written new.kept running.standing.table result
 
 -- ---- from the first leg to the end
 
@@ -119,9 +135,9 @@ IsEndedKept images disk request tested history first before after (Err Output) =
 IsEndedKept images disk request tested history first before after (Err NoMemory) = IsCutByMemory images tested history first before after
 
 -- whatever search the run is of
-abbrev pub EndsKept : Searched → Running → TesterMet → List Answered → Keeping → DiskMet → SinkMet → Result Answer Cut → Type 0
-EndsKept search running tester remembered journal disk sink result =
+abbrev pub EndsKept : {J : Type 0} → Ghosts J → J → J → Searched → Running → TesterMet → List Answered → Keeping → SinkMet → Result Answer Cut → Type 0
+EndsKept by disk disk_now search running tester remembered journal sink result =
     (request : Request) (opened : List (Option Outcome)) (first : Begun)
     → IsKeptRun search request tester.before remembered opened first [] journal.kept running
-    → IsEndedKept (AreImagesOf disk journal.identity (length journal.kept) tester.after.is_lenient) disk request tester.after search.history.now first
-    sink.before sink.after result
+    → IsEndedKept (AreLasting by disk disk_now journal search.history.now.names tester.after opened) (met_disk by disk disk_now) request tester.after
+    search.history.now first sink.before sink.after result

@@ -1,5 +1,6 @@
 -- A search whose outcomes are kept, from its journal to its status.
 use Rattle.std.specs.Prelude.{◌≡◌, ◌≢◌, List, [], length, Option, true, Result, Ok, Err, codes}
+use Rattle.bf_answers.specs.Answers.{IsBeforeSearch}
 use Rattle.bf_answers.specs.declared.answer.Answer.{Answer}
 use Rattle.bf_answers.specs.declared.line.Line.{Line}
 use Rattle.bf_answers.specs.declared.started.Started.{Started}
@@ -11,6 +12,7 @@ use Rattle.bf_commands.specs.Journal.{DiskMet, IsJournalled, Opens, identity_of}
 use Rattle.bf_commands.specs.Journal.Opened.{Kept}
 use Rattle.bf_history.specs.Meanings.{History}
 use Rattle.bf_io.specs.Told.{Keeps}
+use Rattle.bf_oid.specs.declared.object.Oid.{Oid}
 use Rattle.bf_output.specs.declared.status.Status.{Status}
 use Rattle.bf_output.specs.declared.status.Status.TheVariants as status
 use Rattle.bf_search.specs.declared.outcomes.Outcome.{Outcome}
@@ -41,3 +43,18 @@ pub record IsRecalledKept (disk : DiskMet) (line : Line) (history : History) (re
 
 abbrev pub IsRecalledIn : DiskMet → Line → History → List Answered → List Answered → Type 0
 IsRecalledIn disk line history answers remembered = answers ≢ [] → IsRecalledKept disk line history remembered
+
+-- ---- the statuses before a search
+
+-- the statuses that are answered before a journal is opened
+abbrev pub IsBeforeOpening : Status → Type 0
+IsBeforeOpening (status.JournalRefused kept) = ⊥
+IsBeforeOpening other = IsBeforeSearch other
+
+-- with such a status the disk is as it was
+abbrev pub IsUnopenedIfRefused : {J : Type 0} → J → J → Status → Type 0
+IsUnopenedIfRefused before after result = IsBeforeOpening result → after ≡ before
+
+-- once a search has begun, a refusal is that of another run's journal, and then this holds
+abbrev pub IsRefusedOnly : Status → Type 0 → Type 0
+IsRefusedOnly result Same = IsBeforeSearch result → (kept : Oid) × (result ≡ status.JournalRefused kept) × Same

@@ -7,6 +7,7 @@ ghost use Rattle.bf_commands.specs.Journal.{request_to_journal};
 ghost use Rattle.bf_io.specs.Causes.{Rose};
 ghost use Rattle.bf_journal_run.specs.Journalling.{AreUnasked, ConcludesReady, IsRecalledBy, IsRecalledReady, to_journal};
 ghost use Rattle.bf_journal_run.specs.Legs.{met_disk};
+ghost use Rattle.bf_journal_run.specs.Searching.{IsUnopenedIfRefused};
 ghost use Rattle.bf_output.specs.Output.{IsUsedFor, asks_file, reads, tests};
 ghost use Rattle.bf_output.specs.Tested.{IsUsed, tested_by};
 ghost use Rattle.bf_recall.specs.Recalling.{remembering};
@@ -30,8 +31,10 @@ use std::alloc::Global;
 ///
 /// The journal is opened once the search has begun, before any commit is tested. A commit whose outcome was kept is
 /// not tested again. The status is `JournalRefused` where the disk has the journal of another run, and `JournalFault` only
-/// where the count of faults of the disk rose; the causes of the others are those of `run`. Whatever the status, each
-/// outcome behind a line that was written is in each image that a crash may leave once the call has returned.
+/// where the count of faults of the disk rose; the causes of the others are those of `run`. Once the call has
+/// returned, each image that a crash may leave has each outcome behind a line that was written and, as it was, each that
+/// the journal kept before; and at no moment of the call a crash leaves what was neither kept nor tested, or less than was
+/// kept. The journal of another run is left as it is, and with any other refusal the disk is not touched.
 pub fn journal<R: Host, S: Source, F: Shelf, T: Tester, J: Disk, K: Sink>(
     rt: &R,
     alloc: Global,
@@ -73,6 +76,9 @@ pub fn journal<R: Host, S: Source, F: Shelf, T: Tester, J: Disk, K: Sink>(
     ensures unkept { IsLeftUnless (reads (request_to_journal words.now)) disk.old disk.new }
     ensures untested { IsUntestedIfRefused
         (met_tester ⟦<Recall<T> as Tester>⟧ tester.old tester.new) result }
+    ensures unopened { IsUnopenedIfRefused disk.old disk.new result }
+    ensures untouched { (kept : _) → result ≡ Status.JournalRefused kept
+        → J.told disk.new ≡ J.told disk.old }
     ensures is_split { T.is_split tester.new.inner ≡ false }
 {
     match read_line(alloc, words) {
@@ -136,6 +142,9 @@ fn conclude<R: Host, T: Tester, J: Disk, K: Sink>(
     ensures unasked { AreUnasked tester.new.remembered (T.answers tester.new.inner) }
     ensures untested { IsUntestedIfRefused
         (met_tester ⟦<Recall<T> as Tester>⟧ tester.old tester.new) result }
+    ensures unopened { IsUnopenedIfRefused disk.old disk.new result }
+    ensures untouched { (kept : _) → result ≡ Status.JournalRefused kept
+        → J.told disk.new ≡ J.told disk.old }
     ensures is_split { T.is_split tester.new.inner ≡ false }
 {
     match ready {

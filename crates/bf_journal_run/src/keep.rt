@@ -5,7 +5,7 @@ ghost use Rattle.bf_io.specs.Causes.{FailsOnlyAt};
 ghost use Rattle.bf_journal.specs.Disk.{LeavesOnly};
 ghost use Rattle.bf_journal.specs.Journal.{Fits};
 ghost use Rattle.bf_journal_run.specs.Kept as kept;
-ghost use Rattle.bf_journal_run.specs.Kept.{IsSameRun, KeepsOne, KeepsSince, StandsForMore, answer_if, answers_of};
+ghost use Rattle.bf_journal_run.specs.Kept.{IsSameRun, IsToKeep, KeepsOne, KeepsSince, LeavesOn, StandsForOne, answer_if, answers_of};
 
 use bf_journal::{Disk, Journal, JournalFault};
 use bf_oid::Oid;
@@ -66,7 +66,7 @@ fn to_keep(known: Option<Outcome>) -> Option<Outcome>
 }
 
 /// Keeps each outcome of a table of whose place none is kept, by place. A crash at any moment leaves what was kept
-/// before, or more.
+/// before, and of the table no more than is to be kept.
 pub(crate) fn keep_table<J: Disk>(
     journal: &mut Journal,
     disk: &mut J,
@@ -80,8 +80,8 @@ pub(crate) fn keep_table<J: Disk>(
     ensures sound { OnOk result (journal.new.is_sound ≡ true) }
     ensures fits { OnOk result (Fits J.told J.may_leave disk.new journal.new) }
     ensures told { is_some (J.told disk.new) ≡ is_some (J.told disk.old) }
-    ensures any_moment { IfSome (J.told disk.old) (λ _. LeavesOnly J.moment J.left_since
-        disk.old disk.new (StandsForMore journal.old)) }
+    ensures any_moment { LeavesOn J.Disk disk.old disk.new journal.old journal.old.kept
+        (IsToKeep table.now) }
     ensures failed { FailsOnlyAt JournalFault.Failed
         (J.faults disk.old) (J.faults disk.new) result }
     ensures no_mismatch { (kept : _) → result ≢ Err (JournalFault.Mismatch kept) }
@@ -108,7 +108,7 @@ fn keep<J: Disk>(
     ensures fits { OnOk result (Fits J.told J.may_leave disk.new journal.new) }
     ensures told { is_some (J.told disk.new) ≡ is_some (J.told disk.old) }
     ensures any_moment { IfSome (J.told disk.old) (λ _. LeavesOnly J.moment J.left_since
-        disk.old disk.new (StandsForMore journal.old)) }
+        disk.old disk.new (StandsForOne journal.old place known)) }
     ensures failed { FailsOnlyAt JournalFault.Failed
         (J.faults disk.old) (J.faults disk.new) result }
     ensures no_mismatch { (kept : _) → result ≢ Err (JournalFault.Mismatch kept) }

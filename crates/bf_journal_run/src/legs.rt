@@ -5,8 +5,8 @@ ghost use Rattle.bf_answers.specs.Answers.{IsCaused};
 ghost use Rattle.bf_answers.specs.Devices.{KeepsManner, met_sink, met_tester};
 ghost use Rattle.bf_io.specs.Causes.{FailsOnlyAt};
 ghost use Rattle.bf_journal.specs.Journal.{Fits};
-ghost use Rattle.bf_journal_run.specs.Kept.{AreImagesMore, IsSameRun};
-ghost use Rattle.bf_journal_run.specs.Legs.{EndsKept, IsToldLeg, LeadsKeptOn, met_disk};
+ghost use Rattle.bf_journal_run.specs.Kept.{IsSameRun};
+ghost use Rattle.bf_journal_run.specs.Legs.{EndsKept, IsToldLeg, LeadsKeptOn};
 ghost use Rattle.bf_output.specs.Tested.{tested_by};
 ghost use Rattle.bf_search.specs.Within.{IsEndingWithin, IsEntryWithin};
 ghost use Rattle.bf_searches.specs.Searching.{IsGoneCaused, IsLegReady, LeavesReady};
@@ -39,7 +39,7 @@ fn go_on_kept<R: Host, T: Tester, J: Disk>(
     requires len { length journal.old.kept ≡ length search.history.now.parents }
     requires sound { journal.old.is_sound ≡ true }
     requires fits { Fits J.told J.may_leave disk.old journal.old }
-    ensures goes { LeadsKeptOn search.entry running
+    ensures goes { LeadsKeptOn J.Disk disk.old disk.new search.entry running
         (met_tester ⟦<Recall<T> as Tester>⟧ tester.old tester.new)
         tester.old.remembered tester.new.remembered journal.old journal.new result }
     ensures next { LeavesReady search.entry
@@ -53,7 +53,6 @@ fn go_on_kept<R: Host, T: Tester, J: Disk>(
     ensures sound { OnOk result (journal.new.is_sound ≡ true) }
     ensures fits { OnOk result (Fits J.told J.may_leave disk.new journal.new) }
     ensures told { is_some (J.told disk.new) ≡ is_some (J.told disk.old) }
-    ensures images { AreImagesMore (J.told disk.old) (J.may_leave disk.new) journal.old }
     ensures failed { FailsOnlyAt Cut.Journal (J.faults disk.old) (J.faults disk.new) result }
     ensures no_output { IsErrOf result Cut.Output → ⊥ }
 {
@@ -96,9 +95,9 @@ pub(crate) fn go_through<R: Host, T: Tester, J: Disk, K: Sink>(
     requires len { length journal.kept ≡ length search.history.now.parents }
     requires sound { journal.is_sound ≡ true }
     requires fits { Fits J.told J.may_leave disk.old journal }
-    ensures told { EndsKept search.entry running
+    ensures told { EndsKept J.Disk disk.old disk.new search.entry running
         (met_tester ⟦<Recall<T> as Tester>⟧ tester.old tester.new) tester.old.remembered journal
-        (met_disk J.Disk disk.old disk.new) (met_sink K.Sink out.old out.new) result }
+        (met_sink K.Sink out.old out.new) result }
     ensures cause { IfOk result
         (IsCaused true (met_tester ⟦<Recall<T> as Tester>⟧ tester.old tester.new)) }
     ensures write { FailsOnlyAt Cut.Output (K.faults out.old) (K.faults out.new) result }

@@ -1,17 +1,18 @@
 //! A search whose outcomes are kept: its journal is opened, and the tester remembers what it kept.
-ghost use Rattle.std.specs.Prelude.{◌≡◌, ◌≢◌, ◌⊎◌, [], false, length, true, Err, IfOk};
+ghost use Rattle.std.specs.Prelude.{◌≡◌, ◌≢◌, ◌⊎◌, [], false, length, true, Err, IfOk, IfSome};
 ghost use Rattle.std.specs.Option.{is_some};
 ghost use Rattle.bf_answers.specs.Answers.{HasTestCause, IsCaused};
 ghost use Rattle.bf_answers.specs.Devices.{KeepsManner, met_sink, met_tester};
 ghost use Rattle.bf_answers.specs.Ready.{IsStarted};
 ghost use Rattle.bf_answers.specs.Tellings.{begun_of};
-ghost use Rattle.bf_commands.specs.Journal.{AreImagesOf, Opens, identity_of};
+ghost use Rattle.bf_commands.specs.Journal.{IsLeftAlone, Opens, identity_of};
 ghost use Rattle.bf_commands.specs.Journal.{Opened as opened};
 ghost use Rattle.bf_io.specs.Causes.{FailsOnlyAt, Rose};
-ghost use Rattle.bf_journal.specs.Journal.{Fits};
-ghost use Rattle.bf_journal_run.specs.Kept.{answers_of};
+ghost use Rattle.bf_journal.specs.Disk.{LeavesOnly};
+ghost use Rattle.bf_journal.specs.Journal.{Fits, IsAsOpened};
+ghost use Rattle.bf_journal_run.specs.Kept.{AreLasting, answers_of};
 ghost use Rattle.bf_journal_run.specs.Legs.{IsEndedKept, met_disk};
-ghost use Rattle.bf_journal_run.specs.Searching.{ConcludesKept, IsRecalledIn, SaysKept};
+ghost use Rattle.bf_journal_run.specs.Searching.{ConcludesKept, IsRecalledIn, IsRefusedOnly, SaysKept};
 ghost use Rattle.bf_output.specs.Tested.{IsUsed, tested_by};
 ghost use Rattle.bf_recall.specs.Recalling.{remembering};
 
@@ -41,6 +42,14 @@ fn open_journal<J: Disk>(
         → Opens (met_disk J.Disk disk.old disk.new)
         (identity_of history.now line.entry.request.now line.entry.words.now)
         (length history.now.names) (opened.Other kept) }
+    ensures untouched { (kept : _) → result ≡ Err (JournalFault.Mismatch kept)
+        → J.told disk.new ≡ J.told disk.old }
+    ensures alone { (kept : _) → result ≡ Err (JournalFault.Mismatch kept)
+        → IfSome (J.told disk.old) (IsLeftAlone (met_disk J.Disk disk.old disk.new)) }
+    ensures any_moment { IfSome (J.told disk.old) (λ bytes. LeavesOnly J.moment J.left_since
+        disk.old disk.new (IsAsOpened (J.may_leave disk.old)
+        (identity_of history.now line.entry.request.now line.entry.words.now)
+        (length history.now.names) bytes)) }
     ensures run { let run = identity_of history.now line.entry.request.now line.entry.words.now in
         IfOk result (λ journal. journal.identity ≡ run) }
     ensures sound { IfOk result (λ journal. journal.is_sound ≡ true) }
@@ -77,11 +86,10 @@ fn run_kept<R: Host, T: Tester, J: Disk, K: Sink>(
     requires len { length journal.kept ≡ length started.history.parents }
     requires sound { journal.is_sound ≡ true }
     requires fits { Fits J.told J.may_leave disk.old journal }
-    ensures told { let disk = met_disk J.Disk disk.old disk.new in
-        IsEndedKept (AreImagesOf disk journal.identity (length journal.kept)
-        (T.is_lenient tester.new.inner)) disk line.entry.request.now
-        (tested_by ⟦<Recall<T> as Tester>⟧ tester.new) started.history
-        (begun_of started.first) (K.held out.old) (K.held out.new) result }
+    ensures told { let tested = tested_by ⟦<Recall<T> as Tester>⟧ tester.new in
+        IsEndedKept (AreLasting J.Disk disk.old disk.new journal started.history.names
+        tested journal.kept) (met_disk J.Disk disk.old disk.new) line.entry.request.now
+        tested started.history (begun_of started.first) (K.held out.old) (K.held out.new) result }
     ensures cause { IfOk result
         (IsCaused true (met_tester ⟦<Recall<T> as Tester>⟧ tester.old tester.new)) }
     ensures write { FailsOnlyAt Cut.Output (K.faults out.old) (K.faults out.new) result }
@@ -123,11 +131,10 @@ fn search_kept<R: Host, T: Tester, J: Disk, K: Sink>(
     requires len { length journal.kept ≡ length started.history.parents }
     requires sound { journal.is_sound ≡ true }
     requires fits { Fits J.told J.may_leave disk.old journal }
-    ensures told { let disk = met_disk J.Disk disk.old disk.new in
-        IsEndedKept (AreImagesOf disk journal.identity (length journal.kept)
-        (T.is_lenient tester.new.inner)) disk line.entry.request.now
-        (tested_by ⟦<Recall<T> as Tester>⟧ tester.new) started.history
-        (begun_of started.first) (K.held out.old) (K.held out.new) result }
+    ensures told { let tested = tested_by ⟦<Recall<T> as Tester>⟧ tester.new in
+        IsEndedKept (AreLasting J.Disk disk.old disk.new journal started.history.names
+        tested journal.kept) (met_disk J.Disk disk.old disk.new) line.entry.request.now
+        tested started.history (begun_of started.first) (K.held out.old) (K.held out.new) result }
     ensures cause { IfOk result
         (IsCaused true (met_tester ⟦<Recall<T> as Tester>⟧ tester.old tester.new)) }
     ensures write { FailsOnlyAt Cut.Output (K.faults out.old) (K.faults out.new) result }
@@ -184,6 +191,7 @@ pub(crate) fn search<R: Host, T: Tester, J: Disk, K: Sink>(
         (met_tester ⟦<Recall<T> as Tester>⟧ tester.old tester.new) result }
     ensures write { result ≡ Status.WriteFault → Rose (K.faults out.old) (K.faults out.new) }
     ensures disk { result ≡ Status.JournalFault → Rose (J.faults disk.old) (J.faults disk.new) }
+    ensures refused { IsRefusedOnly result (J.told disk.new ≡ J.told disk.old) }
     ensures used { IsUsed line.entry.request.now line.entry.words.now
         (tested_by ⟦<Recall<T> as Tester>⟧ (remembering tester.old tester.new.remembered))
         (tested_by ⟦<Recall<T> as Tester>⟧ tester.new) }

@@ -5,6 +5,7 @@ use Rattle.bf_answers.specs.declared.started.Ready.{Ready}
 use Rattle.bf_answers.specs.declared.started.Ready.TheVariants.{Told, Search}
 use Rattle.bf_answers.specs.Devices.{met_sink, met_tester}
 use Rattle.bf_journal_run.specs.Journalling.{IsRecalledReady, TellsReady}
+use Rattle.bf_journal_run.proofs.Concluding.{unopened_only, untouched_only}
 use Rattle.bf_journal_run.specs.Legs.{met_disk}
 use Rattle.bf_journal_run.proofs.Output.{remembering_none, said_no_disk, unasked, unasked_none, untested_concluded}
 use Rattle.bf_journal_run.proofs.Recalled.{recall_by}
@@ -30,6 +31,12 @@ returns-in-Ok-Search-clause-unasked g c = unasked _ c.search-status.new.tester.a
 
 pub returns-in-Ok-Search-clause-untested : goal.returns-in-Ok-Search-clause-untested
 returns-in-Ok-Search-clause-untested g c = untested_concluded _ _ _ _ c.search-status.result c.search-status.ensures.told
+
+pub returns-in-Ok-Search-clause-unopened : goal.returns-in-Ok-Search-clause-unopened
+returns-in-Ok-Search-clause-unopened g c = λ before. unopened_only c.search-status.result _ _ c.search-status.ensures.refused before
+
+pub returns-in-Ok-Search-clause-untouched : goal.returns-in-Ok-Search-clause-untouched
+returns-in-Ok-Search-clause-untouched g c = λ kept e. untouched_only c.search-status.result _ kept c.search-status.ensures.refused e
 
 pub say_answer-requires : goal.say_answer-requires
 say_answer-requires g c = record {

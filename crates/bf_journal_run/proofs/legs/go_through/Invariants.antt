@@ -1,7 +1,7 @@
 use Rattle.std.proofs.Common.{◌≡◌, ◌≤◌, true, false, [], List, Option, is_some}
 use Rattle.bf_answers.specs.Devices.{KeepsManner}
 use Rattle.bf_journal.specs.Journal.{Fits}
-use Rattle.bf_journal_run.specs.Kept.{IsSameRun}
+use Rattle.bf_journal_run.specs.Kept.{IsSameRun, IsToKeep, LeavesOn}
 use Rattle.bf_journal_run.specs.Legs.{IsKeptRun}
 use Rattle.bf_journal_run.proofs.Ending.{HasComeKept}
 use Rattle.bf_journal_run.proofs.Recalled.{recall_by}
@@ -16,7 +16,7 @@ abbrev pub invariant-loop : goal.invariant-loop
 invariant-loop g l = record {
   come : (request : Request) (opened : List (Option Outcome)) (first : Begun)
       → IsKeptRun l.fn.search request (tested_by (recall_by g.T.Tester) l.fn.tester) l.fn.tester.remembered opened first [] l.fn.journal.kept l.fn.running
-      → HasComeKept l.fn.search request (tested_by (recall_by g.T.Tester) l.tester) l.tester.remembered opened first (g.K.Sink.held l.fn.out)
+      → HasComeKept (λ (table : List (Option Outcome)). LeavesOn g.J.Disk l.fn.disk l.disk l.fn.journal opened (IsToKeep table)) l.fn.search request (tested_by (recall_by g.T.Tester) l.tester) l.tester.remembered opened first (g.K.Sink.held l.fn.out)
       (g.K.Sink.held l.out) l.journal.kept l.running;
   ready : IsReady l.fn.search.history.now.parents l.fn.search.history.now.names (tested_by (recall_by g.T.Tester) l.tester).plan
       (tested_by (recall_by g.T.Tester) l.tester).answers l.running.standing.state l.running.standing.table;

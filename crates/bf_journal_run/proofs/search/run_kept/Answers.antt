@@ -1,6 +1,6 @@
-use Rattle.std.proofs.Common.{refl, length}
+use Rattle.std.proofs.Common.{refl}
 use Rattle.bf_answers.specs.Tellings.{begun_of}
-use Rattle.bf_commands.specs.Journal.{AreImagesOf}
+use Rattle.bf_journal_run.specs.Kept.{AreLasting}
 use Rattle.bf_journal_run.specs.declared.cut.Cut.TheVariants.{NoMemory}
 use Rattle.bf_journal_run.specs.Legs.{IsEndedKept, met_disk}
 use Rattle.bf_journal_run.proofs.Leading.{err_as}
@@ -14,11 +14,11 @@ returns-in_err-running-clause-told g c =
     let tested = tested_by (recall_by g.T.Tester) c.args.tester.now in
     let disk = met_disk g.J.Disk c.args.disk.now c.args.disk.now in
     let journal = c.args.journal in
-    let images = AreImagesOf disk journal.identity (length journal.kept) tested.is_lenient in
+    let images = AreLasting g.J.Disk c.args.disk.now c.args.disk.now journal c.args.started.history.names tested journal.kept in
     err_as (IsEndedKept images disk c.args.line.request.now tested c.args.started.history (begun_of c.args.started.first)
     (g.K.Sink.held c.args.out.now) (g.K.Sink.held c.args.out.now)) c.from_residual.result NoMemory c.from_residual.ensures.1
-    (nothing_kept disk journal tested.is_lenient c.args.line.request.now tested c.args.started.history (begun_of c.args.started.first)
-    (g.K.Sink.held c.args.out.now) c.requires.fits.settled c.requires.fits.bytes)
+    (nothing_kept g.J.Disk c.args.disk.now journal c.args.line.request.now tested c.args.started.history (begun_of c.args.started.first)
+    (g.K.Sink.held c.args.out.now) g.met.J.Disk.only_now c.requires.fits.settled c.requires.fits.bytes)
 
 pub go_through-requires-clause-ready : goal.go_through-requires-clause-ready
 go_through-requires-clause-ready g c = λ κs within.

@@ -1,6 +1,5 @@
 use Rattle.std.proofs.Common.{List, subst, sym, ap, ◌∙◌, length, inl, inr}
 use Rattle.bf_answers.specs.Tellings.{begun_of}
-use Rattle.bf_commands.specs.Journal.{AreImagesOf}
 use Rattle.bf_farm.specs.Reports.{Manner}
 use Rattle.bf_journal_run.specs.declared.cut.Cut.TheVariants.{NoMemory}
 use Rattle.bf_journal_run.specs.Legs.{IsEndedKept, met_disk}
@@ -10,7 +9,7 @@ use Rattle.bf_journal_run.proofs.Output.{remembering_none}
 use Rattle.bf_journal_run.proofs.Preparing.{before_prepared, remembered_kept, unused_by, used_by}
 use Rattle.bf_journal_run.proofs.Recalled.{recall_by}
 use Rattle.bf_journal_run.proofs.Starting.{nothing_kept}
-use Rattle.bf_journal_run.specs.Kept.{answers_of}
+use Rattle.bf_journal_run.specs.Kept.{AreLasting, answers_of}
 use Rattle.bf_oid.specs.declared.object.Oid.{Oid}
 use Rattle.bf_recall.specs.Recalling.{Recalling, remembering}
 use Rattle.bf_recall.specs.Remembered.{AreNew}
@@ -23,11 +22,11 @@ returns-in_err-kept-clause-told g c =
     let tested = tested_by (recall_by g.T.Tester) c.args.tester.now in
     let disk = met_disk g.J.Disk c.args.disk.now c.args.disk.now in
     let journal = c.args.journal in
-    err_as (IsEndedKept (AreImagesOf disk journal.identity (length journal.kept) tested.is_lenient) disk c.args.line.request.now tested
+    err_as (IsEndedKept (AreLasting g.J.Disk c.args.disk.now c.args.disk.now journal c.args.started.history.names tested journal.kept) disk c.args.line.request.now tested
     c.args.started.history (begun_of c.args.started.first) (g.K.Sink.held c.args.out.now) (g.K.Sink.held c.args.out.now))
     c.from_residual.result NoMemory c.from_residual.ensures.1
-    (nothing_kept disk journal tested.is_lenient c.args.line.request.now tested c.args.started.history (begun_of c.args.started.first)
-    (g.K.Sink.held c.args.out.now) c.requires.fits.settled c.requires.fits.bytes)
+    (nothing_kept g.J.Disk c.args.disk.now journal c.args.line.request.now tested c.args.started.history (begun_of c.args.started.first)
+    (g.K.Sink.held c.args.out.now) g.met.J.Disk.only_now c.requires.fits.settled c.requires.fits.bytes)
 
 pub returns-in_err-kept-clause-used : goal.returns-in_err-kept-clause-used
 returns-in_err-kept-clause-used g c = inl (ap (tested_by (recall_by g.T.Tester)) (sym (remembering_none c.args.tester.now c.requires.remembers)))
@@ -43,11 +42,11 @@ returns-in_err-remember-clause-told g c =
     let tested = tested_by (recall_by g.T.Tester) c.remember.new.self in
     let disk = met_disk g.J.Disk c.args.disk.now c.args.disk.now in
     let journal = c.args.journal in
-    err_as (IsEndedKept (AreImagesOf disk journal.identity (length journal.kept) tested.is_lenient) disk c.args.line.request.now tested
+    err_as (IsEndedKept (AreLasting g.J.Disk c.args.disk.now c.args.disk.now journal c.args.started.history.names tested journal.kept) disk c.args.line.request.now tested
     c.args.started.history (begun_of c.args.started.first) (g.K.Sink.held c.args.out.now) (g.K.Sink.held c.args.out.now))
     c.from_residual-in_err-remember.result NoMemory c.from_residual-in_err-remember.ensures.1
-    (nothing_kept disk journal tested.is_lenient c.args.line.request.now tested c.args.started.history (begun_of c.args.started.first)
-    (g.K.Sink.held c.args.out.now) c.requires.fits.settled c.requires.fits.bytes)
+    (nothing_kept g.J.Disk c.args.disk.now journal c.args.line.request.now tested c.args.started.history (begun_of c.args.started.first)
+    (g.K.Sink.held c.args.out.now) g.met.J.Disk.only_now c.requires.fits.settled c.requires.fits.bytes)
 
 pub returns-in_err-remember-clause-used : goal.returns-in_err-remember-clause-used
 returns-in_err-remember-clause-used g c =
@@ -61,11 +60,11 @@ returns-in_err-prepare-clause-told g c =
     let tested = tested_by (recall_by g.T.Tester) c.prepare.new.self in
     let disk = met_disk g.J.Disk c.args.disk.now c.args.disk.now in
     let journal = c.args.journal in
-    err_as (IsEndedKept (AreImagesOf disk journal.identity (length journal.kept) tested.is_lenient) disk c.args.line.request.now tested
+    err_as (IsEndedKept (AreLasting g.J.Disk c.args.disk.now c.args.disk.now journal c.args.started.history.names tested journal.kept) disk c.args.line.request.now tested
     c.args.started.history (begun_of c.args.started.first) (g.K.Sink.held c.args.out.now) (g.K.Sink.held c.args.out.now))
     c.from_residual-in_err-prepare.result NoMemory c.from_residual-in_err-prepare.ensures.1
-    (nothing_kept disk journal tested.is_lenient c.args.line.request.now tested c.args.started.history (begun_of c.args.started.first)
-    (g.K.Sink.held c.args.out.now) c.requires.fits.settled c.requires.fits.bytes)
+    (nothing_kept g.J.Disk c.args.disk.now journal c.args.line.request.now tested c.args.started.history (begun_of c.args.started.first)
+    (g.K.Sink.held c.args.out.now) g.met.J.Disk.only_now c.requires.fits.settled c.requires.fits.bytes)
 
 pub returns-in_err-prepare-clause-used : goal.returns-in_err-prepare-clause-used
 returns-in_err-prepare-clause-used g c =
