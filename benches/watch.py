@@ -16,7 +16,7 @@ PARTS = ("proof", "tests", "edits")
 
 def check_of(process):
     """The crate and the part of a check, its start, and its processor seconds; none where the process is no check of `rt ci`."""
-    with open(f"/proc/{process}/cmdline") as file:
+    with open(f"/proc/{process}/cmdline", errors="replace") as file:
         words = file.read().split("\0")
     if not words[0].endswith("/rattle"):
         return None
