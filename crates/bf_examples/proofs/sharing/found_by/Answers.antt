@@ -1,4 +1,4 @@
-use Rattle.std.proofs.Common.{◌≡◌, ℕ, List, replicate, None, arith}
+use Rattle.std.proofs.Common.{◌≡◌, ℕ, List, length, replicate, None, arith}
 use Rattle.std.proofs.lemmas.List.Elements.{All-weaker}
 use Rattle.bf_many.specs.declared.search.Search.{Search}
 use Rattle.bf_many.proofs.Fresh.{AreUntold, untold_testers}
