@@ -128,30 +128,22 @@ test_input() {
     done
 }
 
-# Where the input, the output or a file fails, the standard error tells what the system said; and which word is no text.
-# A row has the status, what is told in the first line, and the words of the program with its streams.
-needs_said() { needs_all && missing=/dev/full && [ -c /dev/full ]; }
+# A word that is no text is told by its number. A row has the status, what is told in the first line, and the words.
+needs_said() { needs_all; }
 # shellcheck disable=SC2034
 test_said() {
     prepare
-    mkdir folder
     broken=$(printf 'x\377')
     while IFS='|' read -r due_status said words; do
-        eval "\"\$farmdawn\" $words" >got 2>told
+        eval "\"\$farmdawn\" $words" <stream >got 2>told
         status=$?
         expect "the status of $words" [ "$status" = "$due_status" ]
         expect "what is told of $words" [ "$(head -n 1 told)" = "$said" ]
     done <<'END'
-12|farmdawn: the standard input: Is a directory (os error 21)|next main main~1 <folder
-12|farmdawn: the standard input: Bad file descriptor (os error 9)|next main main~1 0>new
-13|farmdawn: the standard output: No space left on device (os error 28)|next main main~1 <stream >/dev/full
-13|farmdawn: the standard output: No space left on device (os error 28)|--help >/dev/full
-14|farmdawn: the file: Is a directory (os error 21)|replay --replay folder <stream
-14|farmdawn: the file: Is a directory (os error 21)|check folder <stream
-16||replay --replay missing <stream
-1|farmdawn: word 0 is not UTF-8, and each word must be|"$broken" <stream
-1|farmdawn: word 2 is not UTF-8, and each word must be|next main "$broken" "$broken" <stream
-0||next main main~2 <stream
+1|farmdawn: word 0 is not UTF-8, and each word must be|"$broken"
+1|farmdawn: word 2 is not UTF-8, and each word must be|next main "$broken" "$broken"
+16||replay --replay missing
+0||next main main~2
 END
 }
 

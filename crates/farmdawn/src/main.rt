@@ -7,8 +7,8 @@ ghost use Rattle.std.specs.Prelude.{◌≡◌, [], false};
 mod args;
 mod help;
 mod hint;
-mod noted;
 
+use args::Line;
 use bf_checkout::{DirFolder, Folder, FolderTester, Workshop};
 use bf_farmed::farm_main;
 use bf_import::Content;
@@ -19,7 +19,6 @@ use bf_recall::Recall;
 use bf_shelf::{DirShelf, Shelf};
 use bf_tester::{ProcessTester, Tester};
 use help::{HELP, VERSION};
-use noted::{LastErrors, Noted};
 use std::alloc::{AllocError, Global};
 use std::env::{self, VarError};
 use std::io;
@@ -102,8 +101,7 @@ fn tell_why<R: Eprint>(
 }
 
 fn main(rt: HostRuntime) -> ExitCode {
-    let errors = LastErrors::new();
-    let mut out = StdSink::new(Noted::new(io::writer(&rt), &errors.output));
+    let mut out = StdSink::new(io::writer(&rt));
     let status = match args::read(&rt) {
         Ok(line) => match line.words.as_slice() {
             [word] if word.as_slice() == b"--help".as_slice() => say(&mut out, HELP, Status::Done),
@@ -116,8 +114,8 @@ fn main(rt: HostRuntime) -> ExitCode {
                 JOURNAL.to_string(rt.alloc()),
             ) {
                 (Ok(folder), Ok(content), Ok(journal)) => {
-                    let mut stream = StdSource::new(Noted::new(rt.reader(), &errors.input));
-                    let mut shelf = DirShelf::new(Noted::new(rt, &errors.files), rt.alloc());
+                    let mut stream = StdSource::new(rt.reader());
+                    let mut shelf = DirShelf::new(rt, rt.alloc());
                     let mut tester = Recall::new(rt.alloc(), tester_of(&rt));
                     let mut shop = Workshop::new(tester_of(&rt), folder, content);
                     let mut disk = DiskFile::new(rt, journal);
@@ -139,6 +137,5 @@ fn main(rt: HostRuntime) -> ExitCode {
         },
         Err(_) => Status::NoMemory,
     };
-    errors.tell(&rt, status);
     ExitCode::from(status.number())
 }
