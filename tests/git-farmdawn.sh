@@ -6,15 +6,6 @@ export FARMDAWN
 
 needs_all() { has git flock setsid && has_program; }
 
-# The first bad commit by git bisect run, over the same words.
-git_answer() {
-    git bisect start "$@" >/dev/null 2>&1
-    [ -z "${skip-}" ] || git bisect skip "$skip" >/dev/null 2>&1
-    git bisect run sh -c "$command" >bisect-output 2>&1
-    git rev-parse "refs/bisect/${new_term:-bad}"
-    git bisect reset >/dev/null 2>&1
-}
-
 # Both name the same commit, `git bisect replay` takes the printed log, and nothing is left. The test is $command.
 agree() {
     # shellcheck disable=SC2086
@@ -54,61 +45,6 @@ test_merges() {
     options=--first-parent agree main main~8
     agree topic2 main~5 topic1
     agree main topic1 topic3
-}
-
-# Commits that change some paths alone, beside git bisect with the same paths; tests/paths.py has random ones.
-needs_paths() { needs_all; }
-test_paths() {
-    make_line 2 9
-    mkdir -p in/side || exit 1
-    for number in 1 2 3 4 5 6 7 8 9; do
-        echo $number >content
-        [ $((number % 2)) = 0 ] || echo $number >in/odd
-        [ $((number % 3)) != 0 ] || echo $number >in/side/third
-        [ $number -lt 5 ] || echo bug >bug
-        git add -A && git commit -q -m "then $number" || exit 1
-    done
-    ask() { answer_of git farmdawn --workers 2 "$@" main main~9 -- sh -c "cd \"\$(git rev-parse --show-toplevel)\" && $command"; }
-    expect 'a file' [ "$(ask --path in/odd)" = "$(first_bad main~4)" ]
-    expect 'as git bisect run has it' [ "$(first_bad "$(git_answer main main~9 -- in/odd)")" = "$(first_bad main~4)" ]
-    expect 'a folder of another' [ "$(ask --path in/side/)" = "$(first_bad main~3)" ]
-    expect 'no other commit is tested' [ "$(grep -c ': testing' told)" -le 3 ]
-    expect 'both' [ "$(ask --path in/side --path in/odd)" = "$(first_bad main~4)" ]
-    cd in/side || exit 1
-    expect 'from a folder' [ "$(ask --path third)" = "$(first_bad main~3)" ]
-    expect 'beside it' [ "$(ask --path ../odd)" = "$(first_bad main~4)" ]
-    expect 'by a full name' [ "$(ask --path "$PWD/../side")" = "$(first_bad main~3)" ]
-    expect 'itself' [ "$(ask --path .)" = "$(first_bad main~3)" ]
-    for way in '--path ../odd --path .' '--path third' ''; do
-        # shellcheck disable=SC2086
-        git farmdawn --log-dir "../../../logs/$(echo "$way" | tr / _)" $way main main~9 -- sh -c 'test ! -e ../../bug' >log 2>told
-    done
-    cd ../.. || exit 1
-    expect 'outcomes are kept for all paths' [ -z "$(find ../logs -name '*.log' | sed 's|.*/||' | sort | uniq -d)" ]
-    git farmdawn --path in/odd main~3 main~9 -- sh -c "$command" >log
-    expect 'git takes the log' sh -c 'git bisect replay log | grep -q "is the first bad commit"'
-    git bisect reset >/dev/null 2>&1
-    expect 'the bad end is what is left' [ "$(answer_of git farmdawn --path in/side main~4 main~9 -- sh -c "$command")" = "$(first_bad main~4)" ]
-    expect 'which is told' grep -q "none of the commits that change these paths is bad, and $(git rev-parse main~4) changes none of them" told
-    nothing_left
-}
-
-# What cannot be searched by is named, and nothing is tested.
-needs_wrong_paths() { needs_all; }
-test_wrong_paths() {
-    make_line 4 2
-    mkdir inner || exit 1
-    for path in '' nowhere .. ../elsewhere /etc inner/../../x 'con*' ':(top)content' ':/content' "'content'" '-x' 'two
-lines'; do
-        git farmdawn --path "$path" main main~3 -- touch ../tested >log 2>told
-        expect "no path: $path" [ $? -eq 1 ]
-        expect 'it is named' grep -qF -e "--path ${path%%[
-]*}" told
-    done
-    expect 'nothing was tested' [ ! -e ../tested ]
-    git rm -q bug && git commit -q -m 'without' && git commit -q --allow-empty -m last || exit 1
-    expect 'one that is no more' [ "$(answer_of git farmdawn --path bug main main~5 -- test -e bug)" = "$(first_bad main~1)" ]
-    nothing_left
 }
 
 needs_unrelated_good() { needs_all; }
@@ -366,10 +302,6 @@ test_lost_follower() {
     done
     nothing_left
 }
-
-# The answer of git farmdawn over the practice line, in one line.
-answer_of() { "$@" 2>told | tail -n 1; }
-first_bad() { echo "$(git rev-parse "$1") is the first bad commit"; }
 
 # A file that git tracks means the commit's own; git bisect run has the same answer. The files note1, note2, .. come one by one.
 make_notes() {
@@ -706,37 +638,6 @@ test_warnings() {
     nothing_left
 }
 
-# What a test meant, and what is left: as many commits as git lists for the marks so far, with one worker and no merge base.
-needs_progress() { needs_all; }
-test_progress() {
-    make_line 12 7
-    git commit -q --allow-empty -m "$(printf 'bell \a, \033[31m')" || exit 1
-    git farmdawn --workers 1 --term-new broken --skip main~4 main main~12 -- sh -c "$command" >log 2>told
-    expect 'the answer' [ "$(tail -n 1 log)" = "$(git rev-parse main~5) is the first broken commit" ] || exit 1
-    sed -n 's/^git bisect \([a-z]*\) \([0-9a-f]\{40\}\)$/\1 \2/p' log | grep -v skip >marks
-    while read -r term name; do
-        case $term in broken) bad=$name ;; good) goods="${goods-} ^$name" ;; esac
-        # shellcheck disable=SC2086
-        git rev-list --count "${bad:-main}" ^main~12 ${goods-}
-    done <marks | sed '$d' | sort -u >due
-    expect 'as many are told as left' [ "$(sed -n 's/ commits* left, .*about.*//p' told | sort -u | comm -23 - due)" = '' ]
-    expect 'with those that are skipped' grep -q ' commits left, 1 of them skipped, about' told
-    expect 'each test is told' [ "$(grep -c '^\(good  \|broken\)  [0-9a-f]\{12\}  change [0-9]*  ([0-9]* s)$' told)" -eq "$(grep -c ': testing' told)" ]
-    git farmdawn --workers 1 main main~12 -- sh -c 'exit 255' >log 2>told
-    expect 'and one that stops the search' grep -q '^stop  [0-9a-f]\{12\}  change [0-9]*  (exit 255, [0-9]* s)$' told
-    git farmdawn --workers 4 --check-ends main~1 main~12 -- sh -c "$command" >log 2>told
-    git farmdawn --check-ends main main~12 -- true >log 2>told
-    expect 'no control character comes through' grep -q '^good  [0-9a-f]\{12\}  bell ?, ?\[31m  ([0-9]* s)$' told
-    git farmdawn --quiet --fresh main main~12 -- sh -c "$command" >log 2>told
-    expect 'nothing is told quietly' [ ! -s told ]
-    git farmdawn --quiet main main~12 -- sh -c 'echo why; exit 255' >log 2>told
-    expect 'but what is wrong' grep -q '^    why$' told
-    nothing_left
-}
-
-needs_terminal() { needs_all && has python3 stty; }
-test_terminal() { expect 'on a terminal' python3 "$top/tests/terminal.py"; }
-
 # A test that hangs is not waited for where the answer is known without it.
 needs_hanging() { needs_all && has pgrep; }
 test_hanging() {
@@ -857,8 +758,8 @@ test_interrupts() {
 }
 
 by_clock='logs_and_limits lost_follower warnings'
-[ $# -gt 0 ] || set -- line merges paths wrong_paths unrelated_good terms encodings signed signed_by_gpg sha256 shallow part_of_many submodules \
+[ $# -gt 0 ] || set -- line merges unrelated_good terms encodings signed signed_by_gpg sha256 shallow part_of_many submodules \
     places words folders_and_scripts tracked_files links_of_commits torn_outcomes foreign_folders environment bash_environment \
-    left_by_tests odd_words odd_paths lost_output full_disk many_skips few_programs stops warnings progress terminal hanging log_limit prune tools \
+    left_by_tests odd_words odd_paths lost_output full_disk many_skips few_programs stops warnings hanging log_limit prune tools \
     logs_and_limits lost_follower lost_log wrong_words going_on dead_runs check_ends interrupts
 run_tests "$@"

@@ -114,6 +114,19 @@ make_line() {
     done
 }
 
+# The first bad commit by git bisect run, over the same words.
+git_answer() {
+    git bisect start "$@" >/dev/null 2>&1
+    [ -z "${skip-}" ] || git bisect skip "$skip" >/dev/null 2>&1
+    git bisect run sh -c "$command" >bisect-output 2>&1
+    git rev-parse "refs/bisect/${new_term:-bad}"
+    git bisect reset >/dev/null 2>&1
+}
+
+# The last line that a command prints, and the answer that names a commit.
+answer_of() { "$@" 2>told | tail -n 1; }
+first_bad() { echo "$(git rev-parse "$1") is the first bad commit"; }
+
 # No process runs on whose words have the sleep of this run. One that was sent a signal may be seen for a moment longer, and
 # what ends by itself for six seconds.
 nothing_sleeps() {
