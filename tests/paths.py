@@ -148,8 +148,10 @@ def counts_of(said, question, names, parents):
 def go_on(folder, question, before, inside, names, parents):
     """What is wrong in the same line without --path: tests that were run before, or numbers that are not those of the log."""
     after, _ = by_tool(folder, question, [], inside)
-    tested = [set(re.findall(r": testing ([0-9a-f]{12})$", said.told, re.M)) for said in (before, after)]
-    if {name for name in tested[0] & tested[1] if statuses_of(before, name) != "stop"}:
+    told = re.findall(r"^\S+ +([0-9a-f]{12})  .* s\)$", before.told, re.M)
+    # the last tests may be ended as the answer is known, after they told theirs and before it is kept
+    kept = {name for name in told[:-4] if statuses_of(before, name) != "stop"}
+    if kept & set(re.findall(r": testing ([0-9a-f]{12})$", after.told, re.M)):
         yield f"without --path a commit is tested again: {after.told}"
     due = iter(counts_of(after, question, names, parents))
     told = re.findall(r"^(\d+) commits? left, (?:(\d+) of them skipped, )?about", after.told, re.M)

@@ -32,7 +32,7 @@ test_paths() {
     expect 'itself' [ "$(ask --path .)" = "$(first_bad main~3)" ]
     for way in '--path ../odd --path .' '--path third' ''; do
         # shellcheck disable=SC2086
-        git farmdawn --log-dir "../../../logs/$(echo "$way" | tr / _)" $way main main~9 -- sh -c 'test ! -e ../../bug' >log 2>told
+        git farmdawn --workers 1 --log-dir "../../../logs/$(echo "$way" | tr / _)" $way main main~9 -- sh -c 'test ! -e ../../bug' >log 2>told
     done
     cd ../.. || exit 1
     expect 'outcomes are kept for all paths' [ -z "$(find ../logs -name '*.log' | sed 's|.*/||' | sort | uniq -d)" ]
