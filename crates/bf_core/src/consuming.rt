@@ -93,6 +93,21 @@ impl<'r> Consumed<'r> {
         Ok(workers)
     }
 
+    /// As `consume`, where nobody asks whose tests are wanted.
+    pub(crate) fn follow(&mut self, table: &Table) -> Result<(), AllocError>
+        requires len { length table.now ≡ length self.old.tree.graph }
+        ensures run { OnOk result (Consumes self.old table.now self.new) }
+        ensures nodes { OnOk result (KeepsNodesAhead self.old self.new) }
+        ensures err { OnErr result (IsSameRun self.old self.new) }
+    {
+        if self.ending.is_some() {
+            return Ok(());
+        }
+        let walked = self.tree.run(table, self.left)?;
+        self.commit(walked)?;
+        Ok(())
+    }
+
     /// Adds a walk from the root, and moves the root to its end. After an error all is as before.
     fn commit(&mut self, walked: Walked) -> Result<(), AllocError>
         requires { HasNode self.old.tree walked.path.items }

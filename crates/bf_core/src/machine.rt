@@ -236,6 +236,28 @@ impl<'r> Core<'r> {
         }
     }
 
+    /// As `post`, where nobody asks whose tests are wanted.
+    fn put(&mut self, worker: u32, place: u32, outcome: Outcome) -> Result<(), AllocError>
+        requires { stands self.old.claims worker place ≡ true }
+        ensures event { OnOk result (IsStep self.old (Event.Post worker place outcome) self.new) }
+        ensures consumed { IsConsumed self.new }
+        ensures nodes { OnOk result (KeepsGuesses self.old self.new) }
+        ensures err { OnErr result (IsSameButNodes self.old self.new) }
+    {
+        let others = without(self.alloc, self.claims.as_slice(), worker)?;
+        self.table.put(place, outcome);
+        match self.run.follow(&self.table) {
+            Ok(()) => {
+                self.claims = others;
+                Ok(())
+            }
+            Err(error) => {
+                self.table.remove(place);
+                Err(error)
+            }
+        }
+    }
+
     /// Ends a claim that stands, without an outcome.
     pub fn give(&mut self, worker: u32, place: u32)
         requires { stands self.old.claims worker place ≡ true }
@@ -285,7 +307,7 @@ impl<'r> Core<'r> {
                 if !self.stands(worker, place) {
                     return Err(ApplyFault::Illegal { event });
                 }
-                self.post(worker, place, outcome)?;
+                self.put(worker, place, outcome)?;
             }
             Event::Give { worker, place } => {
                 if !self.stands(worker, place) {

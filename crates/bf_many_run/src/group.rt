@@ -197,6 +197,11 @@ pub(crate) fn search_all<R: Host>(
     };
     let mut group = begin_all(alloc, lines, history, &reach)?;
     let tables = share(rt, search, &mut group)?;
-    let answer = tell_all(rt, search, group, tables)?;
+    // by one worker: there is nothing left to test
+    let alone = Searched {
+        workers: 1,
+        ..search
+    };
+    let answer = tell_all(rt, alone, group, tables)?;
     Ok(answer)
 }
