@@ -1,8 +1,10 @@
 -- The events of the calling thread: a test for each answer that is gained.
 use Rattle.std.proofs.Common.{◌≡◌, ℕ, Bool, true, false, cond, ◌||◌, ◌==◌, eq-eqb, List, [], ◌∷◌, ◌++◌, Option, Some, None, refl, sym, ap, subst, ◌∙◌}
 use Rattle.std.proofs.Common.{append_assoc}
-use Rattle.std.proofs.lemmas.List.{append-nil, append_cancel_left, flat_map_more}
-use Rattle.std.specs.List.{flat_map}
+use Rattle.std.proofs.lemmas.Grind.{flat_map-append}
+use Rattle.std.proofs.lemmas.List.{append-nil, append_cancel_left}
+use Rattle.std.proofs.lemmas.List.Elements.{All-nil, All-cons}
+use Rattle.std.specs.List.{All, flat_map}
 use Rattle.bf_oid.specs.declared.object.Oid.{Oid}
 use Rattle.bf_search.specs.declared.farm.Event.{Event}
 use Rattle.bf_search.specs.declared.farm.Event.TheVariants as events
@@ -16,43 +18,68 @@ use Rattle.bf_farm.specs.declared.report.Report.{Report}
 use Rattle.bf_farm.specs.Answering.{IsAlone, IsReport, lacking}
 use Rattle.bf_farm.specs.Boards.{LeadsTo, unclaimed}
 use Rattle.bf_farm.specs.Cores.{CoreView, run_of}
-use Rattle.bf_farm.specs.Ends.{AreTests, GainsClaim, StopsAt, TestsOn, awaited, failed_test, test_of}
+use Rattle.bf_farm.specs.Doers.{AddsOwn, worker_of}
+use Rattle.bf_farm.specs.Ends.{GainsClaim, StopsAt, TestsOn, awaited, failed_test, test_of}
 use Rattle.bf_farm.proofs.Reporting.{end_reported}
 
 -- ---- one test
 
--- the events with a claim behind them
-claimed_after : (gained : List Answer) (earlier old : List Event) (p : ℕ) → earlier ≡ flat_map test_of gained ++ [] → GainsClaim earlier old (Some p)
-    → old ≡ flat_map test_of gained ++ events.Claim 0 p ∷ []
-claimed_after gained earlier old p are claimed =
-    claimed ∙ ap (λ (es : List Event). es ++ events.Claim 0 p ∷ []) (are ∙ append-nil (flat_map test_of gained))
-
-pub tested_once : (before answers more : List Answer) (earlier old new : List Event) (p : ℕ) (name : Oid) (outcome : Outcome)
-    → more ≡ answers ++ answer_of p name outcome ∷ [] → new ≡ old ++ events.Post 0 p outcome ∷ [] → AreTests before answers earlier None
-    → GainsClaim earlier old (Some p) → AreTests before more new None
-tested_once before answers more earlier old new p name outcome grown noted are claimed = record {
-  gained = are.gained ++ answer_of p name outcome ∷ [];
-  added = grown ∙ ap (λ (l : List Answer). l ++ answer_of p name outcome ∷ []) are.added
-      ∙ append_assoc before are.gained (answer_of p name outcome ∷ []);
+pub tested_once : (answers more : List Answer) (earlier old new : List Event) (p : ℕ) (name : Oid) (outcome : Outcome)
+    → more ≡ answers ++ answer_of p name outcome ∷ [] → new ≡ old ++ events.Post 0 p outcome ∷ [] → GainsClaim earlier old (Some p)
+    → TestsOn earlier answers new more None
+tested_once answers more earlier old new p name outcome grown noted claimed = record {
+  gained = answer_of p name outcome ∷ [];
+  added = grown;
   tested = noted
-      ∙ ap (λ (es : List Event). es ++ events.Post 0 p outcome ∷ []) (claimed_after are.gained earlier old p are.tested claimed)
-      ∙ append_assoc (flat_map test_of are.gained) (events.Claim 0 p ∷ []) (events.Post 0 p outcome ∷ [])
-      ∙ flat_map_more test_of [] are.gained (answer_of p name outcome)
-      ∙ sym (append-nil (flat_map test_of (are.gained ++ answer_of p name outcome ∷ [])));
+      ∙ ap (λ (es : List Event). es ++ events.Post 0 p outcome ∷ []) claimed
+      ∙ append_assoc earlier (events.Claim 0 p ∷ []) (events.Post 0 p outcome ∷ []);
 }
 
-pub failed_once : (before answers more : List Answer) (earlier old new : List Event) (p : ℕ) → more ≡ answers
-    → new ≡ old ++ events.Give 0 p ∷ [] → AreTests before answers earlier None → GainsClaim earlier old (Some p) → AreTests before more new (Some p)
-failed_once before answers more earlier old new p same noted are claimed = record {
-  gained = are.gained;
-  added = same ∙ are.added;
+pub failed_once : (answers more : List Answer) (earlier old new : List Event) (p : ℕ) → more ≡ answers
+    → new ≡ old ++ events.Give 0 p ∷ [] → GainsClaim earlier old (Some p) → TestsOn earlier answers new more (Some p)
+failed_once answers more earlier old new p same noted claimed = record {
+  gained = [];
+  added = same ∙ sym (append-nil answers);
   tested = noted
-      ∙ ap (λ (es : List Event). es ++ events.Give 0 p ∷ []) (claimed_after are.gained earlier old p are.tested claimed)
-      ∙ append_assoc (flat_map test_of are.gained) (events.Claim 0 p ∷ []) (events.Give 0 p ∷ []);
+      ∙ ap (λ (es : List Event). es ++ events.Give 0 p ∷ []) claimed
+      ∙ append_assoc earlier (events.Claim 0 p ∷ []) (events.Give 0 p ∷ []);
 }
+
+-- ---- several tests
 
 pub tests_stay : (answers : List Answer) (old new : List Event) → GainsClaim old new None → TestsOn old answers new answers None
-tests_stay answers old new same = λ before are. record { gained = are.gained; added = are.added; tested = same ∙ are.tested }
+tests_stay answers old new same = record { gained = []; added = sym (append-nil answers); tested = same ∙ sym (append-nil old) }
+
+pub tests_then : (old mid new : List Event) (answers more most : List Answer) (failed : Option ℕ) → TestsOn old answers mid more None
+    → TestsOn mid more new most failed → TestsOn old answers new most failed
+tests_then old mid new answers more most failed first then =
+    let one = flat_map test_of first.gained in
+    let two = flat_map test_of then.gained in
+    let end = failed_test failed in
+    record {
+      gained = first.gained ++ then.gained;
+      added = then.added ∙ ap (λ (l : List Answer). l ++ then.gained) first.added ∙ append_assoc answers first.gained then.gained;
+      tested = then.tested
+          ∙ ap (λ (es : List Event). es ++ (two ++ end)) (first.tested ∙ ap (λ (es : List Event). old ++ es) (append-nil one))
+          ∙ append_assoc old one (two ++ end)
+          ∙ ap (λ (es : List Event). old ++ es)
+          (sym (append_assoc one two end) ∙ ap (λ (es : List Event). es ++ end) (sym (flat_map-append test_of first.gained then.gained)));
+    }
+
+-- the tests of some answers, and at last the one that failed, are the calling thread's own
+pub all_own : (answers : List Answer) (failed : Option ℕ) → All (λ (e : Event). worker_of e ≡ 0) (flat_map test_of answers ++ failed_test failed)
+all_own [] None = All-nil (λ (e : Event). worker_of e ≡ 0)
+all_own [] (Some p) =
+    All-cons (λ (e : Event). worker_of e ≡ 0) (events.Claim 0 p) (events.Give 0 p ∷ []) refl
+    (All-cons (λ (e : Event). worker_of e ≡ 0) (events.Give 0 p) [] refl (All-nil (λ (e : Event). worker_of e ≡ 0)))
+all_own (a ∷ answers) failed =
+    let rest = flat_map test_of answers ++ failed_test failed in
+    All-cons (λ (e : Event). worker_of e ≡ 0) (events.Claim 0 a.place) (events.Post 0 a.place a.outcome ∷ rest) refl
+    (All-cons (λ (e : Event). worker_of e ≡ 0) (events.Post 0 a.place a.outcome) rest refl (all_own answers failed))
+
+pub tests_are_own : (old new : List Event) (answers more : List Answer) (failed : Option ℕ) → TestsOn old answers new more failed → AddsOwn old new
+tests_are_own old new answers more failed tests =
+    record { more = flat_map test_of tests.gained ++ failed_test failed; added = tests.tested; own = all_own tests.gained failed }
 
 -- a table with this one claim
 abbrev only_claim : List (Option Outcome) → ℕ → Farm
@@ -92,21 +119,22 @@ pub tests_reported : (old : List Event) (answers more : List Answer) (core : Cor
     (report : Report) → TestsOn old answers events more failed → StopsAt (run_of core).end failed → IsReport core.setting core.first names report
     → report.table ≡ core.farm.table → report.events.items ≡ events
     → TestsOn old answers report.events.items more (awaited (end_of report.ending))
-tests_reported old answers more core events names failed report tests stops is table same = λ before are.
-    let all = tests before are in
+tests_reported old answers more core events names failed report tests stops is table same =
     let end : end_of report.ending ≡ (run_of core).end =
     end_reported core.setting core.first names report is ∙ ap (λ (t : List (Option Outcome)). (consumed core.setting t).end) table in
     record {
-      gained = all.gained;
-      added = all.added;
-      tested = same ∙ all.tested
-          ∙ ap (λ (f : Option ℕ). flat_map test_of all.gained ++ failed_test f) (awaited_is (run_of core).end failed stops ∙ sym (ap awaited end));
+      gained = tests.gained;
+      added = tests.added;
+      tested = same ∙ tests.tested
+          ∙ ap (λ (f : Option ℕ). old ++ (flat_map test_of tests.gained ++ failed_test f)) (awaited_is (run_of core).end failed stops ∙ sym (ap awaited end));
     }
 
 pub alone_told : (table : List (Option Outcome)) (before after : List Answer) (old : List Event) (report : Report) → old ≡ []
     → TestsOn old before report.events.items after (awaited (end_of report.ending)) → after ≡ before ++ lacking table report.used.items
     → IsAlone table report
 alone_told table before after old report none tests gains =
-    let all = tests before (record { gained = []; added = sym (append-nil before); tested = none }) in
-    all.tested ∙ ap (λ (l : List Answer). flat_map test_of l ++ failed_test (awaited (end_of report.ending)))
-    (append_cancel_left before all.gained (lacking table report.used.items) (sym all.added ∙ gains))
+    let failed = failed_test (awaited (end_of report.ending)) in
+    tests.tested
+    ∙ ap (λ (es : List Event). es ++ (flat_map test_of tests.gained ++ failed)) none
+    ∙ ap (λ (l : List Answer). flat_map test_of l ++ failed)
+    (append_cancel_left before tests.gained (lacking table report.used.items) (sym tests.added ∙ gains))

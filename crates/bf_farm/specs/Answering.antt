@@ -19,6 +19,7 @@ use Rattle.bf_tester.specs.declared.answer.Answer.{Answer}
 use Rattle.bf_farm.specs.declared.report.Report.{Report}
 use Rattle.bf_farm.specs.Boards.{LeadsTo, unclaimed}
 use Rattle.bf_farm.specs.Cores.{CoreView}
+use Rattle.bf_farm.specs.Doers.{AreByWorkers}
 use Rattle.bf_farm.specs.Ends.{TestsOn, awaited, failed_test, test_of}
 use Rattle.bf_farm.specs.Reports.{TableIn, TableFollows, PostsIn, AreAmong}
 
@@ -67,11 +68,15 @@ IsRunOfPlan setting plan report =
 abbrev pub HasHistory : Setting → List (Option Outcome) → Report → Type 0
 HasHistory setting first report = LeadsTo setting first report.events.items (unclaimed report.table)
 
+-- So many workers did what comes first, and the calling thread all that follows.
+abbrev pub IsByWorkers : ℕ → Report → Type 0
+IsByWorkers workers report = AreByWorkers workers report.events.items
+
 -- a run that ends with a failed test: the count of faults rose, and it is the latest one that failed
 abbrev pub HasFault : ℕ → ℕ → Option ℕ → Report → Type 0
 HasFault before now failed report = (p : ℕ) → report.ending ≡ TestFault p → Rose before now × (failed ≡ Some p)
 
--- where the events of a board were tests, those of the report are so, and at last the test that failed
+-- the events beyond the old ones are the tests of the answers that were gained, and at last the test that failed
 abbrev pub ReportsTests : List Event → List Answer → List Answer → Report → Type 0
 ReportsTests old answers more report = TestsOn old answers report.events.items more (awaited (end_of report.ending))
 

@@ -80,26 +80,21 @@ failed_in GoesOn = None
 failed_in Ended = None
 failed_in (Failed p) = Some p
 
--- The events are the tests of the answers that were gained, in order, and at last that of the test that failed.
-pub record AreTests (before after : List Answer) (events : List Event) (failed : Option ℕ) : Type 0 where
-  pub gained : List Answer
-  pub added : after ≡ before ++ gained
-  pub tested : events ≡ flat_map test_of gained ++ failed_test failed
-
 -- the events gained the claim of a place, or nothing
 abbrev pub GainsClaim : List Event → List Event → Option ℕ → Type 0
 GainsClaim old new None = new ≡ old
 GainsClaim old new (Some p) = new ≡ old ++ events.Claim 0 p ∷ []
 
--- where the events were tests, they are so with those that were added
-abbrev pub TestsOn : List Event → List Answer → List Event → List Answer → Option ℕ → Type 0
-TestsOn old answers new more failed = (before : List Answer) → AreTests before answers old None → AreTests before more new failed
+-- Events and answers were added: the tests of the answers that were gained, in order, and at last that of the test that failed.
+pub record TestsOn (old : List Event) (answers : List Answer) (new : List Event) (more : List Answer) (failed : Option ℕ) : Type 0 where
+  pub gained : List Answer
+  pub added : more ≡ answers ++ gained
+  pub tested : new ≡ old ++ (flat_map test_of gained ++ failed_test failed)
 
 -- so after a turn, at whose end a test may have failed
 abbrev pub TurnTests : List Event → List Answer → List Event → List Answer → Turn → Type 0
 TurnTests old answers new more turn = TestsOn old answers new more (failed_in turn)
 
--- so with those that end the test of a place that was claimed
+-- so since the claim of a place, which was the latest event
 abbrev pub TestsClaimed : ℕ → List Event → List Answer → List Event → List Answer → Turn → Type 0
-TestsClaimed p old answers new more turn = (before : List Answer) (earlier : List Event) → AreTests before answers earlier None
-    → GainsClaim earlier old (Some p) → AreTests before more new (failed_in turn)
+TestsClaimed p old answers new more turn = (earlier : List Event) → GainsClaim earlier old (Some p) → TestsOn earlier answers new more (failed_in turn)

@@ -2,6 +2,7 @@ pub mod Answering
 pub mod Boards
 pub mod Cases
 pub mod Cores
+pub mod Doers
 pub mod Ends
 pub mod Gains
 pub mod Reports

@@ -9,6 +9,7 @@ use Rattle.bf_tester.specs.declared.answer.Answer.{Answer}
 use Rattle.bf_tester.specs.Replies.{FollowsPlan}
 use Rattle.bf_farm.specs.Boards.{BoardView}
 use Rattle.bf_farm.specs.Cores.{IsSameStart}
+use Rattle.bf_farm.specs.Doers.{AreDoneBy}
 use Rattle.bf_farm.specs.Reports.{IsAnswered, AnswersFollow, AreAmong}
 
 -- the outcome of a place is among the answers and, where a plan is told, is the plan's
@@ -36,10 +37,11 @@ pub record ArePartOf (told : Option (List Outcome)) (answers part : List Answer)
   pub planned : AnswersFollow told part
   pub among : AreAmong answers part
 
--- Claims were given back, and nothing else has changed: the events still tell of answers alone.
+-- Claims were given back, and nothing else has changed: the events still tell of answers alone, and of the same workers.
 pub record GivesBack (old new : BoardView) : Type 0 where
   pub start : IsSameStart old.core new.core
   pub first : new.first ≡ old.first
   pub table : new.core.farm.table ≡ old.core.farm.table
   pub posts : (told : Option (List Outcome)) (names : List Oid) (answers : List Answer)
       → All (λ e. IsSoundEvent told names answers e) old.events → All (λ e. IsSoundEvent told names answers e) new.events
+  pub workers : (workers : ℕ) → AreDoneBy workers old.events → AreDoneBy workers new.events

@@ -48,7 +48,7 @@ module _ {T : Type 0} (by : Ghosts T) (old new : T) where
   abbrev pub TurnEndsBy : BoardView → Turn → Type 0
   TurnEndsBy board turn = TurnEnds board.core (by.faults old) (by.faults new) (by.failed new) turn
 
-  -- where the events of a board were tests, they are so with those that were added
+  -- the events that a board gained are the tests of the answers that were gained
   abbrev pub TestsOnBy : BoardView → BoardView → Option ℕ → Type 0
   TestsOnBy before after failed = TestsOn before.events (by.answers old) after.events (by.answers new) failed
 
@@ -56,13 +56,13 @@ module _ {T : Type 0} (by : Ghosts T) (old new : T) where
   abbrev pub TurnTestsBy : BoardView → BoardView → Turn → Type 0
   TurnTestsBy before after turn = TurnTests before.events (by.answers old) after.events (by.answers new) turn
 
-  -- so with those that end the test of a place that was claimed
+  -- so since the claim of a place, which was the latest event
   abbrev pub TestsClaimedBy : ℕ → BoardView → BoardView → Turn → Type 0
   TestsClaimedBy p before after turn = TestsClaimed p before.events (by.answers old) after.events (by.answers new) turn
 
   -- ---- the report of a run
 
-  -- where the events of a board were tests, those of the report are so, and at last the test that failed
+  -- the events that a report has beyond those of a board are the tests of the answers that were gained, and at last the test that failed
   abbrev pub ReportsTestsBy : BoardView → Report → Type 0
   ReportsTestsBy board report = ReportsTests board.events (by.answers old) (by.answers new) report
 

@@ -8,6 +8,7 @@ use Rattle.bf_tester.specs.declared.answer.Answer.{Answer}
 use Rattle.bf_tester.specs.declared.tester.Tester.{Ghosts}
 use Rattle.bf_farm.specs.declared.worker.Worker.{Worker}
 use Rattle.bf_farm.specs.Boards.{BoardView}
+use Rattle.bf_farm.specs.Doers.{AreDoneBy}
 use Rattle.bf_farm.specs.Sound.{IsSound, IsSoundPost, IsSoundEvent, ArePartOf}
 use Rattle.bf_farm.specs.Testers.{KeepsManner, IsPart, HasAnswersOf}
 
@@ -31,6 +32,10 @@ HasAllAnswersOf by tester workers = All (λ w. HasAnswersOf by tester w.tester) 
 abbrev pub TestedMore : {T : Type 0} → Ghosts T → List (Worker T) → List (Worker T) → Type 0
 TestedMore by old new =
     (k : ℕ) (d : Worker _) → k < length old → IsPart by (slice_index_or old k d).tester (slice_index_or new k d).tester
+
+-- a board whose events they did alone still is one
+abbrev pub KeepsDoneBy : {T : Type 0} → List (Worker T) → BoardView → BoardView → Type 0
+KeepsDoneBy workers old new = AreDoneBy (length workers) old.events → AreDoneBy (length workers) new.events
 
 -- ---- whatever answers theirs are among
 

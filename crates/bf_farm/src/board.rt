@@ -142,6 +142,7 @@ impl<'r> Board<'r> {
         ensures within { IfSome result (λ claim. claim.place < length self.now.core.farm.table) }
         ensures some { IfSome result (IsStanding self.now) }
         ensures none { IfNone result (self.now.core.farm.claims ≡ []) }
+        ensures led { IsLed self.now }
     {
         self.core.claims().first().copied()
     }

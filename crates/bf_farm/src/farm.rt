@@ -1,6 +1,8 @@
 //! Testing several commits at once.
 ghost use Rattle.std.specs.Prelude.{◌≡◌, false, ◌≤◌, [], length, IfOk};
+ghost use Rattle.bf_farm.specs.Answering.{IsByWorkers};
 ghost use Rattle.bf_farm.specs.Cases.{setting_of, IsReportOn, HasHistoryOn, IsSoundAgain};
+ghost use Rattle.bf_farm.specs.Doers.{AreDoneBy};
 ghost use Rattle.bf_farm.specs.Reports.{TableIn, TableFollows};
 ghost use Rattle.bf_farm.specs.Testers.{KeepsManner, HasAnswersOf, IsSoundBy, HasFaultBy};
 ghost use Rattle.bf_farm.specs.Workers.{ArePartsOf};
@@ -50,7 +52,8 @@ fn work_apart<R: Host, T: Tester>(
     requires len { length case.now.reach.now ≡ case.now.state.len }
     requires table { length case.now.table ≡ case.now.state.len }
     requires ends { HasEnds case.now.state.search }
-    ensures { IfOk result (λ team. ArePartsOf T.Tester tester.now team.workers.items) }
+    ensures parts { IfOk result (λ team. ArePartsOf T.Tester tester.now team.workers.items) }
+    ensures count { IfOk result (λ team. length team.workers.items ≡ count) }
 {
     let board = board_of(alloc, case)?;
     let flags = lowered(alloc, count)?;
@@ -88,6 +91,8 @@ fn board_again<'r, T: Tester>(
     ensures claims { IfOk result (λ board. board.core.farm.claims ≡ []) }
     ensures len { IfOk result (λ board. length board.core.farm.table ≡ length case.entry.table) }
     ensures sound { IfOk result (IsSoundAgain T.Tester team.now.workers.items case.entry) }
+    ensures workers { IfOk result (λ board.
+        AreDoneBy (length team.now.workers.items) board.events) }
 {
     let Case {
         reach,
@@ -133,6 +138,7 @@ pub fn run_farm<R: Host, T: Tester>(
     ensures report { IfOk result (IsReportOn case.entry) }
     ensures history { IfOk result (HasHistoryOn case.entry) }
     ensures sound { IfOk result (IsSoundBy T.Tester tester.old tester.new case.entry.names.now) }
+    ensures workers { IfOk result (IsByWorkers workers) }
     ensures fault { IfOk result (HasFaultBy T.Tester tester.old tester.new) }
     ensures later { T.faults tester.old ≤ T.faults tester.new }
     ensures manner { KeepsManner T.Tester tester.old tester.new }

@@ -2,9 +2,10 @@
 ghost use Rattle.std.specs.Prelude.{◌≡◌, true, OnOk};
 ghost use Rattle.bf_farm.specs.Cores.{IsSameStart, IsSameLength};
 ghost use Rattle.bf_farm.specs.Reports.{IsAnswered};
-ghost use Rattle.bf_farm.specs.Workers.{IsPostBy, IsEventBy, KeepsSoundBy};
+ghost use Rattle.bf_farm.specs.Workers.{IsPostBy, IsEventBy, KeepsDoneBy, KeepsSoundBy};
 
 use crate::board::Board;
+use crate::doers::is_by_one_of;
 use crate::worker::Worker;
 use bf_oid::Oid;
 use bf_search::{Event, Outcome};
@@ -78,7 +79,7 @@ fn checked<T: Tester>(
 }
 
 /// Does the events of the workers again, each post only where the worker's tester has that answer. It
-/// stops at the first event that is not legal.
+/// stops at the first event that is not legal, or that names no worker.
 pub(crate) fn replay<T: Tester>(
     board: &mut Board<'_>,
     events: &[Event],
@@ -90,9 +91,13 @@ pub(crate) fn replay<T: Tester>(
     ensures first { OnOk result (board.new.first ≡ board.old.first) }
     ensures len { OnOk result (IsSameLength board.old.core board.new.core) }
     ensures sound { OnOk result (KeepsSoundBy T.Tester workers.now names.now board.old board.new) }
+    ensures workers { OnOk result (KeepsDoneBy workers.now board.old board.new) }
 {
     for event in events {
         let event = checked(workers, seen, names, *event);
+        if !is_by_one_of(workers.len(), event) {
+            return Ok(());
+        }
         if !board.redo(event)? {
             return Ok(());
         }

@@ -1,5 +1,5 @@
 //! The threads of a run.
-ghost use Rattle.std.specs.Prelude.{◌≡◌, [], All, IfOk};
+ghost use Rattle.std.specs.Prelude.{◌≡◌, [], length, All, IfOk};
 ghost use Rattle.bf_farm.specs.Reports.{AnswersFollow};
 ghost use Rattle.bf_farm.specs.Testers.{IsPart};
 ghost use Rattle.bf_farm.specs.Workers.{AreOfManner, TestedMore};
@@ -22,6 +22,7 @@ pub(crate) fn split_all<T: Tester>(
 ) -> Result<Vec<Worker<T>>, AllocError>
     ensures manner { IfOk result (λ workers. AreOfManner T.Tester tester.now workers.items) }
     ensures answers { IfOk result (λ workers. All (λ w. T.answers w.tester ≡ []) workers.items) }
+    ensures count { IfOk result (λ workers. length workers.items ≡ count) }
 {
     let mut workers = Vec::new(alloc);
     for index in 0..count {

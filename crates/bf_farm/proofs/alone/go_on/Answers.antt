@@ -3,6 +3,7 @@ use Rattle.bf_search.specs.declared.outcomes.Outcome.{Outcome}
 use Rattle.bf_farm.specs.Reports.{Manner}
 use Rattle.bf_farm.specs.Sound.{IsSound}
 use Rattle.bf_farm.proofs.Gaining.{gains_then}
+use Rattle.bf_farm.proofs.Noted.{tests_stay, tests_then}
 use Rattle.bf_farm.proofs.Soundness.{among_itself, among_then, start_then}
 use Rattle.bf_farm.proofs.alone.go_on.Goals as goal
 
@@ -18,7 +19,7 @@ loop-place-init g c = record {
   faults = omega arith;
   claims = c.requires.claims;
   len = refl;
-  alone = λ before are. are;
+  alone = tests_stay (g.T.Tester.answers c.args.tester.now) c.args.board.now.events c.args.board.now.events refl;
 }
 
 pub loop-place-preserved : goal.loop-place-preserved
@@ -41,8 +42,22 @@ loop-place-preserved g c = record {
   faults = (let before = c.loop-place.invariant.faults in let now = c.take_turn.ensures.faults in omega arith);
   claims = rw c.in-GoesOn.is at c.in_ok-take_turn.ensures.ends;
   len = c.in_ok-take_turn.ensures.len ∙ c.loop-place.invariant.len;
-  alone = λ before are. (rw c.in-GoesOn.is at c.in_ok-take_turn.ensures.alone) before (c.loop-place.invariant.alone before are);
+  alone = tests_then c.args.board.now.events c.loop-place.board.events c.take_turn.new.board.events (g.T.Tester.answers c.args.tester.now)
+      (g.T.Tester.answers c.loop-place.tester) (g.T.Tester.answers c.take_turn.new.tester) _ c.loop-place.invariant.alone
+      (rw c.in-GoesOn.is at c.in_ok-take_turn.ensures.alone);
 }
+
+pub returns-in-Ended-clause-alone : goal.returns-in-Ended-clause-alone
+returns-in-Ended-clause-alone g c =
+    tests_then c.args.board.now.events c.loop-place.board.events c.take_turn.new.board.events (g.T.Tester.answers c.args.tester.now)
+    (g.T.Tester.answers c.loop-place.tester) (g.T.Tester.answers c.take_turn.new.tester) _ c.loop-place.invariant.alone
+    (rw c.in-Ended.is at c.in_ok-take_turn.ensures.alone)
+
+pub returns-in-Failed-clause-alone : goal.returns-in-Failed-clause-alone
+returns-in-Failed-clause-alone g c =
+    tests_then c.args.board.now.events c.loop-place.board.events c.take_turn.new.board.events (g.T.Tester.answers c.args.tester.now)
+    (g.T.Tester.answers c.loop-place.tester) (g.T.Tester.answers c.take_turn.new.tester) _ c.loop-place.invariant.alone
+    (rw c.in-Failed.is at c.in_ok-take_turn.ensures.alone)
 
 pub returns-in-Ended-clause-own : goal.returns-in-Ended-clause-own
 returns-in-Ended-clause-own g c =

@@ -13,7 +13,7 @@ returns-in-Some-clause-sound g c =
 
 pub returns-in-Some-clause-alone : goal.returns-in-Some-clause-alone
 returns-in-Some-clause-alone g c =
-    if_ok_map c.test_claimed.result (λ turn tests before are. tests before c.args.board.now.events are (rw c.in-Some.is at c.in_ok-place.ensures.noted))
+    if_ok_map c.test_claimed.result (λ turn tests. tests c.args.board.now.events (rw c.in-Some.is at c.in_ok-place.ensures.noted))
     c.test_claimed.ensures.alone
 
 pub returns-in-None-clause-alone : goal.returns-in-None-clause-alone

@@ -37,17 +37,17 @@ returns-in-Failed-clause-gains g c =
     c.requires.asking c.give.ensures c.in-Failed.ensures.answers
 
 pub returns-in_ok-post-in-Done-clause-alone : goal.returns-in_ok-post-in-Done-clause-alone
-returns-in_ok-post-in-Done-clause-alone g c = λ before earlier.
+returns-in_ok-post-in-Done-clause-alone g c = λ earlier.
     let done = done_where _ c.args.board.now c.post.new.self (events.Post 0 c.args.place c.in-Done.outcome) c.in_ok-post-in-Done.ensures.done
     (one_stands c.args.board.now.core c.args.place c.requires.asking) in
-    tested_once before (g.T.Tester.answers c.args.tester.now) (g.T.Tester.answers c.test.new.self) earlier c.args.board.now.events
+    tested_once (g.T.Tester.answers c.args.tester.now) (g.T.Tester.answers c.test.new.self) earlier c.args.board.now.events
     c.post.new.self.events c.args.place _ c.in-Done.outcome c.in-Done.ensures.answers done.noted
 
 pub returns-in-Failed-clause-alone : goal.returns-in-Failed-clause-alone
-returns-in-Failed-clause-alone g c = λ before earlier.
+returns-in-Failed-clause-alone g c = λ earlier.
     let done = done_where _ c.args.board.now c.give.new.self (events.Give 0 c.args.place) c.give.ensures
     (one_stands c.args.board.now.core c.args.place c.requires.asking) in
-    failed_once before (g.T.Tester.answers c.args.tester.now) (g.T.Tester.answers c.test.new.self) earlier c.args.board.now.events
+    failed_once (g.T.Tester.answers c.args.tester.now) (g.T.Tester.answers c.test.new.self) earlier c.args.board.now.events
     c.give.new.self.events c.args.place c.in-Failed.ensures.answers done.noted
 
 pub returns-in_ok-post-in-Done-clause-own : goal.returns-in_ok-post-in-Done-clause-own

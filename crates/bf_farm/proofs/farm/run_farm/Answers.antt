@@ -1,22 +1,34 @@
 use Rattle.std.proofs.Common.{ℕ, List, Option, sym, ap, subst}
 use Rattle.bf_search.specs.declared.outcomes.Outcome.{Outcome}
 use Rattle.bf_farm.specs.Answering.{HasFault}
+use Rattle.bf_farm.specs.Doers.{AreDoneBy}
 use Rattle.bf_farm.specs.Reports.{Manner}
 use Rattle.bf_farm.specs.Sound.{IsSound}
+use Rattle.bf_farm.proofs.Noted.{tests_are_own}
 use Rattle.bf_farm.proofs.Soundness.{among_itself, among_then, table_wider}
 use Rattle.bf_farm.proofs.Teams.{parts_of_team}
 use Rattle.bf_farm.proofs.farm.run_farm.Goals as goal
+
+pub absorb_all-requires-after_bounds : goal.absorb_all-requires-after_bounds
+absorb_all-requires-after_bounds g c = λ κs lives k d l. (c.in_ok-team.ensures.parts k d l).0
 
 pub finish-requires-clause-sound : goal.finish-requires-clause-sound
 finish-requires-clause-sound g c = λ κs lives.
     subst (λ (t : Option (List Outcome)). IsSound t c.args.case.names.now (g.T.Tester.answers c.absorb_all.new.tester) c.in_ok-board.board)
     (sym (ap (λ (m : Manner). m.told) c.in_ok-absorb_all.ensures.manner))
     (c.in_ok-board.ensures.sound (g.T.Tester.told c.args.tester.now) (g.T.Tester.answers c.absorb_all.new.tester)
-    (parts_of_team g.T.Tester c.args.tester.now c.absorb_all.new.tester c.in_ok-team.team.workers.items c.in_ok-team.ensures
+    (parts_of_team g.T.Tester c.args.tester.now c.absorb_all.new.tester c.in_ok-team.team.workers.items c.in_ok-team.ensures.parts
     c.in_ok-absorb_all.ensures.absorbed)
     (table_wider c.args.case.names.now (g.T.Tester.answers c.absorb_all.new.tester) (g.T.Tester.answers c.args.tester.now) c.args.case.table
     c.in_ok-absorb_all.ensures.own c.requires.known)
     c.requires.plan)
+
+pub returns-clause-workers : goal.returns-clause-workers
+returns-clause-workers g c = record {
+  shared = c.in_ok-board.board.events;
+  by_workers = subst (λ (n : ℕ). AreDoneBy n c.in_ok-board.board.events) c.in_ok-team.ensures.count c.in_ok-board.ensures.workers;
+  then_own = tests_are_own c.in_ok-board.board.events c.in_ok-report.report.events.items _ _ _ c.in_ok-report.ensures.alone;
+}
 
 pub returns-clause-fault : goal.returns-clause-fault
 returns-clause-fault g c =

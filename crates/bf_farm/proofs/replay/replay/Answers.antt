@@ -1,4 +1,5 @@
-use Rattle.std.proofs.Common.{◌∙◌}
+use Rattle.std.proofs.Common.{◌∙◌, length}
+use Rattle.bf_farm.proofs.History.{done_if}
 use Rattle.bf_farm.proofs.Soundness.{sound_if, start_if, start_then, first_if, len_if}
 use Rattle.bf_farm.proofs.replay.replay.Goals as goal
 
@@ -11,6 +12,9 @@ loop-event-preserved g c = record {
   sound = λ told answers parts before.
       sound_if told c.args.names.now answers c.in_ok-redo.field-0 c.loop-event.board c.redo.new.self c.checked-event.result c.in_ok-redo.ensures.done
       (c.checked-event.ensures told answers parts) (c.loop-event.invariant.sound told answers parts before);
+  workers = λ before.
+      done_if (length c.args.workers.now) c.in_ok-redo.field-0 c.loop-event.board c.redo.new.self c.checked-event.result
+      (c.is_by_one_of.ensures c.if-not-is_by_one_of.false) c.in_ok-redo.ensures.done (c.loop-event.invariant.workers before);
 }
 
 pub returns-then-not-branch-clause-sound : goal.returns-then-not-branch-clause-sound

@@ -8,5 +8,6 @@ loop-claim-smaller c =
 
 pub loop-claim-preserved : goal.loop-claim-preserved
 loop-claim-preserved c =
-    gives_more _ c.loop-claim.self c.give.new.self c.in-Some.claim.worker c.in-Some.claim.place c.loop-claim.invariant
+    gives_more _ c.loop-claim.self c.give.new.self c.in-Some.claim.worker c.in-Some.claim.place c.first_claim.ensures.led c.in-Some.ensures.some
+    c.loop-claim.invariant
     (done_where _ c.loop-claim.self c.give.new.self _ c.give.ensures c.in-Some.ensures.some)
