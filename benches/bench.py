@@ -4,15 +4,16 @@
 Usage: benches/bench.py SUBJECT [SIZE ..] [--quick] [--program FILE]
 
   import    COMMITS FILES MEGABYTES     short commits, a folder, contents, beside git fast-import; one mark of nine digits
-  stream    MEGABYTES COMMANDS          MB/s of contents and of short commands by bench_stream, beside cat and git fast-import
-  forest    DIRECTORIES SUBDIRECTORIES FILES EDITS    single edits of a tree by bench_forest, beside git fast-import
+  stream    MEGABYTES COMMANDS          MB/s of contents and of short commands that are counted, beside cat and git fast-import
+  forest    DIRECTORIES SUBDIRECTORIES FILES EDITS    single edits of a tree, beside git fast-import
   entries   FILES ENTRIES ..            imports whose trees have so many entries together, of so many files each; one above
                                         40,000,000 is too many
-  weights   COMMITS ..                  all weights of three shapes of history by bench_weights, beside git rev-list
+  weights   COMMITS ..                  all weights of three shapes of history, beside git rev-list
                                         --bisect-all
   search    COMMITS ..                  the asks of whole searches, beside git rev-list --bisect; 1,000 skips in a row
   workers   COMMITS                     processor time of simulate --workers 1, 2, 8 and 64
-  farm      COMMITS ..                  picks, posts, runs and runs of skips by 1, 8 and 64 workers, by bench_farm, beside one
+  many      COMMITS                     64 searches in one call, by 64 workers beside one
+  farm      COMMITS ..                  picks, posts, runs and runs of skips by 1, 8 and 64 workers, beside one
                                         weighing of all candidates
   run       COMMITS MILLISECONDS TESTS  searches by tests of such a length, by 1 to 8 workers, beside git bisect run; tests of
                                         uneven length; the overhead of a test
@@ -25,12 +26,13 @@ Usage: benches/bench.py SUBJECT [SIZE ..] [--quick] [--program FILE]
   logs      MARKS                       whether git and farmdawn know the same behind each other's logs
   real      REPOSITORY [PAIRS]          whether they name the same commits in a repository
   gate      LOG .. TIMES.json           the page docs/GATE.md, of logs of the merge gate, and of what was watched beside it
+  gates     OLD NEW                     what two such pages say of the crates, beside each other
   watch     TIMES.json                  watches the merge gate until it is interrupted: the processor time of its checks
   all                                   each of these that needs no file
 
-Sizes stand in for the full ones, or with --quick for small ones. FILE is the program that is measured: bench_weights,
-bench_stream, bench_forest or bench_farm where these are named below, else farmdawn. Without it, it is the one that a
-proved build left, which is made where there is none; FARMDAWN may name another farmdawn.
+Sizes stand in for the full ones, or with --quick for small ones. FILE is the program that is measured: bench for stream,
+forest, weights and farm, else farmdawn. Without it, it is the one that a proved build left, which is made where there is
+none; FARMDAWN may name another farmdawn.
 
 Ratios say how many times as fast as git a program is; times are of processors, where nothing else is said, and memory is
 the greatest that the program alone had. Imports below five seconds are run fifteen times, in turns with git, and the least
@@ -181,12 +183,12 @@ def stream(bench, megabytes, count):
     for make, size in ((streams.contents, megabytes), (streams.commands, count)):
         label = f"{make.__name__} {size}"
         million = bench.write(make, size) / 1e6
-        cost = piped(bench.program, keep=bench.path("output"))
+        cost = piped(bench.program, "stream", keep=bench.path("output"))
         if not re.fullmatch(rb"\d+ commands\n", cost.output):  # a refusal ends with status 0, too
-            print(f"{label}: bench_stream says {cost.output.decode(errors='replace').strip()}")
+            print(f"{label}: bench says {cost.output.decode(errors='replace').strip()}")
             return False
         ours, plain = cost.seconds, piped("cat").seconds
-        print(f"{label}: {million:.0f} MB; bench_stream {million / ours:.0f} MB/s, cat {million / plain:.0f} MB/s, by the clock")
+        print(f"{label}: {million:.0f} MB; bench {million / ours:.0f} MB/s, cat {million / plain:.0f} MB/s, by the clock")
         if HAS_GIT:
             theirs = piped("git", "-C", repository.empty(bench.path(make.__name__)), "fast-import", "--quiet").seconds
             print(f"{label}: git fast-import {million / theirs:.0f} MB/s; {ratio(theirs, ours)}")
@@ -195,7 +197,7 @@ def stream(bench, megabytes, count):
 
 def shaped(bench, shape):
     """What the program takes for the numbers of its shape, and what it prints."""
-    ours = bench.ask(*map(str, shape))
+    ours = bench.ask("forest", *map(str, shape))
     print(f"{' '.join(map(str, shape))}: {bench.name} {ours}, {ours.output.decode().strip()}")
     return ours
 
@@ -206,7 +208,7 @@ def forest(bench, *shape):
         return True
     bench.write(streams.forest, *shape)
     words = [str(count) for count in shape]
-    folder = bench.beside_git(" ".join(words), lambda: bench.ask(*words))
+    folder = bench.beside_git(" ".join(words), lambda: bench.ask("forest", *words))
     return ours.output.decode() == f"{shape[3]} edits: {git(folder, 'rev-parse', 'main^{tree}')}\n"
 
 
@@ -231,10 +233,8 @@ def farm(bench, *sizes):
 def weights(bench, *sizes):
     for kind in ("line", "mixed", "merges"):
         for size in sizes:
-            with open(bench.stream, "w") as file:
-                file.write(f"{kind} {size}\n")
-            ours = bench.ask()
-            print(f"{kind} {size}: bench_weights {ours}")
+            ours = bench.ask("weights", kind, str(size))
+            print(f"{kind} {size}: bench {ours}")
             if HAS_GIT:
                 bench.write(streams.shape, kind, size)
                 _, folder = bench.git_import()
@@ -286,6 +286,23 @@ def workers(bench, size):
         of_one = ours.processor / max(one.processor, 0.001)
         print(f"{size} commits, {count} workers: farmdawn {ours}, {of_one:.2f} times one worker's, "
               f"{ours.seconds:.2f} s by the clock{'' if same else '; ANOTHER OUTPUT'}")
+    return same
+
+
+def many(bench, size):
+    """64 searches for first bad commits that are spread over a line. Nothing is to wait for, so one worker is the best there is."""
+    bench.write(streams.line, size)
+    with open(bench.path("searches"), "w") as file:
+        for number in range(64):
+            bad = (number * 2654435761 % 64 + 1) * size // 65
+            file.write(f"{MAIN} {OLD} {'g' * bad}{'b' * (size - bad)}\n")
+    one, same = None, True
+    for count in (1, 64):
+        ours = least(lambda count=count: bench.ask("many", str(count), "searches"))
+        one = one or ours
+        same &= (ours.status, ours.output) == (one.status, one.output)
+        print(f"64 searches over {size} commits, {count} workers: farmdawn {ours}, "
+              f"{ours.processor / max(one.processor, 0.001):.2f} times one worker's{'' if same else '; ANOTHER OUTPUT'}", flush=True)
     return same
 
 
@@ -540,13 +557,14 @@ class Subject:
 
 SUBJECTS = {
     "import": Subject(import_, (100000, 10000, 500), (5000, 500, 20)),
-    "stream": Subject(stream, (300, 1000000), (20, 50000), "bench_stream"),
-    "forest": Subject(forest, (40, 50, 25, 20000), (10, 10, 10, 1000), "bench_forest"),
+    "stream": Subject(stream, (300, 1000000), (20, 50000), "bench"),
+    "forest": Subject(forest, (40, 50, 25, 20000), (10, 10, 10, 1000), "bench"),
     "entries": Subject(entries, (550, 39000000, 40000000, 40000001), (550, 550000), is_list=True),
-    "weights": Subject(weights, (20000, 100000), (2000,), "bench_weights", is_list=True),
+    "weights": Subject(weights, (20000, 100000), (2000,), "bench", is_list=True),
     "search": Subject(search, (20000, 100000), (3000,), is_list=True),
     "workers": Subject(workers, (100000,), (5000,)),
-    "farm": Subject(farm, (50000, 100000), (1000, 2000), "bench_farm", is_list=True),
+    "many": Subject(many, (100000,), (5000,)),
+    "farm": Subject(farm, (50000, 100000), (1000, 2000), "bench", is_list=True),
     "run": Subject(run, (1000, 200, 300), (60, 100, 20)),
     "wall": Subject(wall, (300, 40, 3), (30, 8, 1)),
     "sample": Subject(sample, (20000, 100000), (3000,), is_list=True),
@@ -590,7 +608,7 @@ def real(words, is_quick, path):
 
 def read_arguments():
     parser = argparse.ArgumentParser(usage="benches/bench.py SUBJECT [SIZE ..] [--quick] [--program FILE]", add_help=False)
-    parser.add_argument("subject", choices=[*SUBJECTS, "real", "gate", "watch", "all"])
+    parser.add_argument("subject", choices=[*SUBJECTS, "real", "gate", "gates", "watch", "all"])
     parser.add_argument("words", nargs="*")
     parser.add_argument("--quick", action="store_true")
     parser.add_argument("--program")
@@ -607,6 +625,9 @@ def main():
         return True
     if given.subject == "gate":
         print(gate.page(TOP, given.words), end="")
+        return True
+    if given.subject == "gates":
+        print(gate.beside(*given.words), end="")
         return True
     if given.subject == "all":
         return all_measured(given.quick, given.program)

@@ -15,7 +15,7 @@ def told(label, seconds, weighing, peak):
 
 def history(program, shape, size, workers):
     def cost(task, number):
-        return least(lambda: measure([program, task, shape, str(size), str(number)]))
+        return least(lambda: measure([program, "farm", task, shape, str(size), str(number)]))
 
     built, waits = cost("builds", 1), cost("waits", 1)
     weighing = above(waits, built)
@@ -32,7 +32,7 @@ def history(program, shape, size, workers):
 
 
 def costs(bench, sizes, workers=(1, 8, 64)):
-    """Prints what each task of bench_farm costs; whether twice the commits to skip cost less than three times as much."""
+    """Prints what each task of a farm costs; whether twice the commits to skip cost less than three times as much."""
     right = True
     for shape in SHAPES:
         skips = [history(bench.program, shape, size, workers) for size in sizes]

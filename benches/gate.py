@@ -2,8 +2,11 @@
 import glob
 import json
 import os
+import platform
 import re
+import subprocess
 from dataclasses import dataclass, field
+from datetime import date
 
 import watch
 
@@ -18,7 +21,8 @@ crate. Numbers in brackets stand in the sources, and the logs do not tell of the
     rt ci >LOG
     benches/bench.py gate LOG.. TIMES.json >docs/GATE.md
 
-make this page up to the end of the table.
+make this page up to the end of the table, and `benches/bench.py gates OLD NEW` lays two such tables beside each other. This one
+is of {made}.
 
 | Crate | Functions proved | Tests passed | Edits refused | Proof | Tests | Edits |
 |---|---:|---:|---:|---:|---:|---:|
@@ -79,6 +83,48 @@ def minutes(seconds):
     return "-" if not seconds else f"{seconds / 60:.1f}"
 
 
+def made(top):
+    """When a page is made, of which commit, and on what."""
+    commit = subprocess.run(["git", "-C", top, "rev-parse", "--short=12", "HEAD"], capture_output=True, text=True).stdout.strip()
+    with open("/proc/cpuinfo") as file:
+        model = re.search(r"^model name\s*: (.*)$", file.read(), re.M)
+    machine = model[1] if model else platform.machine()
+    today = date.today()
+    return f"{today.day} {today:%B %Y}, of commit {commit or 'unknown'}, on {os.cpu_count()} processors ({machine})"
+
+
+def rows_of(path):
+    """The rows of a page: the cells of each crate, as numbers where they are."""
+    with open(path) as file:
+        return {told[1]: told[2].split("|") for told in re.finditer(r"^\| `?(\w[\w ]*?)`? \|(.*)\|$", file.read(), re.M)
+                if told[1] != "Crate"}
+
+
+def cell(row, at):
+    told = re.search(r"[\d.]+", row[at]) if row else None
+    return float(told[0]) if told else 0.0
+
+
+def beside(old_path, new_path):
+    """What two pages say: each crate whose functions, tests, edits or minutes are not the same, and the sum of all."""
+    old, new = rows_of(old_path), rows_of(new_path)
+    text = "crate: functions, tests, edits, minutes\n"
+    sums = [[0.0] * 4, [0.0] * 4]
+    for crate in [it for it in [*old, *(it for it in new if it not in old)] if not it[0].isdigit()]:
+        pair = []
+        for row, total in zip((old.get(crate), new.get(crate)), sums):
+            told = [cell(row, 0), cell(row, 1), cell(row, 2), sum(cell(row, at) for at in (3, 4, 5))]
+            pair.append(told)
+            total[:] = [a + b for a, b in zip(total, told)]
+        if pair[0] != pair[1]:
+            text += f"{crate}: {changes(*pair)}\n"
+    return text + f"all: {changes(*sums)}\n"
+
+
+def changes(before, after):
+    return ", ".join(f"{a:g}" if a == b else f"{a:g} -> {b:g}" for a, b in ((round(x, 1), round(y, 1)) for x, y in zip(before, after)))
+
+
 def page(top, paths):
     """The page, of the crates in the order of crates.txt; what several logs tell of a crate, the last of them tells."""
     rows = {}
@@ -86,7 +132,7 @@ def page(top, paths):
         (read_times if path.endswith(".json") else read)(path, rows)
     with open(os.path.join(top, "crates.txt")) as file:
         crates = re.findall(r"^(\w+)[^:\n]*:", file.read(), re.M)
-    text, total = PAGE, Row(0, 0, 0, dict.fromkeys(watch.PARTS, 0))
+    text, total = PAGE.format(made=made(top)), Row(0, 0, 0, dict.fromkeys(watch.PARTS, 0))
     for crate in crates:
         row = rows.get(crate, Row())
         tests, edits = standing(os.path.join(top, "crates", crate))

@@ -57,7 +57,7 @@ def line(out, count):
 
 
 def shape(out, kind, count):
-    """The histories of bench_weights: a line, with merges of earlier commits in one of eight, or in each."""
+    """The histories of the program bench: a line, with merges of earlier commits in one of eight, or in each."""
     sequence = numbers(1)
     next(sequence)
     for place, x in zip(range(count), sequence):
@@ -109,7 +109,7 @@ def mark_far(out, count):
 
 
 def forest(out, directories, subdirectories, files, edits):
-    """The files and the edits of bench_forest, a commit an edit."""
+    """The files and the edits of the program bench, a commit an edit."""
     count = directories * subdirectories * files
 
     def change(number, changes):

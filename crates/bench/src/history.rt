@@ -1,7 +1,4 @@
-//! Generated histories of many commits, which the other benchmarks search.
-#![tactic(auto)]
-
-ghost use Rattle.std.specs.Prelude.{◌<◌};
+//! Generated histories of many commits.
 
 use bf_graph::Graph;
 use std::alloc::{AllocError, Global};

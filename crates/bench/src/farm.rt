@@ -1,5 +1,5 @@
 //! What workers do in a search.
-use bench_history::{Shape, history};
+use crate::history::{Shape, history};
 use bf_core::{Core, Pick};
 use bf_reach::Reach;
 use bf_search::Outcome;

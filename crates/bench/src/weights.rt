@@ -1,24 +1,16 @@
-//! What is told of a history.
-use bench_history::{history, shape_named};
+//! All weights of a history.
+use crate::history::{Shape, history};
 use bf_cands::candidates;
 use bf_graph::Graph;
 use bf_reach::Reach;
 use bf_weights::weights;
 use std::alloc::{AllocError, Global};
 
-/// The answer to a line of the input.
-pub fn report(alloc: Global, line: &str) -> Result<String, AllocError> {
-    let Some((name, number)) = line.split_once(' ') else {
-        return format!(in alloc; "no number in {line:?}");
-    };
-    let Some(shape) = shape_named(name) else {
-        return format!(in alloc; "{name}: not a shape");
-    };
-    let Ok(count) = number.parse::<u32>() else {
-        return format!(in alloc; "{number}: not a number");
-    };
+/// How many candidates stand between the first commit and the last of a generated history, and the sum of
+/// their weights.
+pub fn weighed(alloc: Global, shape: Shape, count: u32) -> Result<String, AllocError> {
     let (found, sum) = weigh(alloc, &history(alloc, shape, count)?)?;
-    format!(in alloc; "{name} {count}: {found} candidates, {sum} in all")
+    format!(in alloc; "{found} candidates, {sum} in all")
 }
 
 /// The number of candidates between the first commit and the last, and the sum of their weights.
