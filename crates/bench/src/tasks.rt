@@ -1,11 +1,8 @@
 //! What a task does, and what is told of it.
 
-use crate::contents;
 use crate::farm::{self, Task};
-use crate::forest;
 use crate::history::{Shape, shape_named};
-use crate::stream;
-use crate::weights;
+use crate::{contents, forest, stream, weights};
 use anyhow::{Context, bail};
 use bf_io::Source;
 use std::alloc::Global;
@@ -18,11 +15,7 @@ pub struct Told {
 }
 
 /// Does the task that these words begin with.
-pub fn done<S: Source>(
-    alloc: Global,
-    source: &mut S,
-    words: &[String],
-) -> anyhow::Result<Told> {
+pub fn done<S: Source>(alloc: Global, source: &mut S, words: &[String]) -> anyhow::Result<Told> {
     let (text, count) = match word(words, 0)? {
         "weights" => (weigh(alloc, words)?, 3),
         "farm" => (search(alloc, words)?, 5),
@@ -36,16 +29,17 @@ pub fn done<S: Source>(
 }
 
 fn weigh(alloc: Global, words: &[String]) -> anyhow::Result<String> {
-    let text = weights::weighed(alloc, shape(words, 1)?, number(words, 2)?)?;
-    Ok(format!(in alloc; "{} {}: {text}", words[1], words[2])?)
+    let (name, count) = (word(words, 1)?, number(words, 2)?);
+    let text = weights::weighed(alloc, shape(words, 1)?, count)?;
+    Ok(format!(in alloc; "{name} {count}: {text}")?)
 }
 
 fn search(alloc: Global, words: &[String]) -> anyhow::Result<String> {
-    let task = Task::named(word(words, 1)?).context("no such task of a farm")?;
-    let shape = shape(words, 2)?;
-    let places = farm::done(alloc, task, shape, number(words, 3)?, number(words, 4)?)?;
-    let text = format!(in alloc; "{} {} {} {}: {places} places", words[1], words[2], words[3], words[4])?;
-    Ok(text)
+    let (name, kind) = (word(words, 1)?, word(words, 2)?);
+    let (count, workers) = (number(words, 3)?, number(words, 4)?);
+    let task = Task::named(name).context("no such task of a farm")?;
+    let places = farm::done(alloc, task, shape(words, 2)?, count, workers)?;
+    Ok(format!(in alloc; "{name} {kind} {count} {workers}: {places} places")?)
 }
 
 fn edit(alloc: Global, words: &[String]) -> anyhow::Result<String> {
