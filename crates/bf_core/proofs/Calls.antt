@@ -1,5 +1,6 @@
 -- What the calls of a core leave.
-use Rattle.std.proofs.Common.{◌≡◌, ◌≢◌, ℕ, ◌<◌, ◌↔◌, true, false, List, [], ◌∷◌, ◌++◌, length, set, Option, Some, None, refl, sym, ap, ◌∙◌, subst, arith}
+use Rattle.std.proofs.Common.{◌≡◌, ◌≢◌, ℕ, ◌<◌, ◌↔◌, true, false, not, ◌&&◌, eqb-true, List, [], ◌∷◌, ◌++◌, length, set, Option, Some, None, refl, sym, ap, ◌∙◌, subst, arith}
+use Rattle.std.proofs.lemmas.Bool.{and_parts, cond-false, false_from_ne_true, not-true}
 use Rattle.std.proofs.lemmas.List.{length-set}
 use Rattle.bf_graph.specs.Graph.{IsGraph}
 use Rattle.bf_search.specs.declared.entries.Entry.{Entry}
@@ -12,17 +13,17 @@ use Rattle.bf_search.specs.Outcomes.{outcomes_of_table}
 use Rattle.bf_search.specs.State.{Search, IsSearchOver, ask}
 use Rattle.bf_search.specs.Run.{End, Answered, Leg, Open, Aborted, Run}
 use Rattle.bf_search.specs.OpenPaths.{best_open, place_of}
-use Rattle.bf_search.specs.Farm.{Setting, Farm, consumed, place_at, best_place, has_claim, stands, without}
+use Rattle.bf_search.specs.Farm.{Setting, Farm, consumed, place_at, best_place, is_best, has_claim, stands, without, step}
 use Rattle.bf_state.specs.Runs.{is_open}
 use Rattle.bf_state.specs.Session.{Session, with_search}
 use Rattle.bf_spec.specs.Walks.{Tells}
 use Rattle.bf_spec.specs.Tree.{Guesses}
 use Rattle.bf_guesses.specs.Ends.{marks_of}
 use Rattle.bf_core.specs.declared.consuming.Consumed.{Consumed}
-use Rattle.bf_core.specs.Claims.{AreClaims}
+use Rattle.bf_core.specs.Claims.{AreClaims, IsFree}
 use Rattle.bf_core.specs.Consuming.{IsRunOn, IsSameRun, Begins, Consumes, best_at, IsUnwanted, IsCore}
-use Rattle.bf_core.specs.Machine.{Machine, seen, setting_of, farm_of, run_of, IsConsumed, IsStep, IsAllTaken, IsWithdrawn, IsUnmoved, IsLegOver}
-use Rattle.bf_core.proofs.Opened.{IsFree, best_is_free}
+use Rattle.bf_core.specs.Machine.{Machine, seen, setting_of, farm_of, run_of, IsConsumed, IsSameButNodes, IsStep, IsAllTaken, LeavesClaim, MayClaim, IsWithdrawn, IsUnmoved, IsLegOver}
+use Rattle.bf_core.proofs.Opened.{best_is_free}
 use Rattle.bf_core.proofs.Joining.{told_open, same_is_run}
 use Rattle.bf_core.proofs.Beside.{seq_stays, told_alike, none_is_open, leg_told}
 use Rattle.bf_guesses.proofs.Causes.{leg_ends, leg_made}
@@ -121,7 +122,7 @@ best_is (Some ending) first leg table claims run e h =
 -- the place of a pick is free
 pub best_free : (first : Session) (leg : ℕ) (table : List (Option Outcome)) (claims : List Claim) (run : Consumed) (o : Option Ending) (p : ℕ)
     → IsCore first leg table claims run → best_at o run.tree table claims ≡ Some p
-    → IsFree run.tree.graph (outcomes_of_table table) claims p
+    → IsFree (length run.tree.graph) (outcomes_of_table table) claims p
 best_free first leg table claims run None p h e = best_is_free run.tree.graph (outcomes_of_table table) claims h.parents run.tree.root.search p e
 best_free first leg table claims run (Some ending) p h e = cc
 
@@ -183,6 +184,50 @@ pub all_taken : (first : Session) (leg : ℕ) (table : List (Option Outcome)) (c
     → run.ending ≡ None → best_at run.ending run.tree table claims ≡ None
     → IsAllTaken (seen first leg table claims run)
 all_taken first leg table claims run h e none = record { goes_on = e; none_open = sym (best_is run.ending first leg table claims run refl h) ∙ none }
+
+-- ---- a claim that is refused
+
+told_best : (o : Option ℕ) (p : ℕ) → is_best o p ≡ true → o ≡ Some p
+told_best None p h = cc
+told_best (Some q) p h = ap (λ (x : ℕ). Some x) (eqb-true q p h)
+
+step_refused : (setting : Setting) (farm : Farm) (worker p : ℕ) → (not (has_claim farm.claims worker) && is_best (best_place setting farm) p) ≡ false
+    → step setting farm (Claimed worker p) ≡ None
+step_refused setting farm worker p fails =
+    cond-false (not (has_claim farm.claims worker) && is_best (best_place setting farm) p)
+    (Some (record farm { claims = farm.claims ++ record { worker = worker; place = p } ∷ [] })) None fails
+
+-- a legal claim is of a free place, while the run goes on
+legal_may : (first : Session) (leg : ℕ) (table : List (Option Outcome)) (claims : List Claim) (run : Consumed) (worker p : ℕ) (o : Option Ending)
+    → run.ending ≡ o → IsCore first leg table claims run → has_claim claims worker ≡ false → best_at o run.tree table claims ≡ Some p
+    → MayClaim (seen first leg table claims run) worker p
+legal_may first leg table claims run worker p None e h idle best = record {
+  goes_on = e;
+  idle = idle;
+  free = subst (λ (n : ℕ). IsFree n (outcomes_of_table table) claims p) (sym h.len) (best_free first leg table claims run None p h best);
+}
+legal_may first leg table claims run worker p (Some ending) e h idle best = cc
+
+-- a claim that may not be legal is not
+pub hindered : (first : Session) (leg : ℕ) (table : List (Option Outcome)) (claims : List Claim) (run : Consumed) (worker p : ℕ)
+    → IsCore first leg table claims run → ¬ MayClaim (seen first leg table claims run) worker p
+    → step (setting_of (seen first leg table claims run)) (farm_of (seen first leg table claims run)) (Claimed worker p) ≡ None
+hindered first leg table claims run worker p h may_not =
+    let setting : Setting = setting_of (seen first leg table claims run) in
+    let farm : Farm = farm_of (seen first leg table claims run) in
+    step_refused setting farm worker p (false_from_ne_true (not (has_claim claims worker) && is_best (best_place setting farm) p)
+    (λ passes.
+    let both = and_parts (not (has_claim claims worker)) (is_best (best_place setting farm) p) passes in
+    may_not (legal_may first leg table claims run worker p run.ending refl h (not-true (has_claim claims worker) both.0)
+    (best_is run.ending first leg table claims run refl h ∙ told_best (best_place setting farm) p both.1))))
+
+-- a claim that was refused at once has changed nothing
+pub refused_at_once : (core : Machine) (worker p : ℕ) → LeavesClaim core worker p core
+refused_at_once core worker p = record { nodes = record { same = refl; kept = λ path h. h }; at_once = λ h. refl }
+
+-- one that was refused as the best open place is another
+pub refused_as_other : (old new : Machine) (worker p : ℕ) → MayClaim old worker p → IsSameButNodes old new → LeavesClaim old worker p new
+refused_as_other old new worker p may same = record { nodes = same; at_once = λ h. absurd (h may) }
 
 -- ---- a post
 

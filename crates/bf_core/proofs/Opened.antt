@@ -16,16 +16,11 @@ use Rattle.bf_search.proofs.Turns.{asking}
 use Rattle.bf_search.specs.declared.farm.Claim.{Claim}
 use Rattle.bf_search.specs.OpenPaths.{OpenPath, is_claimed, is_better, better, followed_by, after_verdict, after_claim, after_look, after_step, best_within}
 use Rattle.bf_search.specs.OpenPaths.{best_open, place_of}
-
--- nobody tests this place of the graph, and its outcome is not known
-pub record IsFree (graph : List (List ℕ)) (known : Outcomes) (claims : List Claim) (p : ℕ) : Type 0 where
-  pub within : p < length graph
-  pub unknown : known p ≡ None
-  pub unclaimed : is_claimed claims p ≡ false
+use Rattle.bf_core.specs.Claims.{IsFree}
 
 module _ (graph : List (List ℕ)) (known : Outcomes) (claims : List Claim) (g : IsGraph graph) where
   abbrev AsksFree : Option OpenPath → Type 0
-  AsksFree o = IfSome o (λ path. IsFree graph known claims path.place)
+  AsksFree o = IfSome o (λ path. IsFree (length graph) known claims path.place)
 
   free_followed : (m : Mark) (o : Option OpenPath) → AsksFree o → AsksFree (followed_by m o)
   free_followed m None h = tt
@@ -79,10 +74,10 @@ module _ (graph : List (List ℕ)) (known : Outcomes) (claims : List Claim) (g :
   unfolding best_open
   free_open s = free_within (suc (length graph)) s
 
-  free_place : (o : Option OpenPath) (p : ℕ) → AsksFree o → place_of o ≡ Some p → IsFree graph known claims p
+  free_place : (o : Option OpenPath) (p : ℕ) → AsksFree o → place_of o ≡ Some p → IsFree (length graph) known claims p
   free_place None p h e = cc
-  free_place (Some path) p h e = let same : path.place ≡ p = cc in subst (λ (q : ℕ). IsFree graph known claims q) same h
+  free_place (Some path) p h e = let same : path.place ≡ p = cc in subst (λ (q : ℕ). IsFree (length graph) known claims q) same h
 
   -- The place of the best open path is free.
-  pub best_is_free : (s : Search) (p : ℕ) → place_of (best_open graph known claims s) ≡ Some p → IsFree graph known claims p
+  pub best_is_free : (s : Search) (p : ℕ) → place_of (best_open graph known claims s) ≡ Some p → IsFree (length graph) known claims p
   best_is_free s p e = free_place (best_open graph known claims s) p (free_open s) e

@@ -4,7 +4,8 @@ use Rattle.std.specs.List.{AllPairs}
 use Rattle.bf_search.specs.declared.farm.Claim.{Claim}
 use Rattle.bf_search.specs.declared.outcomes.Mark.{Mark}
 use Rattle.bf_search.specs.declared.outcomes.Outcome.{Outcome}
-use Rattle.bf_search.specs.Outcomes.{outcomes_of_table}
+use Rattle.bf_search.specs.OpenPaths.{is_claimed}
+use Rattle.bf_search.specs.Outcomes.{Outcomes, outcomes_of_table}
 use Rattle.bf_spec.specs.Tree.{Guesses}
 use Rattle.bf_spec.specs.Ways.{IsAsked}
 
@@ -17,6 +18,12 @@ pub record AreClaims (table : List (Option Outcome)) (claims : List Claim) : Typ
   pub within : All (λ c. c.place < length table) claims
   pub unknown : All (λ c. outcomes_of_table table c.place ≡ None) claims
   pub apart : IsApart claims
+
+-- nobody tests this one of so many places, and its outcome is not known
+pub record IsFree (places : ℕ) (known : Outcomes) (claims : List Claim) (p : ℕ) : Type 0 where
+  pub within : p < places
+  pub unknown : known p ≡ None
+  pub unclaimed : is_claimed claims p ≡ false
 
 -- a node is kept, under a path without these marks
 abbrev pub KeepsNodes : List (List Mark) → List Mark → List (List Mark) → Type 0

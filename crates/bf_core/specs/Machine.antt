@@ -5,14 +5,14 @@ use Rattle.bf_search.specs.declared.entries.Entry.{Entry}
 use Rattle.bf_search.specs.declared.farm.Claim.{Claim}
 use Rattle.bf_search.specs.declared.farm.Ending.{Ending}
 use Rattle.bf_search.specs.declared.farm.Event.{Event}
-use Rattle.bf_search.specs.declared.farm.Event.TheVariants.{Claim as Claimed}
+use Rattle.bf_search.specs.declared.farm.Event.TheVariants.{Claim as Claimed, Post as Posted, Give as Given}
 use Rattle.bf_search.specs.declared.outcomes.Mark.{Mark}
 use Rattle.bf_search.specs.declared.outcomes.Outcome.{Outcome}
 use Rattle.bf_search.specs.Outcomes.{outcomes_of_table}
 use Rattle.bf_search.specs.State.{IsSearchOver}
 use Rattle.bf_search.specs.Run.{Open, Run}
 use Rattle.bf_search.specs.OpenPaths.{OpenPath, best_open}
-use Rattle.bf_search.specs.Farm.{Setting, Farm, consumed, best_place, step}
+use Rattle.bf_search.specs.Farm.{Setting, Farm, consumed, best_place, has_claim, step}
 use Rattle.bf_state.specs.Session.{Session, with_search}
 use Rattle.bf_spec.specs.Walks.{Tells}
 use Rattle.bf_guesses.specs.Ends.{marks_of}
@@ -22,7 +22,7 @@ use Rattle.bf_core.specs.declared.answers.ApplyFault.TheVariants.{Illegal}
 use Rattle.bf_core.specs.declared.answers.Pick.{Pick}
 use Rattle.bf_core.specs.declared.answers.Pick.TheVariants.{Work}
 use Rattle.bf_core.specs.declared.consuming.Consumed.{Consumed}
-use Rattle.bf_core.specs.Claims.{KeepsNodes}
+use Rattle.bf_core.specs.Claims.{IsFree, KeepsNodes}
 use Rattle.bf_core.specs.Consuming.{marks_since}
 
 -- The graph, the session and the length of the legs that it started with; its table and claims; the entries, the
@@ -132,6 +132,28 @@ pub record IsRefused (core : Machine) (event told : Event) : Type 0 where
 -- an event that is answered as illegal is the one that was asked for, and it is not legal
 abbrev pub RefusesIllegal : {T : Type 0} → Machine → Event → Result T ApplyFault → Type 0
 RefusesIllegal core event result = (told : Event) → result ≡ Err (Illegal told) → IsRefused core event told
+
+-- a claim may be legal: the run goes on, the worker has no claim, and the place is free
+pub record MayClaim (core : Machine) (worker p : ℕ) : Type 0 where
+  pub goes_on : core.ending ≡ None
+  pub idle : has_claim core.claims worker ≡ false
+  pub free : IsFree (length core.table) (outcomes_of_table core.table) core.claims p
+
+-- What a refused claim leaves: nothing but nodes has changed, and none is lost. One that could not be legal has changed
+-- nothing; any other is refused as the best open place is another, and looking for that one may make nodes.
+pub record LeavesClaim (old : Machine) (worker p : ℕ) (new : Machine) : Type 0 where
+  pub nodes : IsSameButNodes old new
+  pub at_once : ¬ MayClaim old worker p → new ≡ old
+
+-- what a refused event leaves: a post and a giving back change nothing
+abbrev pub LeavesRefused : Machine → Event → Machine → Type 0
+LeavesRefused old (Claimed worker p) new = LeavesClaim old worker p new
+LeavesRefused old (Posted worker p outcome) new = new ≡ old
+LeavesRefused old (Given worker p) new = new ≡ old
+
+-- an event that is answered as illegal leaves what a refused one does
+abbrev pub StaysIfIllegal : {T : Type 0} → Machine → Event → Machine → Result T ApplyFault → Type 0
+StaysIfIllegal old event new result = (told : Event) → result ≡ Err (Illegal told) → LeavesRefused old event new
 
 -- a leg has an end, and so many marks were made
 pub record IsLegOver (core : Machine) : Type 0 where

@@ -2,8 +2,9 @@
 ghost use Rattle.std.specs.Prelude.{◌≡◌, ◌↔◌, ◌<◌, ℕ, length, All, Contains, None, IfOk, OnOk, IsTrue};
 ghost use Rattle.std.specs.List.Sorted.{IsStrictlyIncreasing};
 ghost use Rattle.bf_search.specs.Farm.{has_claim, stands, without};
+ghost use Rattle.bf_search.specs.OpenPaths.{is_claimed};
 ghost use Rattle.bf_search.specs.Outcomes.{outcomes_of_table};
-ghost use Rattle.bf_core.specs.Claims.{IsApart, IsIdle, AreIdle, IsSameTree};
+ghost use Rattle.bf_core.specs.Claims.{IsApart, IsFree, IsIdle, AreIdle, IsSameTree};
 
 use bf_search::Claim;
 use bf_spec::{SpecTree, Table};
@@ -14,6 +15,21 @@ pub(crate) fn has_claim(claims: &[Claim], worker: u32) -> bool
     ensures { result ≡ has_claim claims.now worker }
 {
     claims.iter().any(|claim| claim.worker == worker)
+}
+
+/// Whether nobody tests a place, and its outcome is not known.
+pub(crate) fn is_free(table: &Table, claims: &[Claim], place: u32) -> bool
+    ensures { IsTrue result ↔
+        IsFree (length table.now) (outcomes_of_table table.now) claims.now place }
+{
+    place < table.len() && table.get(place).is_none() && !is_claimed(claims, place)
+}
+
+/// Whether a place is claimed.
+fn is_claimed(claims: &[Claim], place: u32) -> bool
+    ensures { result ≡ is_claimed claims.now place }
+{
+    claims.iter().any(|claim| claim.place == place)
 }
 
 /// Whether this claim stands.

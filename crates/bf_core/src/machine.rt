@@ -10,10 +10,10 @@ ghost use Rattle.bf_core.specs.Claims.{AreClaims, KeepsNodes};
 ghost use Rattle.bf_core.specs.Machine.{setting_of, farm_of, run_of, IsConsumed, IsStarted, IsStep, IsSameButNodes};
 ghost use Rattle.bf_core.specs.Machine.{IsAllTaken, ClaimsWork, LeavesPick, HasBestNode, KeepsGuesses};
 ghost use Rattle.bf_core.specs.Machine.{StaysBeside, AreWithdrawn, RefusesIllegal, IsLegOver, IsOverGraph};
-ghost use Rattle.bf_core.specs.Machine.{ClaimsIf, LeavesRestIf, IsIllegalUnless};
+ghost use Rattle.bf_core.specs.Machine.{ClaimsIf, LeavesRestIf, IsIllegalUnless, LeavesClaim, MayClaim, StaysIfIllegal};
 
 use crate::answers::{ApplyFault, CoreParts, Pick, Withdrawn};
-use crate::claims::{end_claim, has_claim, stands, without};
+use crate::claims::{end_claim, has_claim, is_free, stands, without};
 use crate::consuming::Consumed;
 use bf_reach::Reach;
 use bf_search::{Claim, Ending, Entry, Event, Mark, Outcome};
@@ -260,11 +260,13 @@ impl<'r> Core<'r> {
         stands(self.claims.as_slice(), worker, place)
     }
 
-    /// Does an event where it is legal. It is refused exactly where it is not, and then, as after want of
-    /// memory, all is as before and no node is lost.
+    /// Does an event where it is legal. It is refused exactly where it is not, and then all is as before;
+    /// a claim that was refused as another place is the best open one may have added nodes. After want of
+    /// memory all but nodes is as before, and none is lost.
     pub fn apply(&mut self, event: Event) -> Result<(), ApplyFault>
         ensures ok { OnOk result (IsStep self.old event self.new) }
         ensures illegal { RefusesIllegal self.old event result }
+        ensures unchanged { StaysIfIllegal self.old event self.new result }
         ensures consumed { OnOk result (IsConsumed self.new) }
         ensures nodes { OnOk result (KeepsGuesses self.old self.new) }
         ensures err { OnErr result (IsSameButNodes self.old self.new) }
@@ -301,12 +303,13 @@ impl<'r> Core<'r> {
         ensures claimed { IfOk result (ClaimsIf self.old worker place self.new) }
         ensures rest { IfOk result (LeavesRestIf self.old self.new) }
         ensures illegal { IfOk result (IsIllegalUnless self.old worker place) }
-        ensures same { IfOk result (λ done. done ≡ false → IsSameButNodes self.old self.new) }
+        ensures refused { IfOk result (λ done. done ≡ false →
+            LeavesClaim self.old worker place self.new) }
         ensures consumed { IsConsumed self.new }
         ensures nodes { KeepsNodes self.old.paths [] self.new.paths }
         ensures err { OnErr result (IsSameButNodes self.old self.new) }
     {
-        if has_claim(self.claims.as_slice(), worker) {
+        if !self.may_claim(worker, place) {
             return Ok(false);
         }
         if self.run.best(&self.table, self.claims.as_slice())? != Some(place) {
@@ -314,5 +317,15 @@ impl<'r> Core<'r> {
         }
         self.claims.push(Claim { worker, place })?;
         Ok(true)
+    }
+
+    /// Whether a claim may be legal: the run goes on, the worker has no claim, and the place is free.
+    fn may_claim(&self, worker: u32, place: u32) -> bool
+        ensures { IsTrue result ↔ MayClaim self.now worker place }
+    {
+        let claims = self.claims.as_slice();
+        self.run.ending.is_none()
+            && !has_claim(claims, worker)
+            && is_free(&self.table, claims, place)
     }
 }
