@@ -4,7 +4,6 @@ use Rattle.bf_oid.specs.declared.object.Oid.{Oid}
 use Rattle.bf_texts.specs.Texts as texts
 use Rattle.bf_log.specs.declared.label.Commits.{Commits}
 use Rattle.bf_log.specs.declared.label.Sides.{Sides}
-use Rattle.bf_search.specs.declared.asks.Ask.TheVariants as ask
 
 abbrev pub commits_of : Commits → texts.Commits
 commits_of commits = record { names = map (λ (name : Oid). name.0) commits.names.now; subjects = commits.subjects.now }

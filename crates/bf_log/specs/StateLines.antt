@@ -10,10 +10,18 @@ use Rattle.bf_log.specs.declared.state.Standing.{Standing}
 abbrev pub name_line : Commits → List ℕ → ℕ → List ℕ
 name_line commits word p = (word ++ codes ": ") ++ text_line (hex_of commits p)
 
+-- a line of this word for each of these commits
+abbrev pub name_lines : Commits → List ℕ → List ℕ → List ℕ
+name_lines commits word ps = flat_map (name_line commits word) ps
+
 unfoldable pub state_lines : Commits → Sides → Option ℕ → List ℕ → List ℕ → List ℕ
 state_lines commits sides bad goods skipped =
-    given_bad (name_line commits sides.new) bad ++ flat_map (name_line commits sides.old) goods
-    ++ flat_map (name_line commits (codes "skip")) skipped
+    given_bad (name_line commits sides.new) bad ++ name_lines commits sides.old goods
+    ++ name_lines commits (codes "skip") skipped
+
+-- the lines of a state that the writer is given
+abbrev pub lines_of_state : Commits → Sides → Standing → List ℕ
+lines_of_state commits sides standing = state_lines commits sides standing.bad standing.goods.now standing.skipped.now
 
 -- all places are places of so many commits
 pub record AreStanding (len : ℕ) (standing : Standing) : Type 0 where

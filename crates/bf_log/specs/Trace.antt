@@ -4,16 +4,20 @@ use Rattle.std.specs.Fmt.{decimal}
 use Rattle.std.specs.List.{flat_map}
 use Rattle.bf_search.specs.declared.farm.Event.{Event}
 use Rattle.bf_search.specs.declared.farm.Event.TheVariants.{Claim, Post, Give}
+use Rattle.bf_search.specs.declared.outcomes.Outcome.{Outcome}
 use Rattle.bf_texts.specs.Texts.{Commits, text_line, hex_of, outcome_text}
 
 -- a word, the number of a worker, and the name of a commit
 unfoldable pub worker_text : Commits → List ℕ → ℕ → ℕ → List ℕ
 worker_text commits word worker p = word ++ codes " " ++ decimal worker ++ codes " " ++ hex_of commits p
 
+-- what a worker posted
+abbrev pub post_text : Commits → ℕ → ℕ → Outcome → List ℕ
+post_text commits worker p outcome = worker_text commits (codes "post") worker p ++ codes " " ++ outcome_text outcome
+
 abbrev pub event_text : Commits → Event → List ℕ
 event_text commits (Claim worker p) = worker_text commits (codes "claim") worker p
-event_text commits (Post worker p outcome) =
-    worker_text commits (codes "post") worker p ++ codes " " ++ outcome_text outcome
+event_text commits (Post worker p outcome) = post_text commits worker p outcome
 event_text commits (Give worker p) = worker_text commits (codes "give") worker p
 
 abbrev pub event_line : Commits → Event → List ℕ

@@ -2,9 +2,8 @@
 ghost use Rattle.std.specs.Prelude.{◌<◌, length, All};
 ghost use Rattle.bf_texts.specs.Texts as texts;
 ghost use Rattle.bf_search.specs.Within.{IsAskWithin};
-ghost use Rattle.bf_log.specs.Lines.{Adds, aborted_line, ask_lines, both_sides_line, first_bad_line, merge_base_bad_lines, name_lines, next_line};
-ghost use Rattle.bf_log.specs.Lines.{not_ancestor_line, only_skipped_lines, waiting_for_both, waiting_for_new, waiting_for_old, waiting_line};
-ghost use Rattle.bf_log.specs.Lines.{waiting_text};
+ghost use Rattle.bf_log.specs.Labels.{commits_of, sides_of};
+ghost use Rattle.bf_log.specs.Lines.{Adds, name_lines, next_line, waiting_line};
 
 use crate::label::{Commits, Sides, put_hex, put_name_line};
 use bf_io::{Bytes, put_decimal};
@@ -19,7 +18,8 @@ pub(crate) fn put_ask(
     out: &mut Bytes,
 ) -> Result<(), AllocError>
     requires { IsAskWithin (length commits.names.now) ask.now }
-    ensures { Adds out.old out.new result (ask_lines commits.entry sides.entry ask.now) }
+    ensures { Adds out.old out.new result
+        (texts.ask_lines (commits_of commits.entry) (sides_of sides.entry) ask.now) }
 {
     match ask {
         Ask::WaitBoth | Ask::WaitBad | Ask::WaitGood => Ok(()),
@@ -41,7 +41,8 @@ pub(crate) fn put_aborted(
     out: &mut Bytes,
 ) -> Result<(), AllocError>
     requires { place < length commits.names.now }
-    ensures { Adds out.old out.new result (aborted_line commits.entry place outcome) }
+    ensures { Adds out.old out.new result
+        (texts.aborted_line (commits_of commits.entry) place outcome) }
 {
     out.append(b"bisect aborted: ")?;
     put_outcome(out, outcome)?;
@@ -57,7 +58,7 @@ pub(crate) fn put_waiting_line(
     good_count: u64,
     out: &mut Bytes,
 ) -> Result<(), AllocError>
-    ensures { Adds out.old out.new result (waiting_line sides.entry bad good_count) }
+    ensures { Adds out.old out.new result (waiting_line (sides_of sides.entry) bad good_count) }
 {
     put_waiting(out, sides, bad, good_count)?;
     out.append(b"\n")
@@ -70,7 +71,8 @@ pub(crate) fn put_waiting(
     bad: bool,
     good_count: u64,
 ) -> Result<(), AllocError>
-    ensures { Adds out.old out.new result (waiting_text sides.entry bad good_count) }
+    ensures { Adds out.old out.new result
+        (texts.waiting_text (sides_of sides.entry) bad good_count) }
 {
     if bad {
         put_waiting_for_old(out, sides)
@@ -83,7 +85,7 @@ pub(crate) fn put_waiting(
 
 #[tactic(auto, unfolding(bf_texts::specs::Texts::waiting_for_old))]
 fn put_waiting_for_old(out: &mut Bytes, sides: Sides<'_>) -> Result<(), AllocError>
-    ensures { Adds out.old out.new result (waiting_for_old sides.entry) }
+    ensures { Adds out.old out.new result (texts.waiting_for_old (sides_of sides.entry)) }
 {
     out.append(b"waiting for ")?;
     out.append(sides.old)?;
@@ -94,7 +96,7 @@ fn put_waiting_for_old(out: &mut Bytes, sides: Sides<'_>) -> Result<(), AllocErr
 
 #[tactic(auto, unfolding(bf_texts::specs::Texts::waiting_for_both))]
 fn put_waiting_for_both(out: &mut Bytes, sides: Sides<'_>) -> Result<(), AllocError>
-    ensures { Adds out.old out.new result (waiting_for_both sides.entry) }
+    ensures { Adds out.old out.new result (texts.waiting_for_both (sides_of sides.entry)) }
 {
     out.append(b"waiting for both ")?;
     out.append(sides.old)?;
@@ -105,7 +107,8 @@ fn put_waiting_for_both(out: &mut Bytes, sides: Sides<'_>) -> Result<(), AllocEr
 
 #[tactic(auto, unfolding(bf_texts::specs::Texts::waiting_for_new))]
 fn put_waiting_for_new(out: &mut Bytes, sides: Sides<'_>, good_count: u64) -> Result<(), AllocError>
-    ensures { Adds out.old out.new result (waiting_for_new sides.entry good_count) }
+    ensures { Adds out.old out.new result
+        (texts.waiting_for_new (sides_of sides.entry) good_count) }
 {
     out.append(b"waiting for ")?;
     out.append(sides.new)?;
@@ -131,7 +134,7 @@ pub(crate) fn put_outcome(out: &mut Bytes, outcome: Outcome) -> Result<(), Alloc
 
 fn put_next(out: &mut Bytes, commits: Commits<'_>, place: u32) -> Result<(), AllocError>
     requires { place < length commits.names.now }
-    ensures { Adds out.old out.new result (next_line commits.entry place) }
+    ensures { Adds out.old out.new result (next_line (commits_of commits.entry) place) }
 {
     out.append(b"next: ")?;
     put_name_line(out, commits, place)
@@ -145,7 +148,8 @@ fn put_merge_base_bad(
     place: u32,
 ) -> Result<(), AllocError>
     requires { place < length commits.names.now }
-    ensures { Adds out.old out.new result (merge_base_bad_lines commits.entry sides.entry place) }
+    ensures { Adds out.old out.new result
+        (texts.merge_base_bad_lines (commits_of commits.entry) (sides_of sides.entry) place) }
 {
     out.append(b"The merge base ")?;
     put_hex(out, commits, place)?;
@@ -164,7 +168,8 @@ fn put_not_ancestor(
     place: u32,
 ) -> Result<(), AllocError>
     requires { place < length commits.names.now }
-    ensures { Adds out.old out.new result (not_ancestor_line commits.entry sides.entry place) }
+    ensures { Adds out.old out.new result
+        (texts.not_ancestor_line (commits_of commits.entry) (sides_of sides.entry) place) }
 {
     out.append(b"Some ")?;
     out.append(sides.old)?;
@@ -183,7 +188,8 @@ fn put_both_sides(
     place: u32,
 ) -> Result<(), AllocError>
     requires { place < length commits.names.now }
-    ensures { Adds out.old out.new result (both_sides_line commits.entry sides.entry place) }
+    ensures { Adds out.old out.new result
+        (texts.both_sides_line (commits_of commits.entry) (sides_of sides.entry) place) }
 {
     put_hex(out, commits, place)?;
     out.append(b" was both ")?;
@@ -201,7 +207,8 @@ fn put_first_bad(
     place: u32,
 ) -> Result<(), AllocError>
     requires { place < length commits.names.now }
-    ensures { Adds out.old out.new result (first_bad_line commits.entry sides.entry place) }
+    ensures { Adds out.old out.new result
+        (texts.first_bad_line (commits_of commits.entry) (sides_of sides.entry) place) }
 {
     put_hex(out, commits, place)?;
     out.append(b" is the first ")?;
@@ -218,7 +225,7 @@ fn put_only_skipped(
 ) -> Result<(), AllocError>
     requires { All (λ p. p < length commits.names.now) places.now }
     ensures { Adds out.old out.new result
-        (only_skipped_lines commits.entry sides.entry places.now) }
+        (texts.only_skipped_lines (commits_of commits.entry) (sides_of sides.entry) places.now) }
 {
     out.append(b"There are only 'skip'ped commits left to test.\nThe first ")?;
     out.append(sides.new)?;
@@ -230,7 +237,7 @@ fn put_only_skipped(
 /// Adds the names of these commits, a line each.
 fn put_names(out: &mut Bytes, commits: Commits<'_>, places: &[u32]) -> Result<(), AllocError>
     requires { All (λ p. p < length commits.names.now) places.now }
-    ensures { Adds out.old out.new result (name_lines commits.entry places.now) }
+    ensures { Adds out.old out.new result (name_lines (commits_of commits.entry) places.now) }
 {
     for place in places {
         put_name_line(out, commits, *place)?;

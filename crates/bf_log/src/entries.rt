@@ -3,11 +3,9 @@ ghost use Rattle.std.specs.Prelude.{◌≡◌, ◌<◌, length, All, OnOk};
 ghost use Rattle.std.specs.Option.{ForSome};
 ghost use Rattle.bf_texts.specs.Texts as texts;
 ghost use Rattle.bf_logs.specs.Written.{known_after_all};
-ghost use Rattle.bf_log.specs.Labels.{AreCommits};
+ghost use Rattle.bf_log.specs.Labels.{AreCommits, commits_of, sides_of};
 ghost use Rattle.bf_search.specs.Within.{IsEntryWithin};
-ghost use Rattle.bf_log.specs.Lines.{Adds, comments, end_lines, end_words, entry_lines, first_comment, given_terms, log_from, mark_lines, mark_word};
-ghost use Rattle.bf_log.specs.Lines.{option_words, possible_comment, possible_comments, quoted_names, skipped_left_lines, start_lines, term_words};
-ghost use Rattle.bf_log.specs.Lines.{worded_mark_lines};
+ghost use Rattle.bf_log.specs.Lines.{Adds, comments, quoted_names};
 
 use crate::known::Known;
 use crate::label::{
@@ -29,7 +27,7 @@ pub(crate) fn put_entries(
     requires commits { AreCommits commits }
     requires places { All (IsEntryWithin (length commits.names.now)) entries.now }
     ensures lines { Adds out.old out.new result
-        (log_from commits.entry sides.entry known.old entries.now) }
+        (texts.log_from (commits_of commits.entry) (sides_of sides.entry) known.old entries.now) }
     ensures known { OnOk result (known.new ≡ known_after_all known.old entries.now) }
 {
     for entry in entries {
@@ -50,7 +48,8 @@ fn put_entry(
 ) -> Result<(), AllocError>
     requires commits { AreCommits commits }
     requires places { IsEntryWithin (length commits.names.now) entry.now }
-    ensures { Adds out.old out.new result (entry_lines commits.entry sides.entry entry.now) }
+    ensures { Adds out.old out.new result
+        (texts.entry_lines (commits_of commits.entry) (sides_of sides.entry) entry.now) }
 {
     match entry {
         Entry::Start {
@@ -91,7 +90,8 @@ fn put_start(
     requires bad { ForSome bad (λ p. p < length commits.names.now) }
     requires goods { All (λ p. p < length commits.names.now) goods.now }
     ensures { Adds out.old out.new result
-        (start_lines commits.entry sides.entry first_parent terms_given bad goods.now) }
+        (texts.start_lines (commits_of commits.entry) (sides_of sides.entry)
+        first_parent terms_given bad goods.now) }
 {
     put_ends(out, commits, sides, bad, goods)?;
     out.append(b"git bisect start")?;
@@ -112,7 +112,8 @@ fn put_ends(
     requires commits { AreCommits commits }
     requires bad { ForSome bad (λ p. p < length commits.names.now) }
     requires goods { All (λ p. p < length commits.names.now) goods.now }
-    ensures { Adds out.old out.new result (end_lines commits.entry sides.entry bad goods.now) }
+    ensures { Adds out.old out.new result
+        (texts.end_lines (commits_of commits.entry) (sides_of sides.entry) bad goods.now) }
 {
     match bad {
         Some(place) => {
@@ -133,7 +134,8 @@ fn put_start_names(
 ) -> Result<(), AllocError>
     requires bad { ForSome bad (λ p. p < length commits.names.now) }
     requires goods { All (λ p. p < length commits.names.now) goods.now }
-    ensures { Adds out.old out.new result (end_words commits.entry bad goods.now) }
+    ensures { Adds out.old out.new result
+        (texts.end_words (commits_of commits.entry) bad goods.now) }
 {
     match bad {
         Some(place) => {
@@ -157,7 +159,7 @@ fn put_mode(out: &mut Bytes, first_parent: bool) -> Result<(), AllocError>
 
 /// Adds the terms, where they were given.
 fn put_terms(out: &mut Bytes, sides: Sides<'_>, terms_given: bool) -> Result<(), AllocError>
-    ensures { Adds out.old out.new result (term_words sides.entry terms_given) }
+    ensures { Adds out.old out.new result (texts.term_words (sides_of sides.entry) terms_given) }
 {
     if terms_given {
         put_given_terms(out, sides)
@@ -173,7 +175,8 @@ fn put_options(
     first_parent: bool,
     terms_given: bool,
 ) -> Result<(), AllocError>
-    ensures { Adds out.old out.new result (option_words sides.entry first_parent terms_given) }
+    ensures { Adds out.old out.new result
+        (texts.option_words (sides_of sides.entry) first_parent terms_given) }
 {
     put_mode(out, first_parent)?;
     put_terms(out, sides, terms_given)
@@ -188,7 +191,8 @@ fn put_comments(
 ) -> Result<(), AllocError>
     requires commits { AreCommits commits }
     requires places { All (λ p. p < length commits.names.now) places.now }
-    ensures { Adds out.old out.new result (comments commits.entry words.now places.now) }
+    ensures { Adds out.old out.new result
+        (comments (commits_of commits.entry) words.now places.now) }
 {
     for place in places {
         put_comment(out, commits, words, *place)?;
@@ -199,7 +203,7 @@ fn put_comments(
 /// Adds the names of these commits as words.
 fn put_quoted_names(out: &mut Bytes, commits: Commits<'_>, places: &[u32]) -> Result<(), AllocError>
     requires { All (λ p. p < length commits.names.now) places.now }
-    ensures { Adds out.old out.new result (quoted_names commits.entry places.now) }
+    ensures { Adds out.old out.new result (quoted_names (commits_of commits.entry) places.now) }
 {
     for place in places {
         put_quoted_name(out, commits, *place)?;
@@ -217,7 +221,9 @@ fn put_mark(
 ) -> Result<(), AllocError>
     requires commits { AreCommits commits }
     requires place { place < length commits.names.now }
-    ensures { Adds out.old out.new result (mark_lines commits.entry sides.entry mark place) }
+    ensures { Adds out.old out.new result
+        (texts.mark_lines (commits_of commits.entry)
+        (texts.word_of_mark (sides_of sides.entry) mark) place) }
 {
     put_marked(out, commits, word_of(sides, mark), place)
 }
@@ -231,7 +237,8 @@ fn put_marked(
 ) -> Result<(), AllocError>
     requires commits { AreCommits commits }
     requires place { place < length commits.names.now }
-    ensures { Adds out.old out.new result (worded_mark_lines commits.entry word.now place) }
+    ensures { Adds out.old out.new result
+        (texts.mark_lines (commits_of commits.entry) word.now place) }
 {
     put_comment(out, commits, word, place)?;
     put_between(out, b"git bisect ", word, b" ")?;
@@ -240,7 +247,7 @@ fn put_marked(
 
 /// Adds the two terms as options.
 fn put_given_terms(out: &mut Bytes, sides: Sides<'_>) -> Result<(), AllocError>
-    ensures { Adds out.old out.new result (given_terms sides.entry) }
+    ensures { Adds out.old out.new result (texts.given_terms (sides_of sides.entry)) }
 {
     put_quoted(out, b"--term-new")?;
     put_quoted(out, sides.new)?;
@@ -257,7 +264,9 @@ fn put_possibles(
 ) -> Result<(), AllocError>
     requires commits { AreCommits commits }
     requires places { All (λ p. p < length commits.names.now) places.now }
-    ensures { Adds out.old out.new result (possible_comments commits.entry sides.entry places.now) }
+    ensures { Adds out.old out.new result
+        (comments (commits_of commits.entry)
+        (texts.possible_words (sides_of sides.entry)) places.now) }
 {
     for place in places {
         put_possible(out, commits, sides, *place)?;
@@ -267,7 +276,7 @@ fn put_possibles(
 
 /// The word of a mark.
 fn word_of(sides: Sides<'_>, mark: Mark) -> &[u8]
-    ensures { result.now ≡ mark_word sides.entry mark }
+    ensures { result.now ≡ texts.word_of_mark (sides_of sides.entry) mark }
 {
     match mark {
         Mark::Good => sides.old,
@@ -285,7 +294,9 @@ fn put_first_bad(
 ) -> Result<(), AllocError>
     requires commits { AreCommits commits }
     requires place { place < length commits.names.now }
-    ensures { Adds out.old out.new result (first_comment commits.entry sides.entry place) }
+    ensures { Adds out.old out.new result
+        (texts.comment_of (commits_of commits.entry)
+        (texts.first_words (sides_of sides.entry)) place) }
 {
     put_between(out, b"# first ", sides.new, b" commit")?;
     out.append(b": ")?;
@@ -304,7 +315,7 @@ fn put_skipped_left(
     requires commits { AreCommits commits }
     requires places { All (λ p. p < length commits.names.now) places.now }
     ensures { Adds out.old out.new result
-        (skipped_left_lines commits.entry sides.entry places.now) }
+        (texts.skipped_left_lines (commits_of commits.entry) (sides_of sides.entry) places.now) }
 {
     out.append(b"# only skipped commits left to test\n")?;
     put_possibles(out, commits, sides, places)
@@ -319,7 +330,9 @@ fn put_possible(
 ) -> Result<(), AllocError>
     requires commits { AreCommits commits }
     requires place { place < length commits.names.now }
-    ensures { Adds out.old out.new result (possible_comment commits.entry sides.entry place) }
+    ensures { Adds out.old out.new result
+        (texts.comment_of (commits_of commits.entry)
+        (texts.possible_words (sides_of sides.entry)) place) }
 {
     put_between(out, b"# possible first ", sides.new, b" commit")?;
     out.append(b": ")?;

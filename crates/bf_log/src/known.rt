@@ -2,7 +2,8 @@
 ghost use Rattle.std.specs.Prelude.{◌≡◌, IfOk, OnOk, OnErr};
 ghost use Rattle.bf_logs.specs.Written.{known_after_all};
 ghost use Rattle.bf_texts.specs.Texts as texts;
-ghost use Rattle.bf_log.specs.Lines.{Adds, status_line};
+ghost use Rattle.bf_log.specs.Labels.{sides_of};
+ghost use Rattle.bf_log.specs.Lines.{Adds};
 
 use crate::answer::put_waiting;
 use crate::label::Sides;
@@ -90,7 +91,8 @@ impl Known {
         sides: Sides<'_>,
         entry: &Entry,
     ) -> Result<(), AllocError>
-        ensures { Adds out.old out.new result (status_line sides.entry self.now entry.now) }
+        ensures { Adds out.old out.new result
+            (texts.status_line (sides_of sides.entry) self.now entry.now) }
     {
         if !has_status(entry) || (self.bad && !self.goods.is_empty()) {
             return Ok(());

@@ -2,7 +2,8 @@
 ghost use Rattle.std.specs.Prelude.{◌<◌, ◌++◌, length};
 ghost use Rattle.hex.specs.Hex.{encode_lower};
 ghost use Rattle.bf_texts.specs.Texts as texts;
-ghost use Rattle.bf_log.specs.Lines.{Adds, comment_of, hex_of, label_of, name_line, quoted_name};
+ghost use Rattle.bf_log.specs.Labels.{commits_of};
+ghost use Rattle.bf_log.specs.Lines.{Adds, name_line, quoted_name};
 
 use bf_io::Bytes;
 use bf_oid::{Oid, oid_hex};
@@ -25,7 +26,7 @@ pub struct Sides<'a> {
 /// Adds the name of a commit in 40 hexadecimal digits.
 pub(crate) fn put_hex(out: &mut Bytes, commits: Commits<'_>, place: u32) -> Result<(), AllocError>
     requires { place < length commits.names.now }
-    ensures { Adds out.old out.new result (hex_of commits.entry place) }
+    ensures { Adds out.old out.new result (texts.hex_of (commits_of commits.entry) place) }
 {
     let mut digits = [0u8; 40];
     oid_hex(commits.names[place as usize], &mut digits);
@@ -36,7 +37,7 @@ pub(crate) fn put_hex(out: &mut Bytes, commits: Commits<'_>, place: u32) -> Resu
 pub(crate) fn put_label(out: &mut Bytes, commits: Commits<'_>, place: u32) -> Result<(), AllocError>
     requires names { place < length commits.names.now }
     requires subjects { place < length commits.subjects.now }
-    ensures { Adds out.old out.new result (label_of commits.entry place) }
+    ensures { Adds out.old out.new result (texts.label_of (commits_of commits.entry) place) }
 {
     out.append(b"[")?;
     put_hex(out, commits, place)?;
@@ -54,7 +55,8 @@ pub(crate) fn put_comment(
 ) -> Result<(), AllocError>
     requires names { place < length commits.names.now }
     requires subjects { place < length commits.subjects.now }
-    ensures { Adds out.old out.new result (comment_of commits.entry words.now place) }
+    ensures { Adds out.old out.new result
+        (texts.comment_of (commits_of commits.entry) words.now place) }
 {
     out.append(b"# ")?;
     out.append(words)?;
@@ -79,7 +81,7 @@ pub(crate) fn put_quoted_name(
     place: u32,
 ) -> Result<(), AllocError>
     requires { place < length commits.names.now }
-    ensures { Adds out.old out.new result (quoted_name commits.entry place) }
+    ensures { Adds out.old out.new result (quoted_name (commits_of commits.entry) place) }
 {
     out.append(b" '")?;
     put_hex(out, commits, place)?;
@@ -93,7 +95,7 @@ pub(crate) fn put_name_line(
     place: u32,
 ) -> Result<(), AllocError>
     requires { place < length commits.names.now }
-    ensures { Adds out.old out.new result (name_line commits.entry place) }
+    ensures { Adds out.old out.new result (name_line (commits_of commits.entry) place) }
 {
     put_hex(out, commits, place)?;
     out.append(b"\n")

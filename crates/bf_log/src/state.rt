@@ -1,7 +1,9 @@
 //! The lines of a state.
 ghost use Rattle.std.specs.Prelude.{◌≡◌, ◌<◌, length, All, OnErr};
 ghost use Rattle.std.specs.Option.{ForSome};
-ghost use Rattle.bf_log.specs.Lines.{Adds, bad_line, state_lines, worded_line, worded_lines};
+ghost use Rattle.bf_texts.specs.Texts as texts;
+ghost use Rattle.bf_log.specs.Labels.{commits_of, sides_of};
+ghost use Rattle.bf_log.specs.Lines.{Adds};
 ghost use Rattle.bf_log.specs.StateLines as state;
 
 use crate::label::{Commits, Sides, put_name_line};
@@ -26,7 +28,7 @@ pub fn write_state(
 ) -> Result<(), AllocError>
     requires { state.AreStanding (length commits.names.now) standing }
     ensures ok { Adds out.old out.new result
-        (state_lines commits.entry sides.entry standing.entry) }
+        (state.lines_of_state (commits_of commits.entry) (sides_of sides.entry) standing.entry) }
     ensures err { OnErr result (out.new ≡ out.old) }
 {
     let mut text = Bytes::new(out.allocator());
@@ -43,7 +45,8 @@ fn put_state(
     out: &mut Bytes,
 ) -> Result<(), AllocError>
     requires { state.AreStanding (length commits.names.now) standing }
-    ensures { Adds out.old out.new result (state_lines commits.entry sides.entry standing.entry) }
+    ensures { Adds out.old out.new result
+        (state.lines_of_state (commits_of commits.entry) (sides_of sides.entry) standing.entry) }
 {
     put_bad(commits, sides.new, standing.bad, out)?;
     put_named(commits, sides.old, standing.goods, out)?;
@@ -58,7 +61,8 @@ fn put_bad(
     out: &mut Bytes,
 ) -> Result<(), AllocError>
     requires { ForSome bad (λ p. p < length commits.names.now) }
-    ensures { Adds out.old out.new result (bad_line commits.entry word.now bad) }
+    ensures { Adds out.old out.new result
+        (texts.given_bad (state.name_line (commits_of commits.entry) word.now) bad) }
 {
     match bad {
         Some(place) => put_one(commits, word, place, out),
@@ -74,7 +78,8 @@ fn put_named(
     out: &mut Bytes,
 ) -> Result<(), AllocError>
     requires { All (λ p. p < length commits.names.now) places.now }
-    ensures { Adds out.old out.new result (worded_lines commits.entry word.now places.now) }
+    ensures { Adds out.old out.new result
+        (state.name_lines (commits_of commits.entry) word.now places.now) }
 {
     for place in places {
         put_one(commits, word, *place, out)?;
@@ -85,7 +90,8 @@ fn put_named(
 /// Adds the line of a word and a commit.
 fn put_one(commits: Commits<'_>, word: &[u8], place: u32, out: &mut Bytes) -> Result<(), AllocError>
     requires { place < length commits.names.now }
-    ensures { Adds out.old out.new result (worded_line commits.entry word.now place) }
+    ensures { Adds out.old out.new result
+        (state.name_line (commits_of commits.entry) word.now place) }
 {
     out.append(word)?;
     out.append(b": ")?;

@@ -1,7 +1,9 @@
 //! The lines of a trace, and of a test that failed.
 ghost use Rattle.std.specs.Prelude.{◌≡◌, OnErr};
-ghost use Rattle.bf_log.specs.Lines.{Adds, event_line, event_lines, failed_test_line, hex_of, post_text, worker_text};
-ghost use Rattle.bf_log.specs.Trace as trace;
+ghost use Rattle.bf_texts.specs.Texts.{hex_of};
+ghost use Rattle.bf_log.specs.Labels.{commits_of};
+ghost use Rattle.bf_log.specs.Lines.{Adds};
+ghost use Rattle.bf_log.specs.Trace.{event_line, event_lines, failed_test_line, leg_line, post_text, worker_text};
 
 use crate::answer::put_outcome;
 use crate::label::{Commits, put_hex};
@@ -16,7 +18,7 @@ pub fn write_events(
     events: &[Event],
     out: &mut Bytes,
 ) -> Result<(), AllocError>
-    ensures ok { Adds out.old out.new result (event_lines commits.entry events.now) }
+    ensures ok { Adds out.old out.new result (event_lines (commits_of commits.entry) events.now) }
     ensures err { OnErr result (out.new ≡ out.old) }
 {
     let mut text = Bytes::new(out.allocator());
@@ -26,7 +28,7 @@ pub fn write_events(
 
 /// Adds the line that stands between the events of two legs. After an error `out` is as before.
 pub fn write_leg(out: &mut Bytes) -> Result<(), AllocError>
-    ensures ok { Adds out.old out.new result trace.leg_line }
+    ensures ok { Adds out.old out.new result leg_line }
     ensures err { OnErr result (out.new ≡ out.old) }
 {
     out.append(b"leg\n")
@@ -38,7 +40,7 @@ pub fn write_failed_test(
     place: u32,
     out: &mut Bytes,
 ) -> Result<(), AllocError>
-    ensures ok { Adds out.old out.new result (failed_test_line commits.entry place) }
+    ensures ok { Adds out.old out.new result (failed_test_line (commits_of commits.entry) place) }
     ensures err { OnErr result (out.new ≡ out.old) }
 {
     let mut text = Bytes::new(out.allocator());
@@ -50,7 +52,7 @@ pub fn write_failed_test(
 
 /// Adds a line for each event.
 fn put_events(out: &mut Bytes, commits: Commits<'_>, events: &[Event]) -> Result<(), AllocError>
-    ensures { Adds out.old out.new result (event_lines commits.entry events.now) }
+    ensures { Adds out.old out.new result (event_lines (commits_of commits.entry) events.now) }
 {
     for event in events {
         put_event(out, commits, event)?;
@@ -60,7 +62,7 @@ fn put_events(out: &mut Bytes, commits: Commits<'_>, events: &[Event]) -> Result
 
 /// Adds the line of an event.
 fn put_event(out: &mut Bytes, commits: Commits<'_>, event: &Event) -> Result<(), AllocError>
-    ensures { Adds out.old out.new result (event_line commits.entry event.now) }
+    ensures { Adds out.old out.new result (event_line (commits_of commits.entry) event.now) }
 {
     match event {
         Event::Claim { worker, place } => put_worker(out, commits, b"claim", *worker, *place)?,
@@ -82,7 +84,8 @@ fn put_post(
     place: u32,
     outcome: Outcome,
 ) -> Result<(), AllocError>
-    ensures { Adds out.old out.new result (post_text commits.entry worker place outcome) }
+    ensures { Adds out.old out.new result
+        (post_text (commits_of commits.entry) worker place outcome) }
 {
     put_worker(out, commits, b"post", worker, place)?;
     out.append(b" ")?;
@@ -98,7 +101,8 @@ fn put_worker(
     worker: u32,
     place: u32,
 ) -> Result<(), AllocError>
-    ensures { Adds out.old out.new result (worker_text commits.entry word.now worker place) }
+    ensures { Adds out.old out.new result
+        (worker_text (commits_of commits.entry) word.now worker place) }
 {
     out.append(word)?;
     out.append(b" ")?;
@@ -109,7 +113,7 @@ fn put_worker(
 
 /// Adds the name of a commit in hexadecimal digits; nothing where the place has no commit.
 fn put_any_hex(out: &mut Bytes, commits: Commits<'_>, place: u32) -> Result<(), AllocError>
-    ensures { Adds out.old out.new result (hex_of commits.entry place) }
+    ensures { Adds out.old out.new result (hex_of (commits_of commits.entry) place) }
 {
     if (place as usize) < commits.names.len() {
         put_hex(out, commits, place)

@@ -2,9 +2,10 @@
 //! it behind.
 ghost use Rattle.std.specs.Prelude.{◌≡◌, ◌<◌, length, All, OnOk, OnErr};
 ghost use Rattle.bf_logs.specs.Written.{known_after_all};
-ghost use Rattle.bf_log.specs.Labels.{AreCommits};
+ghost use Rattle.bf_texts.specs.Texts as texts;
+ghost use Rattle.bf_log.specs.Labels.{AreCommits, commits_of, sides_of};
 ghost use Rattle.bf_search.specs.Within.{IsAskWithin, IsEntryWithin};
-ghost use Rattle.bf_log.specs.Lines.{Adds, aborted_line, ask_lines, log_from, log_lines, waiting_line};
+ghost use Rattle.bf_log.specs.Lines.{Adds, waiting_line};
 
 use crate::answer::{put_aborted, put_ask, put_waiting_line};
 use crate::entries::put_entries;
@@ -25,7 +26,8 @@ pub fn write_entries(
 ) -> Result<(), AllocError>
     requires commits { AreCommits commits }
     requires places { All (IsEntryWithin (length commits.names.now)) entries.now }
-    ensures ok { Adds out.old out.new result (log_lines commits.entry sides.entry entries.now) }
+    ensures ok { Adds out.old out.new result
+        (texts.log (commits_of commits.entry) (sides_of sides.entry) entries.now) }
     ensures err { OnErr result (out.new ≡ out.old) }
 {
     write_more(&mut Known::nothing(alloc), commits, sides, entries, out)
@@ -43,7 +45,7 @@ pub fn write_more(
     requires commits { AreCommits commits }
     requires places { All (IsEntryWithin (length commits.names.now)) entries.now }
     ensures ok { Adds out.old out.new result
-        (log_from commits.entry sides.entry known.old entries.now) }
+        (texts.log_from (commits_of commits.entry) (sides_of sides.entry) known.old entries.now) }
     ensures known { OnOk result (known.new ≡ known_after_all known.old entries.now) }
     ensures err { OnErr result ((out.new ≡ out.old) × (known.new ≡ known.old)) }
 {
@@ -64,7 +66,8 @@ pub fn write_ask(
     out: &mut Bytes,
 ) -> Result<(), AllocError>
     requires { IsAskWithin (length commits.names.now) ask.now }
-    ensures ok { Adds out.old out.new result (ask_lines commits.entry sides.entry ask.now) }
+    ensures ok { Adds out.old out.new result
+        (texts.ask_lines (commits_of commits.entry) (sides_of sides.entry) ask.now) }
     ensures err { OnErr result (out.new ≡ out.old) }
 {
     let mut text = Bytes::new(out.allocator());
@@ -80,7 +83,8 @@ pub fn write_aborted(
     out: &mut Bytes,
 ) -> Result<(), AllocError>
     requires { place < length commits.names.now }
-    ensures ok { Adds out.old out.new result (aborted_line commits.entry place outcome) }
+    ensures ok { Adds out.old out.new result
+        (texts.aborted_line (commits_of commits.entry) place outcome) }
     ensures err { OnErr result (out.new ≡ out.old) }
 {
     let mut text = Bytes::new(out.allocator());
@@ -96,7 +100,7 @@ pub fn write_waiting(
     good_count: u64,
     out: &mut Bytes,
 ) -> Result<(), AllocError>
-    ensures ok { Adds out.old out.new result (waiting_line sides.entry bad good_count) }
+    ensures ok { Adds out.old out.new result (waiting_line (sides_of sides.entry) bad good_count) }
     ensures err { OnErr result (out.new ≡ out.old) }
 {
     let mut text = Bytes::new(out.allocator());
