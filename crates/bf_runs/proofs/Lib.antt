@@ -1,3 +1,4 @@
+pub mod Doing
 pub mod Fewer
 pub mod Fresh
 pub mod Ran

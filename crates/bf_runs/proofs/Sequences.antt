@@ -1,11 +1,11 @@
 -- Runs in legs: each leg goes on from the one before, and the last one ends the run without legs.
 use Rattle.std.proofs.Common.{◌≡◌, ◌≢◌, ℕ, zero, suc, ◌<◌, ◌≤◌, ◌+◌, true, if◌then◌else◌, List, [], ◌∷◌, ◌++◌, length, get_or, map, Option, Some, None, refl}
-use Rattle.std.proofs.Common.{sym, ap, subst, ◌∙◌, ⊎_elim, arith}
+use Rattle.std.proofs.Common.{sym, ap, subst, ◌∙◌, arith}
 use Rattle.std.proofs.lemmas.Grind.{flat_map-append}
 use Rattle.std.proofs.lemmas.List.Folds.{flat_map-map}
 use Rattle.std.proofs.lemmas.List.{append_assoc, append-nil, flat_map_more, length-append, length-map, length-set, map-append, get_or_append_left}
 use Rattle.std.proofs.lemmas.List.{get_or-append-add, get_or_default, get_or-map}
-use Rattle.std.proofs.lemmas.List.Elements.{All-nil, All-push, All-head, All-tail, Contains-append_left, Contains-get_or}
+use Rattle.std.proofs.lemmas.List.Elements.{All-nil, All-head, All-tail, Contains-append_left, Contains-get_or}
 use Rattle.std.proofs.lemmas.Option.{cond_some}
 use Rattle.std.specs.List.{All, AllPairs, Contains, flat_map}
 use Rattle.std.specs.Option.{IfSome, is_none}
@@ -13,9 +13,10 @@ use Rattle.bf_core.proofs.Standing.{part_put}
 use Rattle.bf_farm.specs.Answering.{pair_of, lacking, IsAlone, IsReport, HasHistory, IsSoundReport}
 use Rattle.bf_farm.specs.Boards.{LeadsTo, unclaimed}
 use Rattle.bf_farm.specs.Cores.{setting_at}
+use Rattle.bf_farm.specs.Doers.{AreByWorkers}
 use Rattle.bf_farm.specs.Ends.{awaited, failed_test, test_at, test_of}
 use Rattle.bf_farm.specs.declared.report.Report.{Report}
-use Rattle.bf_farm.specs.Reports.{TableIn, IsAnswered}
+use Rattle.bf_farm.specs.Reports.{TableIn}
 use Rattle.bf_oid.specs.declared.object.Oid.{Oid}
 use Rattle.bf_graph.specs.Graph.{IsGraph}
 use Rattle.bf_guesses.specs.Ends.{HasEnds}
@@ -38,7 +39,7 @@ use Rattle.bf_search.specs.Within.{IsEntryWithin}
 use Rattle.bf_search.specs.Farm.{Setting, Farm, step, after_events, end_of}
 use Rattle.bf_search.specs.LeftToAsk.{left_to_ask}
 use Rattle.bf_search.specs.Outcomes.{Outcomes, outcomes_of_table, verdict_of}
-use Rattle.bf_search.specs.Run.{Run, End, Leg, with_entries, with_used, marked_one, leg_of, after_verdict, after_look, after_step, after_ask, turn, run_within}
+use Rattle.bf_search.specs.Run.{Run, End, Leg, with_entries, with_used, marked_one, leg_of, after_verdict, after_look, after_step, after_ask, run_within}
 use Rattle.bf_search.specs.Run.{run, one_at_a_time}
 use Rattle.bf_search.specs.State.{Search, Asked, IsSearchOver, ask, mark}
 use Rattle.bf_state.specs.Runs.{IsPartOf, is_unfinished, in_sequence}
@@ -47,8 +48,8 @@ use Rattle.bf_state.proofs.Tables.{run_follows}
 use Rattle.bf_tester.specs.declared.answer.Answer.{Answer}
 use Rattle.bf_runs.specs.declared.case.Search.{Search as Searched}
 use Rattle.bf_runs.specs.Courses.{course_from}
-use Rattle.bf_runs.specs.Legs.{Course, Stand, first_stand, setting_of, leg_run, IsLeg, stand_after, LegsLead, Legs, AreLegs, IsKnown, AreTestsOf, IsTestedAlone}
-use Rattle.bf_runs.specs.Legs.{GoesOnFrom, IsBetween, IsOver, IsReady, IsLegRun, LeadsOn}
+use Rattle.bf_runs.specs.Legs.{Course, Stand, first_stand, setting_of, leg_run, IsLeg, stand_after, LegsLead, IsKnown, AreTestsOf, IsTestedAlone}
+use Rattle.bf_runs.specs.Legs.{GoesOnFrom, IsBetween, IsReady, IsLegRun, LeadsOn}
 use Rattle.bf_search.specs.Within.{IsEndingWithin}
 use Rattle.bf_runs.proofs.Fewer.{leg_leaves_fewer}
 use Rattle.bf_runs.proofs.Ran.{IsEndWithin, run_is_within}
@@ -309,6 +310,7 @@ pub record Reported (course : Course) (told : Option (List Outcome)) (before aft
   pub answered : TableIn course.names before table
   pub lacks : course.workers ≤ 1 → after ≡ before ++ lacking table report.used.items
   pub own : course.workers ≤ 1 → IsAlone table report
+  pub workers : AreByWorkers course.workers report.events.items
   pub sorted : IsGraph course.graph
   pub over : IsSearchOver course.graph session.search
 
@@ -319,6 +321,9 @@ module _ (course : Course) (told : Option (List Outcome)) (before after : List A
 
   abbrev ran : Run
   ran = leg_run course session.search report.table
+
+  is_leg : IsLeg course stand report.events.items report.table
+  is_leg = record { leads = h.history; by_workers = h.workers }
 
   keeps : Keeps table report.table
   keeps = leg_keeps (setting_of course session.search) table report.table report.events.items h.history
@@ -381,7 +386,7 @@ module _ (course : Course) (told : Option (List Outcome)) (before after : List A
         let goes = goes_on_after course h.sorted so_far stand report.table h.over between.reached between.goes_on keeps.part
         (ap is_unfinished (leg_ended e)) in
         record {
-          legs = legs_lead_on course (first_stand course) stand whole report.events.items report.table between.legs h.history (leg_ended e);
+          legs = legs_lead_on course (first_stand course) stand whole report.events.items report.table between.legs is_leg (leg_ended e);
           reached = refl;
           ended = leg_ended e;
           goes_on = goes;
@@ -393,7 +398,7 @@ module _ (course : Course) (told : Option (List Outcome)) (before after : List A
     over = λ whole so_far between other.
         let is = ends_with course h.sorted so_far stand report.table h.over between.reached between.goes_on keeps.part (not_leg other) in
         record {
-          are = record { stand = stand; whole = between.legs; last = h.history; ended = not_leg other };
+          are = record { stand = stand; whole = between.legs; last = is_leg; ended = not_leg other };
           is = is;
           known = known;
           alone = alone whole so_far between []
@@ -446,6 +451,7 @@ module _ (search : Searched) (session : Session) (table : List (Option Outcome))
     (sound : IsSoundReport told names after report)
     (lacks : search.workers ≤ 1 → after ≡ before ++ lacking table report.used.items)
     (own : search.workers ≤ 1 → IsAlone table report)
+    (workers : AreByWorkers search.workers report.events.items)
     (sorted : IsGraph search.reach.now) (below : IsSearchBelow session.len session.search)
     (ready : IsReady search.history.now.parents search.history.now.names told before session table) where
   reported : (first : Search) → Reported (course_from search first) told before after session table report
@@ -457,6 +463,7 @@ module _ (search : Searched) (session : Session) (table : List (Option Outcome))
     answered = ready.known.answered;
     lacks = lacks;
     own = own;
+    workers = workers;
     sorted = subst (λ (graph : List (List ℕ)). IsGraph graph) reach sorted;
     over = over_graph search.history.now.parents session.len session.search below ready.len;
   }

@@ -1,9 +1,10 @@
 -- A run in legs: it stops after each so many marks, and goes on from the search that it has reached, with all that is known
 -- by then.
-use Rattle.std.specs.Prelude.{◌≡◌, ◌≢◌, ℕ, ◌≤◌, List, [], ◌∷◌, ◌++◌, length, map, replicate, Option, Some, None}
+use Rattle.std.specs.Prelude.{◌≡◌, ◌≢◌, ℕ, ◌≤◌, List, [], ◌∷◌, ◌++◌, length, map, replicate, Option, None}
 use Rattle.std.specs.List.{flat_map}
 use Rattle.bf_farm.specs.Answering.{pair_of}
 use Rattle.bf_farm.specs.Boards.{LeadsTo, unclaimed}
+use Rattle.bf_farm.specs.Doers.{AreByWorkers}
 use Rattle.bf_farm.specs.Ends.{awaited, failed_test, test_at}
 use Rattle.bf_farm.specs.Reports.{TableIn, TableFollows}
 use Rattle.bf_farm.specs.declared.report.Report.{Report}
@@ -49,9 +50,11 @@ setting_of course s = record { graph = course.graph; start = s; leg = course.leg
 abbrev pub leg_run : Course → Search → List (Option Outcome) → Run
 leg_run course s table = consumed (setting_of course s) table
 
--- the events of a leg are legal from where it begins, leave no claim, and lead to this table
-abbrev pub IsLeg : Course → Stand → List Event → List (Option Outcome) → Type 0
-IsLeg course stand events table = LeadsTo (setting_of course stand.search) stand.table events (unclaimed table)
+-- The events of a leg are legal from where it begins, leave no claim, and lead to this table. As many workers as were asked
+-- for did what comes first, and the calling thread all that follows.
+pub record IsLeg (course : Course) (stand : Stand) (events : List Event) (table : List (Option Outcome)) : Type 0 where
+  pub leads : LeadsTo (setting_of course stand.search) stand.table events (unclaimed table)
+  pub by_workers : AreByWorkers course.workers events
 
 -- where the next leg begins
 abbrev pub stand_after : Course → Stand → List (Option Outcome) → Stand

@@ -1,6 +1,6 @@
 //! A search over a history, whose commits are tested.
 ghost use Rattle.std.specs.Prelude.{◌≡◌, ◌≤◌, false, length, IfOk};
-ghost use Rattle.bf_farm.specs.Answering.{IsAlone};
+ghost use Rattle.bf_farm.specs.Answering.{IsAlone, IsByWorkers};
 ghost use Rattle.bf_farm.specs.Cases.{IsReportOn, HasHistoryOn};
 ghost use Rattle.bf_farm.specs.Reports.{TableIn, TableFollows};
 ghost use Rattle.bf_farm.specs.Testers.{KeepsManner, HasAnswersOf, IsSoundBy, HasFaultBy, GainsLacking};
@@ -44,6 +44,7 @@ pub fn run_case<R: Host, T: Tester>(
     ensures report { IfOk result (IsReportOn case.entry) }
     ensures history { IfOk result (HasHistoryOn case.entry) }
     ensures sound { IfOk result (IsSoundBy T.Tester tester.old tester.new case.entry.names.now) }
+    ensures workers { IfOk result (IsByWorkers workers) }
     ensures fault { IfOk result (HasFaultBy T.Tester tester.old tester.new) }
     ensures later { T.faults tester.old ≤ T.faults tester.new }
     ensures alone { workers ≤ 1 → IfOk result (IsAlone case.entry.table) }
