@@ -1,8 +1,8 @@
 -- The search of `sample`: its plan, its ends, and what its run is told as.
-use Rattle.std.proofs.Common.{◌≡◌, ℕ, zero, suc, ◌≤◌, ◌-◌, ◌/◌, Bool, true, false, List, [], ◌∷◌, ◌++◌, length, map, replicate, count_by, Option, Some, None}
-use Rattle.std.proofs.Common.{Result, Ok, Err, IfOk, IsTrue, codes, refl, sym, ap, subst, ◌∙◌, arith}
-use Rattle.std.proofs.lemmas.Bool.{both_ways}
-use Rattle.std.proofs.lemmas.List.{append-nil, append_assoc, map-append, length-replicate}
+use Rattle.std.proofs.Common.{◌≡◌, ℕ, zero, suc, ◌==◌, ◌≤◌, ◌-◌, ◌/◌, Bool, if◌then◌else◌, true, false, List, [], ◌∷◌, ◌++◌, length, map, replicate, count_by, Option, Some, None}
+use Rattle.std.proofs.Common.{Result, Ok, Err, IfOk, IsTrue, refl, sym, ap, subst, ◌∙◌, arith}
+use Rattle.std.proofs.lemmas.Bool.{both_ways, ne_eqb}
+use Rattle.std.proofs.lemmas.List.{append-nil, map-append, length-replicate}
 use Rattle.std.proofs.lemmas.List.Elements.{All-append, All-replicate}
 use Rattle.std.specs.List.{All}
 use Rattle.bf_farm.specs.Answering.{HasFault}
@@ -12,7 +12,7 @@ use Rattle.bf_guesses.specs.Ends.{HasEnds}
 use Rattle.bf_history.specs.Meanings.{History}
 use Rattle.bf_output.proofs.Runs.{closed, front_if_told}
 use Rattle.bf_output.specs.Beginning.{Begun, between_ends, commits_of}
-use Rattle.bf_output.specs.Sample.{first_places, is_mark, last_place, number_line, plan_of_sample, sampled, summed_up, whole_search}
+use Rattle.bf_output.specs.Sample.{first_places, is_mark, last_place, plan_of_sample, sampled, summed_up, whole_search}
 use Rattle.bf_output.specs.Simulate.{run_over, status_of_end}
 use Rattle.bf_output.specs.Tested.{run_on, status_at_end, lines_at_end, is_test_fault}
 use Rattle.bf_output.specs.declared.status.Status.TheVariants as status
@@ -27,11 +27,11 @@ use Rattle.bf_search.specs.Outcomes.{outcomes_of_table}
 use Rattle.bf_search.specs.Run.{End, Run, run, run_within, one_at_a_time}
 use Rattle.bf_state.specs.Runs.{is_open}
 use Rattle.bf_search.specs.State.{Search, ask}
-use Rattle.bf_state.specs.Session.{Session}
+use Rattle.bf_state.specs.Session.{Session, with_search}
 use Rattle.bf_oid.specs.declared.object.Oid.{Oid}
 use Rattle.bf_tester.specs.Plans.{is_letter, plan_of}
 use Rattle.bf_tester.specs.declared.answer.Answer.{Answer as Tests}
-use Rattle.bf_texts.specs.Texts.{Sides, answer_lines}
+use Rattle.bf_texts.specs.Texts.{answer_lines, with_goods}
 use Rattle.bf_words.specs.declared.request.Request.{Request}
 use Rattle.bf_answers.specs.Answers.{IsWhole}
 use Rattle.bf_answers.specs.Tellings.{begun_of, told_of}
@@ -68,8 +68,14 @@ tells_sample told count letters (Ok tester) is tells =
 -- ---- the ends
 
 whole_ends : (request : Request) (len : ℕ) → 1 ≤ len → HasEnds (whole_search request len).search
-whole_ends request zero some = absurd (omega some)
-whole_ends request (suc n) some = record { bad = n; bad_is = refl; some_good = λ e. cc e }
+whole_ends request len some =
+    let apart : (len == 0) ≡ false = ne_eqb len 0 (λ e. omega arith) in
+    let one : with_goods [] (first_places len) ≡ 0 ∷ [] = ap (λ (b : Bool). with_goods [] (if b then [] else 0 ∷ [])) apart in
+    record {
+      bad = len - 1;
+      bad_is = ap (λ (b : Bool). if b then None else Some (len - 1)) apart;
+      some_good = λ none. cc (sym one ∙ none);
+    }
 
 pub begun_ends : {E : Type 0} (request : Request) (len : ℕ) (bad : Option ℕ) (goods : List ℕ) (result : Result Beginning E) → 1 ≤ len
     → bad ≡ last_place len → goods ≡ first_places len → IfOk result (λ first. begun_of first ≡ between_ends request len bad goods)
@@ -86,8 +92,7 @@ waits_at : (request : Request) (history : History)
     ≡ record { status = status.Waiting; text = numbers_of request.count 0 }
 unfolding run run_within ask answer_lines
 waits_at request history =
-    ap (λ (t : List ℕ). record { status = status.Waiting; text = number_line (codes "commits") request.count ++ t })
-    (append-nil (number_line (codes "marks") 0))
+    ap (λ (t : List ℕ). record { status = status.Waiting; text = t }) (append-nil (numbers_of request.count 0))
 
 waits : (request : Request) (history : History) → length history.parents ≡ 0
     → record { status = status.Waiting; text = numbers_of request.count 0 } ≡ sampled request history
@@ -127,12 +132,15 @@ whole_end : (e : Ending) → is_test_fault (status_at_end (end_of e)) ≡ false 
 whole_end (ending.TestFault p) h = absurd (both_ways true h refl)
 whole_end other h = tt
 
-module _ (request : Request) (history : History) (first : Begun) (session : Session) (report : Report) (told : Option (List Outcome))
-    (plan : told ≡ Some (plan_of_sample request.count)) (follows : TableFollows told report.table)
-    (search : session.search ≡ first.search) (terms : report.state.terms ≡ first.sides)
+module _ (request : Request) (history : History) (start : Beginning) (session : Session) (report : Report) (told : Option (List Outcome))
+    (plan : told ≡ Some (plan_of_sample request.count)) (follows : TableFollows told report.table) (same : session ≡ start.state)
+    (reached : Search) (state : report.state ≡ with_search session reached)
     (entries : report.entries.items ≡ (one_at_a_time history.parents session.search (outcomes_of_table report.table) 0).entries)
     (ends : end_of report.ending ≡ (one_at_a_time history.parents session.search (outcomes_of_table report.table) 0).end)
     (fault : HasFault 0 0 None report) where
+  abbrev first : Begun
+  first = begun_of start
+
   abbrev outcomes : List Outcome
   outcomes = plan_of_sample request.count
 
@@ -140,7 +148,7 @@ module _ (request : Request) (history : History) (first : Begun) (session : Sess
   tested = run_on history first report.table
 
   from_first : one_at_a_time history.parents session.search (outcomes_of_table report.table) 0 ≡ tested
-  from_first = ap (λ (s : Search). one_at_a_time history.parents s (outcomes_of_table report.table) 0) search
+  from_first = ap (λ (s : Session). one_at_a_time history.parents s.search (outcomes_of_table report.table) 0) same
 
   end_is : end_of report.ending ≡ tested.end
   end_is = ends ∙ ap (λ (r : Run). r.end) from_first
@@ -163,7 +171,7 @@ module _ (request : Request) (history : History) (first : Begun) (session : Sess
   lines_are : lines_at_end (commits_of history) report.state.terms (end_of report.ending)
       ≡ answer_lines (commits_of history) first.sides (run_over history first outcomes).end
   lines_are =
-      ap (λ (s : Sides). lines_at_end (commits_of history) s (end_of report.ending)) terms
+      ap (λ (s : Session). lines_at_end (commits_of history) s.terms (end_of report.ending)) (state ∙ ap (λ (s : Session). with_search s reached) same)
       ∙ ap (λ (e : End). lines_at_end (commits_of history) first.sides e) end_is
       ∙ over.1.1
       ∙ ap (λ (r : Run). answer_lines (commits_of history) first.sides r.end) whole_run
@@ -172,9 +180,6 @@ module _ (request : Request) (history : History) (first : Begun) (session : Sess
   text_is =
       ap (λ (t : List ℕ). numbers_of request.count (count_by is_mark report.entries.items) ++ t) lines_are
       ∙ ap (λ (n : ℕ). numbers_of request.count n ++ answer_lines (commits_of history) first.sides (run_over history first outcomes).end) marks_are
-      ∙ append_assoc (number_line (codes "commits") request.count)
-      (number_line (codes "marks") (count_by is_mark (run_over history first outcomes).entries))
-      (answer_lines (commits_of history) first.sides (run_over history first outcomes).end)
 
   pub sample_told : {E : Type 0} (result : Result Answer E)
       → IfOk result (λ answer. answer.status ≡ status_at_end (end_of report.ending))
