@@ -30,6 +30,18 @@ test_workers() {
     done
 }
 
+# As many threads test as there are workers: the one that calls, and those that it starts.
+needs_threads() { has_program && has strace && strace -o /dev/null true; }
+test_threads() {
+    "$farmdawn" sample 1 300 >alone
+    for workers in 1 2 8 64; do
+        strace -f -o calls -e trace=clone,clone3 "$farmdawn" sample --workers $workers 1 300 >log
+        expect "a sample with $workers workers" [ $? -eq 0 ]
+        expect "what one worker tells: $workers" cmp -s alone log
+        expect "so many threads: $workers" [ "$(grep -c CLONE_THREAD calls)" -eq $((workers - 1)) ]
+    done
+}
+
 # What a command ends with, the option, and the status and last line that are due.
 ways='exit 0||0|*is the first bad commit
 exit 1||0|*is the first bad commit
@@ -67,5 +79,5 @@ test_options() {
     done
 }
 
-[ $# -gt 0 ] || set -- workers ways options
+[ $# -gt 0 ] || set -- workers threads ways options
 run_tests "$@"

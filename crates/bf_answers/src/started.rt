@@ -40,7 +40,7 @@ pub struct Started {
 /// What is answered before any commit is tested, or the search that is to be tested.
 #[derive(Drop)]
 pub enum Ready {
-    /// The answer of a command that tests nothing, or a refusal.
+    /// The answer of a command that leaves the tester alone, or a refusal.
     Told(Answer),
     /// The search that is to be tested.
     Search(Started),

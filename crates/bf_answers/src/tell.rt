@@ -1,19 +1,20 @@
 //! What the text of an answer is made of: commits, sides, the lines of an end, and its status.
-ghost use Rattle.std.specs.Prelude.{◌≡◌, ◌<◌, ◌++◌, length, OnOk};
-ghost use Rattle.bf_alone.specs.Rest.{ending_of};
-ghost use Rattle.bf_alone.specs.Within.{IsEndingWithin};
+ghost use Rattle.std.specs.Prelude.{◌≡◌, ◌++◌, length, IfOk, OnOk};
 ghost use Rattle.bf_log.specs.Labels as labels;
+ghost use Rattle.bf_log.specs.Lines.{ask_lines};
 ghost use Rattle.bf_output.specs.Beginning as beginning;
 ghost use Rattle.bf_output.specs.Simulate as simulate;
+ghost use Rattle.bf_output.specs.Tested.{status_at_end};
+ghost use Rattle.bf_search.specs.Farm.{end_of};
+ghost use Rattle.bf_search.specs.Within.{IsAskWithin, IsEndingWithin};
 ghost use Rattle.bf_answers.specs.Answers.{IsWhole};
-ghost use Rattle.bf_answers.specs.Tellings.{answer_lines_of};
+ghost use Rattle.bf_answers.specs.Tellings.{end_lines_of};
 
-use bf_alone::Ending;
 use bf_import::History;
 use bf_io::Bytes;
-use bf_log::{Commits, Sides, write_aborted, write_ask};
+use bf_log::{Commits, Sides, write_aborted, write_ask, write_failed_test};
 use bf_output::Status;
-use bf_search::Ask;
+use bf_search::{Ask, Ending};
 use bf_terms::Terms;
 use std::alloc::AllocError;
 
@@ -39,34 +40,51 @@ pub fn sides_of(terms: &Terms) -> Sides<'_>
     }
 }
 
-/// Adds the lines of the answer.
+/// Adds the lines of the end of a run, or of a test that failed, and gives the status.
 #[tactic(auto, unfolding(bf_texts::specs::Texts::answer_lines))]
 pub fn write_end(
     commits: Commits<'_>,
     sides: Sides<'_>,
-    end: &Ending,
+    ending: Ending,
     out: &mut Bytes,
-) -> Result<(), AllocError>
-    requires { IsEndingWithin (length commits.names.now) end.now }
-    ensures { OnOk result (out.new ≡ out.old ++ answer_lines_of commits.entry sides.entry end.now) }
+) -> Result<Status, AllocError>
+    requires { IsEndingWithin (length commits.names.now) ending }
+    ensures status { IfOk result (λ status. status ≡ status_at_end (end_of ending)) }
+    ensures text { OnOk result (out.new ≡ out.old ++ end_lines_of commits.entry sides.entry ending) }
 {
-    match end {
-        Ending::Answered(ask) => write_ask(commits, sides, ask, out),
-        Ending::Leg => Ok(()),
-        Ending::Aborted { place, outcome } => write_aborted(commits, *place, *outcome, out),
+    match ending {
+        Ending::FirstBad(place) => write_told(commits, sides, &Ask::FirstBad(place), out),
+        Ending::OnlySkipped(places) => write_told(commits, sides, &Ask::OnlySkipped(places), out),
+        Ending::MergeBaseBad(place) => write_told(commits, sides, &Ask::MergeBaseBad(place), out),
+        Ending::GoodNotAncestor(place) => {
+            write_told(commits, sides, &Ask::GoodNotAncestor(place), out)
+        }
+        Ending::BothSides(place) => write_told(commits, sides, &Ask::BothSides(place), out),
+        Ending::Aborted { place, outcome } => {
+            write_aborted(commits, place, outcome, out)?;
+            Ok(Status::Aborted)
+        }
+        Ending::Leg => Ok(Status::Done),
+        Ending::TestFault(place) => {
+            write_failed_test(commits, place, out)?;
+            Ok(Status::TestFault { place })
+        }
     }
 }
 
-/// The status of the end of a run.
-pub fn status_of(end: &Ending) -> Status
-    ensures status { result ≡ simulate.status_of_end (ending_of end.now) }
-    ensures whole { IsWhole result }
+/// Adds the lines of an ask that ends a run, and gives the status.
+fn write_told(
+    commits: Commits<'_>,
+    sides: Sides<'_>,
+    ask: &Ask,
+    out: &mut Bytes,
+) -> Result<Status, AllocError>
+    requires { IsAskWithin (length commits.names.now) ask.now }
+    ensures status { IfOk result (λ status. status ≡ simulate.status_of_ask ask.now) }
+    ensures text { OnOk result (out.new ≡ out.old ++ ask_lines commits.entry sides.entry ask.now) }
 {
-    match end {
-        Ending::Answered(ask) => status_of_ask(ask),
-        Ending::Leg => Status::Done,
-        Ending::Aborted { .. } => Status::Aborted,
-    }
+    write_ask(commits, sides, ask, out)?;
+    Ok(status_of_ask(ask))
 }
 
 /// The status of an ask that ends a command.

@@ -18,7 +18,7 @@ use Rattle.bf_output.specs.Traces.{traced, traced_if}
 use Rattle.bf_output.specs.Told.{Told}
 
 -- where no test failed, the run has ended and is told as such
-closed : (history : History) (first : Begun) (run : Run) (end : End) → run.end ≡ end → is_test_fault (status_at_end end) ≡ false
+pub closed : (history : History) (first : Begun) (run : Run) (end : End) → run.end ≡ end → is_test_fault (status_at_end end) ≡ false
     → (is_open end ≡ false) × ((status_at_end end ≡ status_of_end end)
     × (lines_at_end (commits_of history) first.sides end ≡ answer_lines (commits_of history) first.sides end))
 closed history first run (Answered a) is h = (refl, (refl, refl))

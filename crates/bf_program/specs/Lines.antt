@@ -1,23 +1,17 @@
 -- What a line of words is answered.
 use Rattle.std.specs.Borrow.{Bor}
-use Rattle.std.specs.Prelude.{ℕ, List, ◌++◌, codes, count_by, Option, Result}
-use Rattle.bf_alone.specs.declared.run.Ran.{Ran}
+use Rattle.std.specs.Prelude.{ℕ, List, Option, Result}
 use Rattle.bf_history.specs.Meanings.{History}
-use Rattle.bf_log.specs.declared.label.Commits.{Commits}
-use Rattle.bf_log.specs.declared.label.Sides.{Sides}
 use Rattle.bf_output.specs.Beginning.{Begun}
 use Rattle.bf_output.specs.Gen.{made_stream}
 use Rattle.bf_output.specs.Next.{asked_once, next_told}
 use Rattle.bf_output.specs.Output.{IsOutputOf, IsOver, IsOverBytes, IsOverFile, IsOverStream, given_to}
-use Rattle.bf_output.specs.Sample.{is_mark, number_line, plan_of_sample, summed_up}
-use Rattle.bf_output.specs.Simulate.{run_over}
 use Rattle.bf_output.specs.Told.{Told}
 use Rattle.bf_search.specs.State.{ask}
 use Rattle.bf_shelf.specs.declared.shelf.ShelfFile.{ShelfFile}
 use Rattle.bf_words.specs.declared.request.Request.{Request}
 use Rattle.bf_begin.specs.Files.{file_given}
 use Rattle.bf_answers.specs.Ready.{AllTold}
-use Rattle.bf_answers.specs.Tellings.{answer_lines_of}
 use Rattle.bf_begin.specs.declared.file.LogFile.{LogFile}
 use Rattle.bf_answers.specs.declared.line.Line.{Line}
 use Rattle.bf_answers.specs.declared.started.Ready.{Ready}
@@ -59,15 +53,3 @@ next_of_line line file history = next_told line.request.now line.words.now (file
 -- what a search tells that has begun, and asks once
 abbrev pub asked_from : History → Begun → Told
 asked_from history first = asked_once history first (ask history.parents first.search).step
-
--- the summary of a search over the plan of the sample
-abbrev pub sampled_from : Request → History → Begun → Told
-sampled_from request history first =
-    summed_up request history first (run_over history first (plan_of_sample request.count))
-
--- its text, by the labels of commits and sides
-abbrev pub summary_of : ℕ → Commits → Sides → Ran → List ℕ
-summary_of count commits sides run =
-    number_line (codes "commits") count
-    ++ number_line (codes "marks") (count_by is_mark run.entries)
-    ++ answer_lines_of commits sides run.end

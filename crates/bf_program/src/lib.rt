@@ -3,7 +3,7 @@
 //!
 //! It stands on three crates that each have a part of the work: `bf_begin` leads from words to a search that has begun,
 //! `bf_searches` tests its commits and writes what it tells, and `bf_answers`, below both, has refusals and writing. Here
-//! are the order of these parts, and the commands that test nothing: `gen`, `next`, `replay` and `sample`.
+//! are the order of these parts, and the commands that leave the tester alone: `gen`, `next`, `replay` and `sample`.
 #![tactic(auto)]
 
 mod made;

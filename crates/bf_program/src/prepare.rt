@@ -16,10 +16,12 @@ use bf_grammar::Limits;
 use bf_import::{History, import};
 use bf_io::{PlainSource, Source};
 use bf_shelf::Shelf;
+use bf_tester::Host;
 use bf_words::Verb;
 
 /// What a line is answered before any commit is tested, or the search that is to be tested.
-pub(crate) fn prepare<S: Source, F: Shelf>(
+pub(crate) fn prepare<R: Host, S: Source, F: Shelf>(
+    rt: &R,
     line: Line<'_>,
     stream: &mut S,
     shelf: &mut F,
@@ -35,15 +37,15 @@ pub(crate) fn prepare<S: Source, F: Shelf>(
 {
     match line.request.verb {
         Verb::Simulate | Verb::Run | Verb::Next | Verb::Replay => {
-            prepare_stream(line, stream, shelf)
+            prepare_stream(rt, line, stream, shelf)
         }
         Verb::Gen => Ok(Ready::Told(generate(line.alloc, line.request)?)),
-        Verb::Sample => prepare_made(line, shelf),
+        Verb::Sample => prepare_made(rt, line, shelf),
     }
 }
 
 /// The same over the stream that a number gives. It is read from memory, so no read fails.
-fn prepare_made<F: Shelf>(line: Line<'_>, shelf: &mut F) -> Result<Ready, Fault>
+fn prepare_made<R: Host, F: Shelf>(rt: &R, line: Line<'_>, shelf: &mut F) -> Result<Ready, Fault>
     ensures output { IfOk result (TellsMade line.entry (F.files shelf.old)) }
     ensures sound { IfOk result (IsSound line.entry.request.now) }
     ensures no_read { IsErrOf result Fault.Read → ⊥ }
@@ -52,11 +54,12 @@ fn prepare_made<F: Shelf>(line: Line<'_>, shelf: &mut F) -> Result<Ready, Fault>
     ensures unloaded { IsLeftUnless (is_some line.entry.request.now.replay) shelf.old shelf.new }
 {
     let mut made = PlainSource::new(made_stream(line.alloc, line.request)?);
-    prepare_stream(line, &mut made, shelf)
+    prepare_stream(rt, line, &mut made, shelf)
 }
 
 /// The same over the stream, which is read to its end first.
-fn prepare_stream<S: Source, F: Shelf>(
+fn prepare_stream<R: Host, S: Source, F: Shelf>(
+    rt: &R,
     line: Line<'_>,
     stream: &mut S,
     shelf: &mut F,
@@ -69,13 +72,18 @@ fn prepare_stream<S: Source, F: Shelf>(
     ensures unloaded { IsLeftUnless (is_some line.entry.request.now.replay) shelf.old shelf.new }
 {
     match import(line.alloc, stream, Limits::standard()) {
-        Ok(history) => prepare_over(line, history, shelf),
+        Ok(history) => prepare_over(rt, line, history, shelf),
         Err(fault) => Ok(Ready::Told(refusal(line.alloc, fault)?)),
     }
 }
 
 /// The same over a history: the file that the words name is loaded first.
-fn prepare_over<F: Shelf>(line: Line<'_>, history: History, shelf: &mut F) -> Result<Ready, Fault>
+fn prepare_over<R: Host, F: Shelf>(
+    rt: &R,
+    line: Line<'_>,
+    history: History,
+    shelf: &mut F,
+) -> Result<Ready, Fault>
     ensures output { IfOk result (TellsHistory line.entry (F.files shelf.old) history) }
     ensures sound { IfOk result (IsSound line.entry.request.now) }
     ensures no_read { IsErrOf result Fault.Read → ⊥ }
@@ -84,11 +92,16 @@ fn prepare_over<F: Shelf>(line: Line<'_>, history: History, shelf: &mut F) -> Re
     ensures unloaded { IsLeftUnless (is_some line.entry.request.now.replay) shelf.old shelf.new }
 {
     let file = load_file(line.words, line.request.replay, shelf)?;
-    prepare_command(line, lent(&file), history)
+    prepare_command(rt, line, lent(&file), history)
 }
 
 /// The same over a history and the file that the words name.
-fn prepare_command(line: Line<'_>, file: Option<&LogFile>, history: History) -> Result<Ready, Fault>
+fn prepare_command<R: Host>(
+    rt: &R,
+    line: Line<'_>,
+    file: Option<&LogFile>,
+    history: History,
+) -> Result<Ready, Fault>
     ensures tells { IfOk result (TellsFile line.entry file.entry history) }
     ensures sound { IfOk result (IsSound line.entry.request.now) }
     ensures no_read { IsErrOf result Fault.Read → ⊥ }
@@ -101,6 +114,6 @@ fn prepare_command(line: Line<'_>, file: Option<&LogFile>, history: History) -> 
         Verb::Next => told(next(alloc, line, file, &history)),
         Verb::Replay => told(replay_log(alloc, file, &history)),
         Verb::Gen => Ok(Ready::Told(generate(alloc, line.request)?)),
-        Verb::Sample => Ok(Ready::Told(sample(alloc, line.request, &history)?)),
+        Verb::Sample => Ok(Ready::Told(sample(rt, alloc, line.request, &history)?)),
     }
 }

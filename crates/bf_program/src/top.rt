@@ -74,7 +74,7 @@ pub fn bisect_main<R: Host, S: Source, F: Shelf, T: Tester, K: Sink>(
                 request: &request,
                 words,
             };
-            let ready = prepare(line, stream, shelf);
+            let ready = prepare(rt, line, stream, shelf);
             conclude(rt, line, ready, tester, out)
         }
         Err(fault) => refuse_words(alloc, fault, out),

@@ -1,5 +1,6 @@
 pub mod Doing
 pub mod Fewer
 pub mod Fresh
+pub mod Places
 pub mod Ran
 pub mod Sequences

@@ -18,7 +18,7 @@ use Rattle.bf_search.specs.Outcomes.{Outcomes, verdict_of}
 use Rattle.bf_search.specs.Run.{End, Answered, Leg, Open, Aborted, Run, ended, with_entries, marked_one, after_verdict, after_look, after_step, after_ask, turn}
 use Rattle.bf_search.specs.Run.{run_within, run, one_at_a_time}
 use Rattle.bf_search.specs.State.{Search, ask, mark}
-use Rattle.bf_alone.proofs.Places.{ask_within}
+use Rattle.bf_runs.proofs.Places.{ask_within}
 use Rattle.bf_state.proofs.Within.{warned_within}
 use Rattle.bf_state.proofs.Asks.{ask_leaves}
 

@@ -3,9 +3,7 @@
 #![tactic(auto)]
 
 mod case;
-mod ending;
 mod legs;
 
 pub use case::{Search, run_case};
-pub use ending::told_end;
 pub use legs::{Standing, run_leg};

@@ -2,16 +2,14 @@
 ghost use Rattle.std.specs.Prelude.{◌≡◌, length, All, [], IfOk, OnOk};
 ghost use Rattle.bf_search.specs.Within.{IsEndingWithin, IsEntryWithin};
 ghost use Rattle.bf_output.specs.Tested.{status_at_end};
-ghost use Rattle.bf_searches.specs.Telling.{AddsLines, AddsEvents, AddsLegLines, AddsLegEvents, AddsLegLine, AddsEnd, EndsText, LearnsEntries, trace_begun};
+ghost use Rattle.bf_searches.specs.Telling.{AddsLines, AddsEvents, AddsLegLines, AddsLegEvents, AddsLegLine, EndsText, LearnsEntries, trace_begun};
 ghost use Rattle.bf_search.specs.Farm.{end_of};
 
-use bf_answers::{Answer, commits_of, sides_of, status_of, write_end};
+use bf_answers::{Answer, commits_of, sides_of, write_end};
 use bf_farm::Report;
 use bf_import::History;
 use bf_io::Bytes;
-use bf_log::{Commits, Known, Sides, write_events, write_failed_test, write_leg, write_more};
-use bf_output::Status;
-use bf_runs::told_end;
+use bf_log::{Commits, Known, Sides, write_events, write_leg, write_more};
 use bf_search::{Ending, Entry, Event};
 use bf_state::State;
 use std::alloc::{AllocError, Global};
@@ -119,33 +117,10 @@ impl Telling {
             trace,
             ..
         } = self;
-        let status = write_ending(commits, sides, ending, &mut text)?;
+        let status = write_end(commits, sides, ending, &mut text)?;
         if let Some(lines) = &trace {
             text.append(lines.as_slice())?;
         }
         Ok(Answer { status, text })
-    }
-}
-
-/// Adds the lines of the end of a run, or of a test that failed, and gives the status.
-fn write_ending(
-    commits: Commits<'_>,
-    sides: Sides<'_>,
-    ending: Ending,
-    text: &mut Bytes,
-) -> Result<Status, AllocError>
-    requires { IsEndingWithin (length commits.names.now) ending }
-    ensures status { IfOk result (λ status. status ≡ status_at_end (end_of ending)) }
-    ensures text { IfOk result (λ _. AddsEnd commits.entry sides.entry ending text.old text.new) }
-{
-    match told_end(ending) {
-        Ok(end) => {
-            write_end(commits, sides, &end, text)?;
-            Ok(status_of(&end))
-        }
-        Err(place) => {
-            write_failed_test(commits, place, text)?;
-            Ok(Status::TestFault { place })
-        }
     }
 }

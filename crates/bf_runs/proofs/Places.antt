@@ -1,19 +1,14 @@
 -- The places of an ask are places of the graph.
-use Rattle.std.proofs.Common.{◌≡◌, ℕ, ◌<◌, List, ◌++◌, length, map, refl, sym, subst}
-use Rattle.std.proofs.lemmas.List.Elements.{All-append, All-map}
-use Rattle.std.specs.List.{All}
+use Rattle.std.proofs.Common.{◌≡◌, ℕ, ◌<◌, List, length, refl, sym, subst}
 use Rattle.std.specs.Option.{IfSome}
 use Rattle.bf_graph.specs.Graph.{IsGraph}
-use Rattle.bf_search.specs.Within.{IsAskWithin, IsEntryWithin}
+use Rattle.bf_search.specs.Within.{IsAskWithin}
 use Rattle.bf_search.specs.declared.asks.Ask.{Ask}
 use Rattle.bf_search.specs.declared.asks.Ask.TheVariants.{WaitBoth, WaitBad, WaitGood, Test, MergeBaseBad, GoodNotAncestor, BothSides, FirstBad, OnlySkipped}
 use Rattle.bf_search.specs.State.{Search, ask}
-use Rattle.bf_search.specs.declared.entries.Entry.{Entry}
-use Rattle.bf_search.specs.declared.entries.Entry.TheVariants.{SkippedBase}
 use Rattle.bf_search.proofs.Turns.{asking}
-use Rattle.bf_state.proofs.Within.{IsToldWithin, asked_within, warned_within}
+use Rattle.bf_state.proofs.Within.{IsToldWithin, asked_within}
 use Rattle.bf_state.specs.Session.{Session, IsSearchBelow}
-use Rattle.bf_alone.specs.Within.{AllWithinMore}
 
 told_and_tested : (len : ℕ) (a : Ask) → IsToldWithin len a → ((p : ℕ) → a ≡ Test p → p < len) → IsAskWithin len a
 told_and_tested len (Test p) told tested = tested p refl
@@ -31,23 +26,9 @@ pub ask_within : (graph : List (List ℕ)) (s : Search) → IsGraph graph → If
 ask_within graph s g h =
     told_and_tested (length graph) (ask graph s).step.ask (asked_within graph s h).told (λ p e. (asking graph s p g e).asks_for.within)
 
--- ---- of a session
-
+-- so are those of a session over so many commits
 pub ask_in_session : (graph : List (List ℕ)) (session : Session) → IsGraph graph → length graph ≡ session.len → IsSearchBelow session.len session.search
     → IsAskWithin session.len (ask graph session.search).step.ask
 ask_in_session graph session g e h =
     subst (λ (n : ℕ). IsAskWithin n (ask graph session.search).step.ask) e
     (ask_within graph session.search g (subst (λ (n : ℕ). IfSome session.search.bad (λ p. p < n)) (sym e) h.bad))
-
-pub warned_in_session : (graph : List (List ℕ)) (session : Session) → length graph ≡ session.len → IsSearchBelow session.len session.search
-    → All (λ p. p < length graph) (ask graph session.search).step.warned
-warned_in_session graph session e h = warned_within graph session.search (subst (λ (n : ℕ). IfSome session.search.bad (λ p. p < n)) (sym e) h.bad)
-
--- what is added after entries for bases that are places
-pub more_than_warned : (n m : ℕ) (before between after : List Entry) (ps : List ℕ) → n ≡ m → between ≡ before ++ map (λ (p : ℕ). SkippedBase p) ps
-    → All (λ p. p < n) ps → AllWithinMore m between after → AllWithinMore n before after
-more_than_warned n m before between after ps e made h more = λ old.
-    subst (λ (k : ℕ). All (IsEntryWithin k) after) (sym e)
-    (more (subst (λ (k : ℕ). All (IsEntryWithin k) between) e
-    (subst (λ (es : List Entry). All (IsEntryWithin n) es) (sym made)
-    (All-append (IsEntryWithin n) before (map (λ (p : ℕ). SkippedBase p) ps) old (All-map (IsEntryWithin n) (λ (p : ℕ). SkippedBase p) ps h)))))
