@@ -1,4 +1,5 @@
 pub mod Fewer
 pub mod Fresh
+pub mod Known
 pub mod Ran
 pub mod Sequences
