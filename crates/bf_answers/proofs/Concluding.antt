@@ -16,7 +16,7 @@ use Rattle.bf_output.specs.Told.{Told}
 use Rattle.bf_answers.proofs.Answering.{cut_answer, mapped, whole_cause, written_output}
 use Rattle.bf_answers.specs.Answers.{Command, Answers, IsUnread, IsUnloaded, IsWhole, IsUntested, IsCaused, FitsTests, HasCause, HasTestCause, IsFailedTest, IsLostAs}
 use Rattle.bf_answers.specs.Devices.{Met, SinkMet, TesterMet}
-use Rattle.bf_answers.specs.Ready.{IsCausedTold, IsConcluded, IsSound, Concludes, SaysAnswer, Tells, verb_of}
+use Rattle.bf_answers.specs.Ready.{IsCausedTold, IsConcluded, IsSound, IsStarted, Concludes, SaysAnswer, Tells, verb_of}
 use Rattle.bf_answers.specs.SoFar.{IsCutBy, IsSoFar, IsToldCut, NeverRefuses}
 use Rattle.bf_answers.specs.Tellings.{begun_of, told_of}
 use Rattle.bf_answers.specs.Writes.{IsWritten}
@@ -137,15 +137,22 @@ pub refused_written : (meaning : Told) (answer : Answer) (before after : Option 
 refused_written meaning answer before after result is whole written =
     inl (told_of answer, is, whole_not_lost answer.status result whole, written)
 
+sound_found : (request : Request) (ready : Result Ready Fault) (found matched : Ready) → ready ≡ Ok found → found ≡ matched
+    → IfOk ready (IsSound request) → IsSound request matched
+sound_found request ready found matched is of sound =
+    subst (IsSound request) of (subst (λ (r : Result Ready Fault). IfOk r (IsSound request)) is sound)
+
 pub sound_search : (request : Request) (ready : Result Ready Fault) (found : Ready) (started : Started) → ready ≡ Ok found → found ≡ Search started
     → IfOk ready (IsSound request) → verb_of started.means ≡ request.verb
-sound_search request ready found started is of sound =
-    (subst (IsSound request) of (subst (λ (r : Result Ready Fault). IfOk r (IsSound request)) is sound)).1
+sound_search request ready found started is of sound = (sound_found request ready found (Search started) is of sound).1
+
+pub sound_started : (request : Request) (ready : Result Ready Fault) (found : Ready) (started : Started) → ready ≡ Ok found → found ≡ Search started
+    → IfOk ready (IsSound request) → IsStarted started
+sound_started request ready found started is of sound = (sound_found request ready found (Search started) is of sound).0
 
 pub sound_answer : (request : Request) (ready : Result Ready Fault) (found : Ready) (answer : Answer) → ready ≡ Ok found → found ≡ ToldAnswer answer
     → IfOk ready (IsSound request) → IsWhole answer.status
-sound_answer request ready found answer is of sound =
-    subst (IsSound request) of (subst (λ (r : Result Ready Fault). IfOk r (IsSound request)) is sound)
+sound_answer request ready found answer is of sound = sound_found request ready found (ToldAnswer answer) is of sound
 
 pub concludes : (asks : Bool) (IsTold : Ready → Told → Type 0) (tester : TesterMet) (ready : Result Ready Fault) (found matched : Ready)
     (sink : SinkMet) (result : Status)

@@ -55,7 +55,6 @@ IsBeforeSearch (status.TestFault place) = ⊥
 IsBeforeSearch status.WriteFault = ⊥
 IsBeforeSearch status.JournalFault = ⊥
 IsBeforeSearch status.NoMemory = ⊥
-IsBeforeSearch status.Waiting = ⊥
 IsBeforeSearch other = Unit {0}
 
 -- the tester is as it was

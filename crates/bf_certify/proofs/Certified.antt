@@ -1,6 +1,6 @@
 -- From the report of a run to what `certify` tells of it.
 use Rattle.std.proofs.Common.{◌≡◌, ◌≢◌, ℕ, Bool, true, false, List, [], ◌++◌, Option, Some, Result, Ok, Err, IfOk}
-use Rattle.std.proofs.Common.{inl, refl, sym, ap, subst, ◌∙◌}
+use Rattle.std.proofs.Common.{refl, sym, ap, subst, ◌∙◌}
 use Rattle.bf_answers.specs.declared.answer.Answer.{Answer}
 use Rattle.bf_answers.specs.Answers.{HasCause, IsBeforeSearch, IsWhole}
 use Rattle.bf_answers.specs.Tellings.{told_of}
@@ -34,7 +34,7 @@ use Rattle.bf_search.specs.Outcomes.{outcomes_of_table}
 use Rattle.bf_search.specs.Run.{End, Answered, Leg, Open, Aborted, Run}
 use Rattle.bf_search.specs.State.{Search}
 use Rattle.bf_searches.proofs.Going.{gone_cause, gone_on}
-use Rattle.bf_searches.proofs.Untested.{of_search}
+use Rattle.bf_searches.proofs.Untested.{at_ending}
 use Rattle.bf_searches.specs.declared.legs.Gone.TheVariants.{Over}
 use Rattle.bf_searches.specs.declared.legs.Running.{Running}
 use Rattle.bf_searches.specs.declared.telling.Telling.{Telling}
@@ -44,7 +44,6 @@ use Rattle.bf_state.specs.Runs.{in_sequence, is_open}
 use Rattle.bf_state.specs.Session.{Session, IsSearchBelow}
 use Rattle.bf_texts.specs.Texts.{log_from}
 use Rattle.bf_words.specs.declared.request.Request.{Request}
-use Rattle.bf_words.specs.declared.verb.Verb.TheVariants.{Run as RunVerb}
 use Rattle.std.proofs.lemmas.Bool.{both_ways}
 
 -- ---- a run that did not find the first bad commit
@@ -171,7 +170,7 @@ module _ (request : Request) (before after : Tested) (history : History) (first 
         log_certified request after history first (told_of answer) plain
             (λ done. not_done report.ending other is_over (sym log.status ∙ done)) tested,
         gone_cause before.faults after history report told (Over answer) fault (λ e. is_over e) (λ e. (log.status, log.text)),
-        of_search RunVerb request [] after history first (told_of answer) (inl tested),
+        λ refused. at_ending report.ending (subst IsBeforeSearch log.status refused),
       )
 
   answer_of : (answer : Answer) (e : Ending) → report.ending ≡ e

@@ -71,10 +71,9 @@ KeepsAll is_lenient kept known = (p : ℕ) (outcome : Outcome)
     → outcomes_of_table known p ≡ Some outcome → verdict_of outcome ≢ Abort
     → (found : Outcome) × (outcomes_of_table kept p ≡ Some found) × IsKeptAs is_lenient found outcome
 
--- An outcome that may be put: one that the tester answered, as all that is known was, and that does not end the run.
-abbrev pub MayBePut : List Oid → List Answer → List (Option Outcome) → ℕ → Outcome → Type 0
-MayBePut names answers known p outcome =
-    (IsAnswered names answers p outcome ⊎ (outcomes_of_table known p ≡ Some outcome)) × (verdict_of outcome ≢ Abort)
+-- an outcome that may be put: one that the tester answered, and that does not end the run
+abbrev pub MayBePut : List Oid → List Answer → ℕ → Outcome → Type 0
+MayBePut names answers p outcome = IsAnswered names answers p outcome × (verdict_of outcome ≢ Abort)
 
 -- each outcome that is kept was found when the journal was opened, or else may be put
 abbrev pub KeepsOnly : (ℕ → Outcome → Type 0) → List (Option Outcome) → List (Option Outcome) → Type 0
@@ -104,7 +103,7 @@ pub record AreImages (disk : DiskMet) (identity : Oid) (len : ℕ) (MayPut : ℕ
 -- where the disk tells its bytes, so it is with the journal of a run on what its tester answered
 abbrev pub AreImagesOf : DiskMet → Oid → List Oid → Tested → List (Option Outcome) → List (Option Outcome) → Type 0
 AreImagesOf disk identity names tested found table =
-    IfSome disk.before (λ _. AreImages disk identity (length names) (MayBePut names tested.answers table) tested.is_lenient found table)
+    IfSome disk.before (λ _. AreImages disk identity (length names) (MayBePut names tested.answers) tested.is_lenient found table)
 
 -- the journal of another run is left as it was: a crash leaves the bytes from before, and at no moment of the call more than before
 pub record IsLeftAlone (disk : DiskMet) (bytes : List ℕ) : Type 0 where
@@ -143,7 +142,7 @@ abbrev pub IsRunKept : DiskMet → Oid → List (Option Outcome) → Request →
 IsRunKept disk identity found request tested history first told =
     ((is : IsTested request tested history first told) × AreImagesOf disk identity history.names tested found is.table)
     ⊎ (((is : IsTestCut request tested history first told) × AreImagesOf disk identity history.names tested found is.table)
-    ⊎ (((is : IsTestLost tested.plan history first told) × AreImagesOf disk identity history.names tested found is.table)
+    ⊎ (((is : IsTestLost tested history first told) × AreImagesOf disk identity history.names tested found is.table)
     ⊎ ((table : List (Option Outcome)) × IsJournalCut disk tested history first table told
     × AreImagesOf disk identity history.names tested found table)))
 

@@ -10,6 +10,7 @@ use Rattle.bf_answers.specs.Writes.{IsWritten}
 use Rattle.bf_commands.specs.Journal.{AreImages, AreImagesOf, Continues, DiskMet, HasDiskFailed, IsJournalled, IsKeptIn, IsLeftAlone, IsOpenedAt, IsOpenedTold, IsRunKept, MayBePut, Opens, identity_of, journal_fault, journal_refused}
 use Rattle.bf_commands.specs.Journal.Opened.{Other, Failed}
 use Rattle.bf_farm.proofs.Asked.{rose_since}
+use Rattle.bf_guesses.specs.Ends.{HasEnds}
 use Rattle.bf_history.specs.Meanings.{History}
 use Rattle.bf_io.proofs.Told.{Appends-trans, AppendsFront-second}
 use Rattle.bf_io.specs.Causes.{Rose}
@@ -106,10 +107,10 @@ module _ {J : Type 0} (by : Ghosts J) where
   module _ (old mid new : J) (journal : Keeping) (meant : Oid) (names : List Oid) (tested : Tested) (table : List (Option Outcome))
       (own : journal.identity ≡ meant) (long : length journal.kept ≡ length names) where
     abbrev MayPut : ℕ → Outcome → Type 0
-    MayPut p x = MayBePut names tested.answers table p x
+    MayPut p x = MayBePut names tested.answers p x
 
     abbrev IsLeft : List ℕ → Type 0
-    IsLeft image = by.may_leave old image ⊎ Continues meant (length names) (MayBePut names tested.answers table) journal.kept image
+    IsLeft image = by.may_leave old image ⊎ Continues meant (length names) (MayBePut names tested.answers) journal.kept image
 
     opened_image : (bytes image : List ℕ) → table_in meant (length names) bytes ≡ Ok journal.kept
         → IsAsOpened (by.may_leave old) meant (length names) bytes image → IsLeft image
@@ -143,7 +144,7 @@ module _ {J : Type 0} (by : Ghosts J) where
             → IfSome told (λ bytes. LeavesOnly by.moment by.left_since old mid (IsAsOpened (by.may_leave old) meant (length names) bytes))
             → IfSome told (λ bytes. table_in meant (length names) bytes ≡ Ok journal.kept)
             → IfSome then_told (λ _. Lasts by mid new journal names tested journal.kept table)
-            → IfSome told (λ _. AreImages (met_disk by old new) meant (length names) (MayBePut names tested.answers table) tested.is_lenient journal.kept table)
+            → IfSome told (λ _. AreImages (met_disk by old new) meant (length names) (MayBePut names tested.answers) tested.is_lenient journal.kept table)
         at None then_told same opens found lasting = tt
         at (Some bytes) None same opens found lasting = cc same
         at (Some bytes) (Some then_bytes) same opens found lasting =
@@ -157,24 +158,24 @@ module _ {J : Type 0} (by : Ghosts J) where
 
 -- what a kept run tells is no refusal
 pub never_refused : (disk : DiskMet) (identity : Oid) (found : List (Option Outcome)) (request : Request) (words : List (List ℕ)) (tested : Tested) (history : History) (first : Begun)
-    → NeverRefuses (IsRunKept disk identity found request tested history first)
-never_refused disk identity found request words tested history first = λ told is refused. by told is refused
+    → HasEnds first.search → NeverRefuses (IsRunKept disk identity found request tested history first)
+never_refused disk identity found request words tested history first ends = λ told is refused. by told is refused
   where
     by : (told : Told) → IsRunKept disk identity found request tested history first told → IsBeforeSearch told.status → ⊥
-    by told (inl (is, kept)) refused = of_search Run request words tested history first told (inl is) refused
-    by told (inr (inl (is, kept))) refused = of_search Run request words tested history first told (inr (inl is)) refused
-    by told (inr (inr (inl (is, kept)))) refused = of_search Run request words tested history first told (inr (inr is)) refused
+    by told (inl (is, kept)) refused = of_search Run request words tested history first told ends (inl is) refused
+    by told (inr (inl (is, kept))) refused = of_search Run request words tested history first told ends (inr (inl is)) refused
+    by told (inr (inr (inl (is, kept)))) refused = of_search Run request words tested history first told ends (inr (inr is)) refused
     by told (inr (inr (inr (table, is, kept)))) refused = subst (λ (t : Told). IsBeforeSearch t.status) is.tells refused
 
 module _ (disk now : DiskMet) (meant : Oid) (found : List (Option Outcome)) (Images : List (Option Outcome) → Type 0) (request : Request)
-    (words : List (List ℕ)) (tester : TesterMet) (history : History) (first : Begun)
+    (words : List (List ℕ)) (tester : TesterMet) (history : History) (first : Begun) (ends : HasEnds first.search)
     (kept_of_table : (table : List (Option Outcome)) → Images table → AreImagesOf disk meant history.names tester.after found table)
     (rose : HasDiskFailed now → HasDiskFailed disk) where
   abbrev Tells : Told → Type 0
   Tells told = IsRunKept disk meant found request tester.after history first told
 
   never : NeverRefuses Tells
-  never = never_refused disk meant found request words tester.after history first
+  never = never_refused disk meant found request words tester.after history first ends
 
   -- the disk failed behind some legs
   of_disk : (before mid after : Option (List ℕ)) (result : Status) → IsCutByDisk Images now tester.after history first before mid

@@ -1,10 +1,11 @@
 -- A run whose outcomes are kept, from its first leg to its end.
-use Rattle.std.proofs.Common.{◌≡◌, ◌⊎◌, inl, inr, ℕ, ◌≤◌, List, [], ◌++◌, Option, Result, Ok, Err, refl, sym, ap, ◌∙◌, subst}
+use Rattle.std.proofs.Common.{◌≡◌, ◌⊎◌, inl, inr, ℕ, ◌≤◌, List, [], ◌++◌, Option, Result, Ok, Err, refl, sym, ap, ◌∙◌}
 use Rattle.std.proofs.lemmas.List.{append-nil}
 use Rattle.bf_answers.specs.declared.answer.Answer.{Answer}
 use Rattle.bf_answers.specs.Devices.{TesterMet}
 use Rattle.bf_commands.specs.Journal.{DiskMet, HasDiskFailed, IsLogFront, MayBePut}
 use Rattle.bf_farm.proofs.Asked.{rose_since}
+use Rattle.bf_farm.specs.Reports.{TableIn}
 use Rattle.bf_history.specs.Meanings.{History}
 use Rattle.bf_io.specs.Causes.{FailsOnlyAt, Rose}
 use Rattle.bf_io.specs.declared.device.SinkFault.{SinkFault}
@@ -14,8 +15,9 @@ use Rattle.bf_io.proofs.Told.{Appends-trans, AppendsFront-none}
 use Rattle.bf_output.proofs.Runs.{front_if_told}
 use Rattle.bf_output.specs.Beginning.{Begun}
 use Rattle.bf_output.specs.Simulate.{cut_short, out_of_memory}
-use Rattle.bf_output.specs.Tested.{Tested, IsFrontIfTold, run_on}
+use Rattle.bf_output.specs.Tested.{Tested, run_on}
 use Rattle.bf_runs.specs.declared.case.Search.{Search as Searched}
+use Rattle.bf_runs.specs.Legs.{IsKnown}
 use Rattle.bf_search.specs.declared.outcomes.Outcome.{Outcome}
 use Rattle.bf_search.specs.Run.{Run}
 use Rattle.bf_searches.proofs.Going.{alone_on_known, flushed, front_on_known, on_known}
@@ -56,18 +58,18 @@ log_front request tested history first written running is (inr told) =
 module _ (images : List (Option Outcome) → Type 0) (disk : DiskMet) (search : Searched) (request : Request) (first : Begun) (written : List ℕ)
     (running : Running) (before : Option (List ℕ)) where
   -- memory ran out before anything more was written
-  lost_by : (tested later : Tested) (mid after : Option (List ℕ)) → later.plan ≡ tested.plan → IsRunning request tested search.history.now first written running
+  lost_by : (tested later : Tested) (mid after : Option (List ℕ)) → IsKnown search.history.now.names later.plan later.answers running.standing.table
+      → IsRunning request tested search.history.now first written running
       → Appends before mid written → AppendsFront mid after running.telling.text → images running.standing.table
       → IsCutByMemory images later search.history.now first before after
-  lost_by tested later mid after same is gained front kept =
+  lost_by tested later mid after known is gained front kept =
       let table = running.standing.table in
       record {
         told = out_of_memory search.history.now first (run_on search.history.now first table);
         is = record {
           table = table;
-          planned =
-              subst (λ (plan : Option (List Outcome)). IsFrontIfTold plan search.history.now first (run_on search.history.now first table)) (sym same)
-              (front_if_told tested.plan search.history.now first table is.between.known.planned);
+          known = known;
+          planned = front_if_told later.plan search.history.now first table known.planned;
           tells = refl;
         };
         front = front_on_known request tested search.history.now first written running is before mid after gained front;
@@ -97,18 +99,18 @@ module _ (images : List (Option Outcome) → Type 0) (disk : DiskMet) (search : 
       → Appends before mid written → AppendsFront mid after running.telling.text → images running.standing.table
       → IsEndedKept images disk request tested search.history.now first before after (Err (cut_of_sink fault))
   unwritten tested mid after sinks.Failed is gained front kept = cut_by tested mid after is gained front kept
-  unwritten tested mid after sinks.NoMemory is gained front kept = lost_by tested tested mid after refl is gained front kept
+  unwritten tested mid after sinks.NoMemory is gained front kept = lost_by tested tested mid after is.between.known is gained front kept
 
   -- a leg was cut short, of which nothing was written
   pub cut_in_leg : (Leaves : (ℕ → Outcome → Type 0) → Type 0) (tester : TesterMet) (remembered : List Answered) (opened new : List (Option Outcome))
       (after : Option (List ℕ)) (cut : Cut)
-      → tester.after.plan ≡ tester.before.plan → IsRunning request tester.before search.history.now first written running → (written ≡ []) ⊎ (running.telling.text ≡ [])
-      → Appends before after written
-      → (Leaves (MayBePut search.history.now.names tester.after.answers running.standing.table) → images running.standing.table)
+      → IsRunning request tester.before search.history.now first written running → (written ≡ []) ⊎ (running.telling.text ≡ []) → Appends before after written
+      → (IsKnown search.history.now.names tester.after.plan tester.after.answers running.standing.table
+      → Leaves (MayBePut search.history.now.names tester.after.answers) → images running.standing.table)
       → (cut ≡ Journal → HasDiskFailed disk)
       → IsLedKept Leaves search request tester remembered opened first written new running.standing.table (Err cut)
       → IsEndedKept images disk request tester.after search.history.now first before after (Err cut)
-  cut_in_leg Leaves tester remembered opened new after Journal same is begun gained kept failed led =
+  cut_in_leg Leaves tester remembered opened new after Journal is begun gained kept failed led =
       let table = running.standing.table in
       record {
         table = table;
@@ -122,16 +124,17 @@ module _ (images : List (Option Outcome) → Type 0) (disk : DiskMet) (search : 
           front = log_front request tester.before search.history.now first written running is begun;
           tells = refl;
         };
-        kept = kept led.1;
+        kept = kept led.0 led.1;
       }
-  cut_in_leg Leaves tester remembered opened new after Output same is begun gained kept failed led = absurd led
-  cut_in_leg Leaves tester remembered opened new after NoMemory same is begun gained kept failed led =
-      lost_by tester.before tester.after after after same is gained (AppendsFront-none after running.telling.text) (kept led)
+  cut_in_leg Leaves tester remembered opened new after Output is begun gained kept failed led = absurd led
+  cut_in_leg Leaves tester remembered opened new after NoMemory is begun gained kept failed led =
+      lost_by tester.before tester.after after after led.0 is gained (AppendsFront-none after running.telling.text) (kept led.0 led.1)
 
   -- the run is over
   pub over_kept : (Leaves : (ℕ → Outcome → Type 0) → Type 0) (tester : TesterMet) (remembered : List Answered)
       (opened new known : List (Option Outcome)) (after : Option (List ℕ)) (answer : Answer) → Appends before after written
-      → ((table : List (Option Outcome)) → IsKeptOn Leaves tester.after.is_lenient opened new known table → images table)
+      → ((table : List (Option Outcome)) → TableIn search.history.now.names tester.after.answers table
+      → IsKeptOn Leaves tester.after.is_lenient opened new known table → images table)
       → IsLedKept Leaves search request tester remembered opened first written new known (Ok (Over answer))
       → IsToldKept images request tester.after search.history.now first before after answer
   over_kept Leaves tester remembered opened new known after answer gained all led =
@@ -140,7 +143,7 @@ module _ (images : List (Option Outcome) → Type 0) (disk : DiskMet) (search : 
         written = written;
         gained = gained;
         is = is;
-        kept = all is.table kept;
+        kept = all is.table is.over.known.answered kept;
       }
 
 -- what is told of a failed disk

@@ -78,12 +78,6 @@ known_to_keep (Some outcome) x e =
     let is : outcome ≡ x = cc same in
     (same, λ other. mark (ap verdict_of is ∙ other))
 
-pub may_be_put : (names : List Oid) (answers : List Answer) (known : List (Option Outcome)) (p : ℕ) (x : Outcome) → IsToKeep known p x
-    → MayBePut names answers known p x
-may_be_put names answers known p x is =
-    let (known_so, mark) = known_to_keep (outcomes_of_table known p) x is in
-    (inr known_so, mark)
-
 -- ---- turn by turn
 
 -- the first places are kept, and the others are as they were
@@ -154,11 +148,11 @@ keep_more known table part p x is =
     ap to_keep (too ∙ sym so) ∙ is
 
 -- what is to be kept of what was answered may be put
-pub answered_put : (names : List Oid) (answers : List Answer) (table known : List (Option Outcome)) → TableIn names answers table
-    → (p : ℕ) (x : Outcome) → IsToKeep table p x → MayBePut names answers known p x
-answered_put names answers table known answered p x is =
+pub answered_put : (names : List Oid) (answers : List Answer) (table : List (Option Outcome)) → TableIn names answers table
+    → (p : ℕ) (x : Outcome) → IsToKeep table p x → MayBePut names answers p x
+answered_put names answers table answered p x is =
     let (so, mark) = known_to_keep (outcomes_of_table table p) x is in
-    (inl (answered p x so), mark)
+    (answered p x so, mark)
 
 -- ---- what a crash may leave
 

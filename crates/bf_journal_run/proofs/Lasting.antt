@@ -1,6 +1,7 @@
 -- What a crash may leave keeps what is known.
 use Rattle.std.proofs.Common.{◌≡◌, ⊎_elim, inl, inr, ℕ, ◌≤◌, Bool, List, length, Option, Some, None, IfSome, is_some, sym, subst, ◌∙◌}
 use Rattle.bf_commands.specs.Journal.{Continues, IsKeptIn, KeepsAll, KeepsOnly, MayBePut}
+use Rattle.bf_farm.specs.Reports.{TableIn}
 use Rattle.bf_journal.specs.Disk.{LeavesOnly, Only}
 use Rattle.bf_journal.specs.declared.disk.Disk.{Ghosts}
 use Rattle.bf_journal.specs.Journal.{Keeping, FitsBytes, StandsFor}
@@ -11,7 +12,7 @@ use Rattle.bf_search.specs.Outcomes.{outcomes_of_table}
 use Rattle.bf_state.specs.Runs.{IsPartOf}
 use Rattle.bf_journal_run.specs.Kept.{AreLasting, IsSameRun, IsToKeep, KeepsSince, Lasts, LeavesOn}
 use Rattle.bf_journal_run.specs.Legs.{IsKeptOn}
-use Rattle.bf_journal_run.proofs.Keeping.{continues_over, keep_more, leaves_then, may_be_put, on_within, part_more, same_reads, since_only, since_part}
+use Rattle.bf_journal_run.proofs.Keeping.{answered_put, continues_over, keep_more, leaves_then, on_within, part_more, same_reads, since_only, since_part}
 
 -- more keeps what is known, too
 more_keeps : (is_lenient : Bool) (kept more known : List (Option Outcome)) → IsPartOf (outcomes_of_table kept) (outcomes_of_table more)
@@ -36,15 +37,18 @@ module _ {J : Type 0} (by : Ghosts J) where
       (λ image on. continues_over first journal found More image run part (only_within May More found journal.kept within only) on)
 
   module _ (first journal : Keeping) (names : List Oid) (tested : Tested) (found table : List (Option Outcome)) (run : IsSameRun first journal)
-      (since : KeepsSince found table journal.kept) (all : KeepsAll tested.is_lenient journal.kept table) where
+      (since : KeepsSince found table journal.kept) (all : KeepsAll tested.is_lenient journal.kept table) (answered : TableIn names tested.answers table) where
     abbrev MayPut : ℕ → Outcome → Type 0
-    MayPut p x = MayBePut names tested.answers table p x
+    MayPut p x = MayBePut names tested.answers p x
+
+    may_be_put : (p : ℕ) (x : Outcome) → IsToKeep table p x → MayPut p x
+    may_be_put = answered_put names tested.answers table answered
 
     only_put : KeepsOnly MayPut found journal.kept
-    only_put = only_within (IsToKeep table) MayPut found journal.kept (may_be_put names tested.answers table) (since_only found table journal.kept since)
+    only_put = only_within (IsToKeep table) MayPut found journal.kept may_be_put (since_only found table journal.kept since)
 
     kept_image : (image : List ℕ) → StandsFor journal image
-        → IsKeptIn first.identity (length first.kept) (MayBePut names tested.answers table) tested.is_lenient found table image
+        → IsKeptIn first.identity (length first.kept) (MayBePut names tested.answers) tested.is_lenient found table image
     kept_image image stands = record {
       on = record {
         kept = journal.kept;
@@ -56,7 +60,7 @@ module _ {J : Type 0} (by : Ghosts J) where
     }
 
     cut_image : (image : List ℕ) → Continues journal.identity (length journal.kept) MayPut journal.kept image
-        → IsKeptIn first.identity (length first.kept) (MayBePut names tested.answers table) tested.is_lenient found table image
+        → IsKeptIn first.identity (length first.kept) (MayBePut names tested.answers) tested.is_lenient found table image
     cut_image image on = record {
       on = record {
         kept = on.kept;
@@ -73,7 +77,7 @@ module _ {J : Type 0} (by : Ghosts J) where
         → AreLasting by old new first names tested found table
     lasts_at old new same so_far settled fits =
         at (by.told old) (by.told new) same
-        (on_within by old new first found (IsToKeep table) MayPut (may_be_put names tested.answers table) so_far) settled fits
+        (on_within by old new first found (IsToKeep table) MayPut may_be_put so_far) settled fits
       where
         at : (told now : Option (List ℕ)) → is_some now ≡ is_some told
             → IfSome told (λ _. LeavesOnly by.moment by.left_since old new (Continues first.identity (length first.kept) MayPut found))
@@ -89,10 +93,10 @@ module _ {J : Type 0} (by : Ghosts J) where
     -- the last leg was cut short
     pub lasts_cut : (old mid new : J) → ((disk : J) (t : ℕ) (image : List ℕ) → t ≤ by.moment disk → by.may_leave disk image → by.left_since disk t image)
         → is_some (by.told mid) ≡ is_some (by.told old) → LeavesOn by old mid first found (IsToKeep table)
-        → LeavesOn by mid new journal journal.kept (MayBePut names tested.answers table) → AreLasting by old new first names tested found table
+        → LeavesOn by mid new journal journal.kept (MayBePut names tested.answers) → AreLasting by old new first names tested found table
     lasts_cut old mid new counts same so_far leg =
         at (by.told old) (by.told mid) same
-        (since_then old mid new first journal found (IsToKeep table) MayPut same run (may_be_put names tested.answers table)
+        (since_then old mid new first journal found (IsToKeep table) MayPut same run may_be_put
         (since_part found table journal.kept since) (since_only found table journal.kept since) so_far leg) leg
       where
         at : (told then_told : Option (List ℕ)) → is_some then_told ≡ is_some told
@@ -118,10 +122,10 @@ module _ {J : Type 0} (by : Ghosts J) where
   -- and the disk fits the journal then
   pub kept_leg : (old mid new : J) (first journal after : Keeping) (names : List Oid) (tested : Tested) (found table more : List (Option Outcome))
       → is_some (by.told mid) ≡ is_some (by.told old) → is_some (by.told new) ≡ is_some (by.told mid) → IsSameRun first journal → IsSameRun journal after
-      → KeepsSince found table journal.kept → LeavesOn by old mid first found (IsToKeep table)
+      → KeepsSince found table journal.kept → LeavesOn by old mid first found (IsToKeep table) → TableIn names tested.answers more
       → IsKeptOn (LeavesOn by mid new journal journal.kept) tested.is_lenient found after.kept table more
       → IfSome (by.told new) (λ bytes. Only bytes (by.may_leave new)) → IfSome (by.told new) (FitsBytes after)
       → AreLasting by old new first names tested found more
-  kept_leg old mid new first journal after names tested found table more same told run again since so_far on settled fits =
-      lasts_at first after names tested found more (again.0 ∙ run.0, again.1 ∙ run.1) on.since on.all old new (told ∙ same)
+  kept_leg old mid new first journal after names tested found table more same told run again since so_far answered on settled fits =
+      lasts_at first after names tested found more (again.0 ∙ run.0, again.1 ∙ run.1) on.since on.all answered old new (told ∙ same)
       (leg_since old mid new first journal found table more same run since on.grows so_far on.leaves) settled fits

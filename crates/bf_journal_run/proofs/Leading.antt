@@ -145,22 +145,23 @@ module _ (Leaves : (ℕ → Outcome → Type 0) → Type 0) (search : Searched) 
         kept_on inner keeps below leaves,
       )
 
-  -- where the leg was told it leads on, and else memory ran out
+  -- where the leg was told it leads on; else memory ran out, and what was known is known still
   pub led : (result : Result Gone Cut) (inner : List Answered) → KeepsSince kept report.table new → Leaves (IsToKeep report.table)
-      → Leaves (MayBePut search.history.now.names tester.after.answers running.standing.table)
+      → Leaves (MayBePut search.history.now.names tester.after.answers)
       → KeepsRemembered tester.after.is_lenient now_remembered tester.after.answers inner
       → IfOk result (IsToldLeg search.history.now running.telling report) → IfErr result (λ cut. cut ≡ NoMemory)
       → IsLedKept Leaves search request tester now_remembered opened first written new running.standing.table result
   led (Ok gone) inner keeps leaves left below told memory = gone_kept gone inner keeps leaves below told
   led (Err cut) inner keeps leaves left below told memory =
-      subst (λ (c : Cut). IsLedKept Leaves search request tester now_remembered opened first written new running.standing.table (Err c)) (sym memory) left
+      subst (λ (c : Cut). IsLedKept Leaves search request tester now_remembered opened first written new running.standing.table (Err c)) (sym memory)
+      (known_still, left)
 
-  -- where an outcome could not be kept, what was known is known still
-  pub led_cut : (fault : JournalFault) → Leaves (MayBePut search.history.now.names tester.after.answers running.standing.table)
+  -- where an outcome could not be kept, too
+  pub led_cut : (fault : JournalFault) → Leaves (MayBePut search.history.now.names tester.after.answers)
       → IsLedKept Leaves search request tester now_remembered opened first written new running.standing.table (Err (cut_of_journal fault))
   led_cut journals.Failed left = (known_still, left)
   led_cut (journals.Mismatch found) left = (known_still, left)
-  led_cut journals.NoMemory left = left
+  led_cut journals.NoMemory left = (known_still, left)
 
 -- ---- whatever search it is
 

@@ -10,7 +10,8 @@ use Rattle.bf_output.proofs.Runs.{front_if_told}
 use Rattle.bf_output.specs.Beginning.{Begun, log_on}
 use Rattle.bf_output.specs.Simulate.{out_of_memory}
 use Rattle.bf_output.specs.Tested.{Tested, run_on}
-use Rattle.bf_runs.proofs.Fresh.{fresh_follows, none_known}
+use Rattle.bf_runs.proofs.Fresh.{none_known}
+use Rattle.bf_runs.proofs.Known.{nothing_known_yet}
 use Rattle.bf_runs.specs.declared.case.Search.{Search as Searched}
 use Rattle.bf_oid.specs.declared.object.Oid.{Oid}
 use Rattle.bf_runs.specs.Legs.{IsKnown}
@@ -75,17 +76,19 @@ pub nothing_kept : {J : Type 0} (by : Ghosts J) (disk : J) (journal : Keeping) (
 nothing_kept by disk journal request tested history first held only_now settled fits =
     let none = replicate (length history.parents) None in
     let unknown = none_known (length history.parents) in
+    let known = nothing_known_yet history.names tested.plan tested.answers (length history.parents) none refl in
     record {
       told = out_of_memory history first (run_on history first none);
       is = record {
         table = none;
-        planned = front_if_told tested.plan history first none (fresh_follows tested.plan (length history.parents) none refl);
+        known = known;
+        planned = front_if_told tested.plan history first none known.planned;
         tells = refl;
       };
       front = AppendsFront-none held (log_on history first (run_on history first none).entries);
       kept =
           lasts_at by journal journal history.names tested journal.kept none (refl, refl) (since_opened journal.kept none unknown)
-          (none_to_keep tested.is_lenient journal.kept none unknown) disk disk refl
+          (none_to_keep tested.is_lenient journal.kept none unknown) known.answered disk disk refl
           (nothing_since by only_now disk journal journal.kept (IsToKeep none) (part_itself (outcomes_of_table journal.kept)) (λ p outcome was. inl was) settled
           fits) settled fits;
     }

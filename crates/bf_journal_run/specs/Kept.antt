@@ -80,8 +80,8 @@ LeavesOn by old new journal found MayPut =
 -- The same of a run on what its tester answered, and each image that a crash may leave at the end keeps all that is known.
 pub record Lasts {J : Type 0} (by : Ghosts J) (old new : J) (journal : Keeping) (names : List Oid) (tested : Tested) (found table : List (Option Outcome)) : Type 0 where
   pub now : (image : List ℕ) → by.may_leave new image
-      → IsKeptIn journal.identity (length journal.kept) (MayBePut names tested.answers table) tested.is_lenient found table image
-  pub ever : LeavesOnly by.moment by.left_since old new (Continues journal.identity (length journal.kept) (MayBePut names tested.answers table) found)
+      → IsKeptIn journal.identity (length journal.kept) (MayBePut names tested.answers) tested.is_lenient found table image
+  pub ever : LeavesOnly by.moment by.left_since old new (Continues journal.identity (length journal.kept) (MayBePut names tested.answers) found)
 
 abbrev pub AreLasting : {J : Type 0} → Ghosts J → J → J → Keeping → List Oid → Tested → List (Option Outcome) → List (Option Outcome) → Type 0
 AreLasting by old new journal names tested found table = IfSome (by.told old) (λ _. Lasts by old new journal names tested found table)

@@ -79,10 +79,11 @@ IsLedKept Leaves search request tester remembered opened first written kept know
     × IsKeptOn Leaves tester.after.is_lenient opened kept known is.table
 IsLedKept Leaves search request tester remembered opened first written kept known (Err Journal) =
     IsKnown search.history.now.names tester.after.plan tester.after.answers known
-    × Leaves (MayBePut search.history.now.names tester.after.answers known)
+    × Leaves (MayBePut search.history.now.names tester.after.answers)
 IsLedKept Leaves search request tester remembered opened first written kept known (Err Output) = ⊥
 IsLedKept Leaves search request tester remembered opened first written kept known (Err NoMemory) =
-    Leaves (MayBePut search.history.now.names tester.after.answers known)
+    IsKnown search.history.now.names tester.after.plan tester.after.answers known
+    × Leaves (MayBePut search.history.now.names tester.after.answers)
 
 -- whatever search the run is of
 abbrev pub LeadsKeptOn : {J : Type 0} → Ghosts J → J → J → Searched → Running → TesterMet → List Answered → List Answered → Keeping → Keeping
@@ -122,7 +123,7 @@ pub record IsCutByWrite (images : List (Option Outcome) → Type 0) (request : R
 pub record IsCutByMemory (images : List (Option Outcome) → Type 0) (tested : Tested) (history : History) (first : Begun)
     (before after : Option (List ℕ)) : Type 0 where
   pub told : Told
-  pub is : IsTestLost tested.plan history first told
+  pub is : IsTestLost tested history first told
   pub front : AppendsFront before after told.text
   pub kept : images is.table
 

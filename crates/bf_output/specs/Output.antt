@@ -36,7 +36,7 @@ abbrev pub IsSearched : Verb → Request → List (List ℕ) → Tested → Hist
 IsSearched Simulate request words tested history first told = IsSimulated request words history first told
 IsSearched Run request words tested history first told =
     IsTested request tested history first told
-    ⊎ (IsTestCut request tested history first told ⊎ IsTestLost tested.plan history first told)
+    ⊎ (IsTestCut request tested history first told ⊎ IsTestLost tested history first told)
 IsSearched Next request words tested history first told = ⊥
 IsSearched Replay request words tested history first told = ⊥
 IsSearched Gen request words tested history first told = ⊥

@@ -105,10 +105,11 @@ pub record IsTestCut (request : Request) (tested : Tested) (history : History) (
   pub alone : request.workers ≤ 1 → AreFirstUsed tested.answers (run_on history first table)
   pub tells : cut ≡ cut_short history first (run_on history first table)
 
--- One that want of memory cut short: the log of a run on some outcomes was due and, where outcomes are told, on these.
-pub record IsTestLost (told : Option (List Outcome)) (history : History) (first : Begun) (lost : Told) : Type 0 where
+-- One that want of memory cut short: the log of the run on what its tester answered was due, too.
+pub record IsTestLost (tested : Tested) (history : History) (first : Begun) (lost : Told) : Type 0 where
   pub table : List (Option Outcome)
-  pub planned : IsFrontIfTold told history first (run_on history first table)
+  pub known : IsKnown history.names tested.plan tested.answers table
+  pub planned : IsFrontIfTold tested.plan history first (run_on history first table)
   pub tells : lost ≡ out_of_memory history first (run_on history first table)
 
 -- ---- the tester itself

@@ -1,6 +1,7 @@
 pub mod Doing
 pub mod Fewer
 pub mod Fresh
+pub mod Known
 pub mod Places
 pub mod Ran
 pub mod Sequences

@@ -1,5 +1,6 @@
 //! The legs of a search: after each the lines so far go out.
 ghost use Rattle.std.specs.Prelude.{◌≡◌, ◌≤◌, false, true, [], length, IfOk};
+ghost use Rattle.bf_farm.specs.Testers.{HasAnswersOf};
 ghost use Rattle.bf_guesses.specs.Ends.{HasEnds};
 ghost use Rattle.bf_io.specs.Causes.{FailsOnlyAt};
 ghost use Rattle.bf_output.specs.Tested.{tested_by};
@@ -102,6 +103,7 @@ pub fn go_on<R: Host, T: Tester>(
     ensures later { T.faults tester.old ≤ T.faults tester.new }
     ensures cause { IfOk result (IsGoneCaused (met_tester T.Tester tester.old tester.new)) }
     ensures manner { KeepsManner T.Tester tester.old tester.new }
+    ensures own { HasAnswersOf T.Tester tester.new tester.old }
     ensures is_split { T.is_split tester.new ≡ false }
 {
     let Running {

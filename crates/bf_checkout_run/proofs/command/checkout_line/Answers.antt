@@ -1,7 +1,6 @@
 use Rattle.std.proofs.Common.{◌≡◌, Err, ap, ◌∙◌}
 use Rattle.bf_answers.specs.Devices.{Met, met, met_shelf, met_sink, met_source}
-use Rattle.bf_answers.specs.Tellings.{begun_of}
-use Rattle.bf_answers.proofs.Concluding.{sound_answer}
+use Rattle.bf_answers.proofs.Concluding.{sound_answer, sound_started}
 use Rattle.bf_output.specs.Output.{is_run}
 use Rattle.bf_searches.proofs.Untested.{search_began}
 use Rattle.bf_searches.proofs.Using.{unused}
@@ -44,7 +43,8 @@ returns-in-Ok-Search-clause-untested g c = λ refused.
     let before = shown g.U.Tester g.D.Folder c.args.shop.now in
     let after = shown g.U.Tester g.D.Folder c.search.new.tester in
     absurd {A = after ≡ before} (search_began line.request.now.verb line.request.now line.words.now (is_run line.request.now.verb)
-    (between (shown g.U.Tester g.D.Folder c.prepare.new.shop) after) started.history (begun_of started.first) _ _ c.search.result
+    (between (shown g.U.Tester g.D.Folder c.prepare.new.shop) after) started _ _ c.search.result
+    (sound_started line.request.now c.prepare.result c.in-Ok-Search.field-0 started c.in-Ok-Search.is c.in-Ok-Search.field-0-is c.prepare.ensures.sound)
     c.search.ensures.told refused)
 
 pub returns-in-Ok-Search-clause-grounds : goal.returns-in-Ok-Search-clause-grounds

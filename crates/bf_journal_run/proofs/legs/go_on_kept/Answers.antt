@@ -9,6 +9,7 @@ use Rattle.bf_journal_run.specs.declared.cut.Cut.TheVariants.{NoMemory}
 use Rattle.bf_journal_run.proofs.Keeping.{answered_put, nothing_since, on_within, part_itself}
 use Rattle.bf_journal_run.proofs.Leading.{err_as, keeping_failed, keeping_no_output, led, led_cut, leg_caused, leg_ready}
 use Rattle.bf_journal_run.proofs.Recalled.{recall_by}
+use Rattle.bf_runs.proofs.Known.{known_later}
 use Rattle.bf_search.specs.declared.outcomes.Outcome.{Outcome}
 use Rattle.bf_search.specs.Outcomes.{outcomes_of_table}
 use Rattle.bf_journal_run.proofs.legs.go_on_kept.Goals as goal
@@ -16,13 +17,17 @@ use Rattle.bf_journal_run.proofs.legs.go_on_kept.Goals as goal
 pub returns-in_err-report-clause-goes : goal.returns-in_err-report-clause-goes
 returns-in_err-report-clause-goes g c = λ request opened first written is.
     let journal = c.args.journal.now in
-    let answers = (met_tester (recall_by g.T.Tester) c.args.tester.now c.run_leg.new.tester).after.answers in
+    let tester = met_tester (recall_by g.T.Tester) c.args.tester.now c.run_leg.new.tester in
+    let names = c.args.search.history.now.names in
     err_as (IsLedKept (LeavesOn g.J.Disk c.args.disk.now c.args.disk.now journal journal.kept) c.args.search request
-    (met_tester (recall_by g.T.Tester) c.args.tester.now c.run_leg.new.tester) c.run_leg.new.tester.remembered opened
-    first written journal.kept c.args.running.standing.table) c.from_residual.result NoMemory c.from_residual.ensures.1
-    (nothing_since g.J.Disk g.met.J.Disk.only_now c.args.disk.now journal journal.kept
-    (MayBePut c.args.search.history.now.names answers c.args.running.standing.table) (part_itself (outcomes_of_table journal.kept))
-    (λ p outcome was. inl was) c.requires.fits.settled c.requires.fits.bytes)
+    tester c.run_leg.new.tester.remembered opened
+    first written journal.kept c.args.running.standing.table) c.from_residual.result NoMemory c.from_residual.ensures.1 (
+      known_later names tester.before.plan tester.after.plan tester.before.answers tester.after.answers c.args.running.standing.table
+          (ap (λ (m : Manner). m.told) c.in_err-report.ensures.manner) c.in_err-report.ensures.own is.so_far.between.known,
+      nothing_since g.J.Disk g.met.J.Disk.only_now c.args.disk.now journal journal.kept
+          (MayBePut names tester.after.answers) (part_itself (outcomes_of_table journal.kept))
+          (λ p outcome was. inl was) c.requires.fits.settled c.requires.fits.bytes,
+    )
 
 pub returns-in_err-keep_table-clause-goes : goal.returns-in_err-keep_table-clause-goes
 returns-in_err-keep_table-clause-goes g c = λ request opened first written is.
@@ -39,8 +44,8 @@ returns-in_err-keep_table-clause-goes g c = λ request opened first written is.
     c.in_ok-report.ensures.run c.in_ok-report.ensures.leads_on c.in_ok-report.ensures.ready (ap (λ (m : Manner). m.told) c.in_ok-report.ensures.manner)
     (ap (λ (m : Manner). m.recalled) c.in_ok-report.ensures.manner) c.in_err-keep_table.field-0.0
     (on_within g.J.Disk c.args.disk.now c.keep_table.new.disk journal journal.kept (IsToKeep report.table)
-    (MayBePut names tester.after.answers c.args.running.standing.table)
-    (answered_put names tester.after.answers report.table c.args.running.standing.table c.in_ok-report.ensures.ready.known.answered)
+    (MayBePut names tester.after.answers)
+    (answered_put names tester.after.answers report.table c.in_ok-report.ensures.ready.known.answered)
     c.keep_table.ensures.any_moment))
 
 pub returns-in_err-keep_table-clause-failed : goal.returns-in_err-keep_table-clause-failed
@@ -64,8 +69,8 @@ returns-clause-goes g c = λ request opened first written is.
     c.in_ok-report.ensures.run c.in_ok-report.ensures.leads_on c.in_ok-report.ensures.ready (ap (λ (m : Manner). m.told) c.in_ok-report.ensures.manner)
     (ap (λ (m : Manner). m.recalled) c.in_ok-report.ensures.manner) c.tell_leg.result _ c.in_ok-keep_table.ensures.kept c.keep_table.ensures.any_moment
     (on_within g.J.Disk c.args.disk.now c.keep_table.new.disk journal journal.kept (IsToKeep report.table)
-    (MayBePut names tester.after.answers c.args.running.standing.table)
-    (answered_put names tester.after.answers report.table c.args.running.standing.table c.in_ok-report.ensures.ready.known.answered)
+    (MayBePut names tester.after.answers)
+    (answered_put names tester.after.answers report.table c.in_ok-report.ensures.ready.known.answered)
     c.keep_table.ensures.any_moment)
     c.inner-below.ensures.kept c.tell_leg.ensures.told c.tell_leg.ensures.memory
 

@@ -64,9 +64,9 @@ returns-in_err-answer-clause-told g c = λ request opened first is.
     c.from_residual.result c.in_err-answer.field-0.0 c.from_residual.ensures.1
     (cut_in_leg images disk c.args.search request first come.written c.loop.running (g.K.Sink.held c.args.out.now) leaves tester
     c.go_on_kept.new.tester.remembered opened c.go_on_kept.new.journal.kept (g.K.Sink.held c.loop.out) c.in_err-answer.field-0.0
-    (ap (λ (m : Manner). m.told) c.in_err-answer.ensures.manner) come.is.so_far come.begun come.gained
-    (λ left. lasts_cut g.J.Disk c.args.journal c.loop.journal names tester.after opened table c.loop.invariant.run come.is.since
-    (subst (λ b. KeepsAll b c.loop.journal.kept table) (sym (ap (λ (m : Manner). m.is_lenient) c.in_err-answer.ensures.manner)) come.is.all)
+    come.is.so_far come.begun come.gained
+    (λ known left. lasts_cut g.J.Disk c.args.journal c.loop.journal names tester.after opened table c.loop.invariant.run come.is.since
+    (subst (λ b. KeepsAll b c.loop.journal.kept table) (sym (ap (λ (m : Manner). m.is_lenient) c.in_err-answer.ensures.manner)) come.is.all) known.answered
     c.args.disk.now c.loop.disk c.go_on_kept.new.disk g.met.J.Disk.counts_now c.loop.invariant.told_disk come.ever left)
     (failed_since _ _ _ (Err c.in_err-answer.field-0.0) c.in_err-answer.field-0.0 c.loop.invariant.later_disk refl c.in_err-answer.ensures.failed)
     (c.in_err-answer.ensures.goes request opened first come.written come.is))
@@ -99,9 +99,9 @@ returns-in-Over-clause-told g c = λ request opened first is.
     over_kept (AreLasting g.J.Disk c.args.disk.now c.go_on_kept.new.disk c.args.journal names tester.after opened) disk c.args.search request first
     come.written c.loop.running (g.K.Sink.held c.args.out.now) leaves tester c.go_on_kept.new.tester.remembered opened c.go_on_kept.new.journal.kept
     c.loop.running.standing.table (g.K.Sink.held c.loop.out) c.in-Over.answer come.gained
-    (λ table on. kept_leg g.J.Disk c.args.disk.now c.loop.disk c.go_on_kept.new.disk c.args.journal c.loop.journal c.go_on_kept.new.journal names tester.after opened
+    (λ table answered on. kept_leg g.J.Disk c.args.disk.now c.loop.disk c.go_on_kept.new.disk c.args.journal c.loop.journal c.go_on_kept.new.journal names tester.after opened
     c.loop.running.standing.table table c.loop.invariant.told_disk c.in_ok-answer.ensures.told c.loop.invariant.run c.in_ok-answer.ensures.run come.is.since
-    come.ever on fits.settled fits.bytes)
+    come.ever answered on fits.settled fits.bytes)
     (rw c.in-Over.is at (c.in_ok-answer.ensures.goes request opened first come.written come.is))
 
 pub returns-in-Over-clause-cause : goal.returns-in-Over-clause-cause
@@ -125,7 +125,7 @@ returns-in_err-write_and_flush-clause-told g c = λ request opened first is.
     (rw c.as_slice.ensures at c.in_err-write_and_flush.ensures.front)
     (kept_leg g.J.Disk c.args.disk.now c.loop.disk c.go_on_kept.new.disk c.args.journal c.loop.journal c.go_on_kept.new.journal names tester.after opened
     c.loop.running.standing.table c.in-On.next.standing.table c.loop.invariant.told_disk c.in_ok-answer.ensures.told c.loop.invariant.run
-    c.in_ok-answer.ensures.run come.is.since come.ever on fits.settled fits.bytes))
+    c.in_ok-answer.ensures.run come.is.since come.ever next.so_far.between.known.answered on fits.settled fits.bytes))
 
 pub loop-preserved : goal.loop-preserved
 loop-preserved g c = record {

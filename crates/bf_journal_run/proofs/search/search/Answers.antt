@@ -40,7 +40,7 @@ concluded_run g c =
     let images = AreLasting g.J.Disk c.open_journal.new.disk c.search_kept-answer.new.disk journal history.names tester.after journal.kept in
     kept_concluded (met_disk g.J.Disk c.args.disk.now c.search_kept-answer.new.disk)
     (met_disk g.J.Disk c.open_journal.new.disk c.search_kept-answer.new.disk) (run_in g c) journal.kept images c.args.line.request.now
-    c.args.line.words.now tester history (begun_of c.args.started.first)
+    c.args.line.words.now tester history (begun_of c.args.started.first) c.requires.started.ends
     (λ table lasting. images_of_run g.J.Disk c.args.disk.now c.open_journal.new.disk c.search_kept-answer.new.disk journal (run_in g c) history.names
     tester.after table c.in-Ok.ensures.run c.in-Ok.ensures.commits c.open_journal.ensures.told c.open_journal.ensures.any_moment c.in-Ok.ensures.kept lasting)
     (λ failed. rose_since _ _ _ c.open_journal.ensures.failed.later failed) (g.K.Sink.held c.args.out.now)
@@ -67,7 +67,7 @@ returns-in-Ok-clause-refused g c =
     run_refused (IsRunKept disk (run_in g c) c.in-Ok.journal.kept c.args.line.request.now tester.after c.args.started.history (begun_of c.args.started.first))
     tester _ _ c.say_kept.result _
     (never_refused disk (run_in g c) c.in-Ok.journal.kept c.args.line.request.now c.args.line.words.now tester.after c.args.started.history
-    (begun_of c.args.started.first)) (concluded_run g c)
+    (begun_of c.args.started.first) c.requires.started.ends) (concluded_run g c)
 
 pub returns-in-Err-Mismatch-clause-refused : goal.returns-in-Err-Mismatch-clause-refused
 returns-in-Err-Mismatch-clause-refused g c =

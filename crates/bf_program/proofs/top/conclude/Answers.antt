@@ -1,12 +1,11 @@
 use Rattle.std.proofs.Common.{◌≡◌, refl}
 use Rattle.bf_output.specs.Output.{is_run}
 use Rattle.bf_answers.specs.declared.started.Ready.TheVariants.{Told, Search}
-use Rattle.bf_answers.proofs.Concluding.{concluded_answer, concluded_search, concludes, concludes_fault, if_ok, sound_answer, sound_search, whole_own}
+use Rattle.bf_answers.proofs.Concluding.{concluded_answer, concluded_search, concludes, concludes_fault, if_ok, sound_answer, sound_search, sound_started, whole_own}
 use Rattle.bf_searches.proofs.Untested.{search_began}
 use Rattle.bf_searches.proofs.Using.{unused}
 use Rattle.bf_answers.specs.Devices.{met_sink, met_tester}
 use Rattle.bf_answers.specs.Ready.{Tells}
-use Rattle.bf_answers.specs.Tellings.{begun_of}
 use Rattle.bf_program.proofs.top.conclude.Goals as goal
 
 pub returns-in-Ok-Search-clause-told : goal.returns-in-Ok-Search-clause-told
@@ -26,7 +25,8 @@ returns-in-Ok-Search-clause-untested g c = λ refused.
     let started = c.in-Ok-Search.started in
     let tester = met_tester g.T.Tester c.args.tester.now c.search.new.tester in
     absurd {A = tester.after ≡ tester.before} (search_began line.request.now.verb line.request.now line.words.now (is_run line.request.now.verb)
-    tester started.history (begun_of started.first) _ _ c.search.result
+    tester started _ _ c.search.result
+    (sound_started line.request.now c.args.ready c.in-Ok-Search.field-0 started c.in-Ok-Search.is c.in-Ok-Search.field-0-is c.requires.sound)
     c.search.ensures.told refused)
 
 pub say_answer-requires : goal.say_answer-requires
