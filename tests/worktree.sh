@@ -223,7 +223,7 @@ test_links() {
     mkdir -p ../victim/7 ../victim/2023-photos ../victim/fresh.abcdefgh
     for name in 7 fresh.abcdefgh; do echo kept >"../victim/$name/picture" && : >"../victim/$name.slot"; done
     echo kept >../file && mkdir .git/farmdawn
-    for link in lock 0.slot 0.held 0.told; do
+    for link in lock 0.slot 0.held 0.told 0.config; do
         ln -s ../../../file ".git/farmdawn/$link"
         status=$(status_of -- true "$commit")
         expect "no file is emptied by a link: $link" [ "$(cat ../file)" = kept ]

@@ -1,0 +1,188 @@
+#!/usr/bin/env python3
+"""What `git farmdawn` costs of its own for each test, beside what git needs to check a commit out.
+
+Usage: benches/cost.py [--commits N,..] [--workers N,..] [--runs N] [--lengths SECONDS,..] [--program FILE] [--tools FOLDER]
+
+Makes lines of so many commits with one file each in a temporary folder, and searches them with a test of nothing, `true`:
+so each test is good, and nearly all that is measured is the search's own. Another search over the same commits is stopped by
+its first test. All start alike, so that what one test more costs is the difference of their processor times, divided by that
+of their numbers of tests. What `git checkout` and `git clean` cost, as a test runs them, is taken off, and so is what
+the program costs, which weighs all commits that are left for each question: once for the tests, and once for the log.
+
+With --lengths, searches by tests that wait so long are timed by the clock instead, beside `git bisect run`: which says from
+which length of a test on several workers are faster, and means something on a quiet machine alone.
+
+Other times are of processors, those of the whole tree of processes, whoever waits for them; of some runs the least counts. A busy
+machine adds to them, since processors that share a core slow each other: so the costs of `sh -c true` and of `git rev-parse`
+stand above the table. The program is FARMDAWN or the one that a proved build left, the scripts are those of this checkout.
+"""
+import argparse
+import ctypes
+import os
+import resource
+import shutil
+import subprocess
+import sys
+import tempfile
+import time
+from dataclasses import dataclass
+
+import repository
+
+TOP = os.path.dirname(os.path.dirname(os.path.abspath(__file__)))
+PR_SET_CHILD_SUBREAPER = 36
+STOPPING = ["sh", "-c", "exit 255"]
+
+
+@dataclass
+class Cost:
+    processor: float    # seconds, of all processes
+    tests: int          # how many were begun
+
+
+def numbers(text):
+    return [int(word) for word in text.split(",")]
+
+
+def used():
+    usage = resource.getrusage(resource.RUSAGE_CHILDREN)
+    return usage.ru_utime + usage.ru_stime
+
+
+def spent_by(command, folder, environment=None, due=(0,), given=os.devnull):
+    """Seconds of processors that a command took, with all that it started: what outlived it is waited for here."""
+    before = used()
+    with open(given, "rb") as text:
+        done = subprocess.run(command, cwd=folder, env=environment, stdin=text, stdout=subprocess.DEVNULL,
+                              stderr=subprocess.DEVNULL)
+    while True:
+        try:
+            os.wait()
+        except ChildProcessError:
+            break
+    if done.returncode not in due:
+        sys.exit(f"{' '.join(command)}: ended with status {done.returncode}")
+    return used() - before
+
+
+def spent_each(command, folder, times=40):
+    """Milliseconds that one of these commands takes: the least mean of three rounds."""
+    return 1000 * min(sum(spent_by(command, folder) for _ in range(times)) / times for _ in range(3))
+
+
+def write_line(path, commits):
+    """A stream of a line of commits, each of which changes the one file."""
+    with open(path, "w") as stream:
+        for number in range(1, commits + 1):
+            text = f"change {number}\n"
+            stream.write(f"commit refs/heads/main\ncommitter gen <gen> {1000000000 + number} +0000\ndata {len(text)}\n{text}"
+                         f"M 100644 inline content\ndata {len(text)}\n{text}\n")
+
+
+def git_cost(folder):
+    """Milliseconds of git for the checkout of a test, in a worktree of its own that goes from commit to commit."""
+    beside = folder + "-beside"
+    repository.git(folder, "worktree", "add", "-q", "--detach", beside, "main")
+    plain = ["git", "-c", "core.hooksPath=/dev/null", "-c", "core.fsmonitor=", "-c", "gc.auto=0", "-c", "submodule.recurse=false"]
+    names = repository.git(folder, "rev-list", "-n", "40", "main").split()
+    spent = min(sum(spent_by([*plain, "checkout", "-q", "-f", "--detach", name], beside)
+                    + spent_by([*plain, "clean", "-q", "-ffd"], beside) for name in names) for _ in range(3))
+    repository.git(folder, "worktree", "remove", "--force", beside)
+    return 1000 * spent / len(names)
+
+
+class Searches:
+    """Searches of one repository, whose stream is in a file."""
+
+    def __init__(self, folder, stream, commits, environment, runs):
+        self.folder, self.stream, self.commits, self.environment, self.runs = folder, stream, commits, environment, runs
+
+    def search(self, workers, command, due=(0,)):
+        """The cost of the cheapest of some searches."""
+        costs = []
+        for _ in range(self.runs):
+            logs = os.path.join(self.folder, "..", "logs")
+            shutil.rmtree(logs, ignore_errors=True)
+            processor = spent_by(["git-farmdawn", "--fresh", "--workers", str(workers), "--log-dir", logs, "main",
+                                  f"main~{self.commits - 1}", "--", *command], self.folder, self.environment, due)
+            # each test has an output of its own
+            costs.append(Cost(processor, len(os.listdir(logs))))
+        return min(costs, key=lambda cost: cost.processor)
+
+    def program(self, workers, command, due=(0,)):
+        """Seconds of the program alone, over the same commits."""
+        return min(spent_by([self.environment["FARMDAWN"], "run", "--workers", str(workers), "main", f"main~{self.commits - 1}",
+                             "--", *command], self.folder, due=due, given=self.stream) for _ in range(self.runs))
+
+    def bisect(self, command):
+        """Seconds of `git bisect run`, which tests one commit after the other."""
+        repository.git(self.folder, "bisect", "start", "main", f"main~{self.commits - 1}")
+        spent = spent_by(["git", "bisect", "run", *command], self.folder, self.environment)
+        repository.git(self.folder, "bisect", "reset")
+        return spent
+
+
+def measure(searches, workers, checkout):
+    """Tells what one test more costs than a search of one test, and the whole search."""
+    start = searches.search(1, STOPPING, due=(6,))
+    print(f"  git bisect run true: {searches.bisect(['true']):.2f} s; a search of one test {start.processor:.2f} s", flush=True)
+    begun = searches.program(1, STOPPING, due=(6,))
+    follower = searches.program(1, ["true"]) - begun
+    for count in workers:
+        whole = searches.search(count, ["true"])
+        more = whole.tests - start.tests
+        program = 1000 * (searches.program(count, ["true"]) - begun + follower) / more
+        own = 1000 * (whole.processor - start.processor) / more - checkout - program
+        print(f"  {count} workers: {own:.0f} ms, and the program {program:.0f} ms; {whole.processor:.2f} s ({whole.tests})", flush=True)
+
+
+def seconds(run):
+    began = time.time()
+    run()
+    return time.time() - began
+
+
+def compare(searches, workers, lengths):
+    """Tells what searches by tests of these lengths take by the clock."""
+    for length in lengths:
+        command = ["sleep", length]
+        print(f"  tests of {length} s: git bisect run {seconds(lambda: searches.bisect(command)):.1f} s", end="", flush=True)
+        for count in workers:
+            print(f", {count} workers {seconds(lambda: searches.search(count, command)):.1f} s", end="", flush=True)
+        print()
+
+
+def main():
+    parser = argparse.ArgumentParser(usage=__doc__)
+    parser.add_argument("--commits", type=numbers, default=[1000, 30000, 100000])
+    parser.add_argument("--workers", type=numbers, default=[1, 4, 16, 64])
+    parser.add_argument("--runs", type=int, default=3)
+    parser.add_argument("--lengths", type=lambda text: text.split(","))
+    parser.add_argument("--program", default=os.environ.get("FARMDAWN", os.path.join(TOP, "crates", "farmdawn", "out", "farmdawn")))
+    parser.add_argument("--tools", default=os.path.join(TOP, "tools"))
+    words = parser.parse_args()
+    if not os.access(words.program, os.X_OK):
+        sys.exit(f"{words.program}: no program; FARMDAWN or --program names one")
+    # what a search leaves behind for a moment becomes a child of this process, so that its time counts
+    ctypes.CDLL(None).prctl(PR_SET_CHILD_SUBREAPER, 1, 0, 0, 0)
+    environment = {**repository.CALM, "FARMDAWN": os.path.abspath(words.program),
+                   "PATH": os.path.abspath(words.tools) + os.pathsep + os.environ["PATH"]}
+    with tempfile.TemporaryDirectory() as work:
+        if not words.lengths:
+            print("own cost of a test beside git's checkout, of processors; the whole search (and its tests)", flush=True)
+        for commits in words.commits:
+            folder, stream = os.path.join(work, f"line{commits}"), os.path.join(work, "stream")
+            write_line(stream, commits)
+            repository.filled(folder, stream)
+            if words.lengths:
+                print(f"{commits} commits, by the clock", flush=True)
+                compare(Searches(folder, stream, commits, environment, 1), words.workers, words.lengths)
+                continue
+            checkout = git_cost(folder)
+            print(f"{commits} commits: sh -c true {spent_each(['sh', '-c', 'true'], folder):.1f} ms, "
+                  f"git rev-parse HEAD {spent_each(['git', 'rev-parse', 'HEAD'], folder):.1f} ms, checkout by git {checkout:.1f} ms")
+            measure(Searches(folder, stream, commits, environment, words.runs), words.workers, checkout)
+
+
+if __name__ == "__main__":
+    main()
