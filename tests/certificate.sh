@@ -11,14 +11,16 @@ needs_all() { has git flock setsid sha256sum && has_program; }
 command='test ! -e bug'
 certified() {
     git farmdawn --workers 3 --certificate ../answer "$@" -- sh -c "$command" >../log 2>../told
-    expect "a search: $(cat ../told)" [ $? -eq 0 ]
+    ended=$? # a text with $(..) would be what $? tells of, for bash
+    expect "a search: $(cat ../told)" [ $ended -eq 0 ]
     found=$(sed -n 's/^\([0-9a-f]*\) is the first .* commit$/\1/p' ../log)
     holds . && holds_in_clone && holds_of_all && nothing_left
 }
 
 holds() {
     git -C "$1" farmdawn --check "$PWD/../answer" >../checked 2>../told
-    expect "it holds in $1: $(cat ../told)" [ $? -eq 0 ]
+    ended=$?
+    expect "it holds in $1: $(cat ../told)" [ $ended -eq 0 ]
     expect 'which is told' [ "$(head -n 1 ../checked)" = "certificate holds for $found" ]
 }
 
@@ -126,7 +128,8 @@ refused() {
     cmp -s wrong ../answer && expect "another answer: $1" false
     [ -z "${again-yes}" ] || sum_again wrong
     git farmdawn --check wrong >out 2>told
-    expect "refused: $1 ($(cat told out))" [ $? -eq 20 ]
+    ended=$?
+    expect "refused: $1 ($(cat told out))" [ $ended -eq 20 ]
     expect "for its reason: $1 ($(cat told))" grep -q "wrong does not hold: .*$3" told
     expect 'and nothing else is said' [ ! -s out ]
 }

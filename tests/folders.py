@@ -168,7 +168,9 @@ def try_one(number, arguments):
         ends = ["main", f"main~{count - 1}"]
         asks = ["run", *ends, "--", "sh", "-c", f'exit $(git -C "{repository}" show $1:verdict)', "x"]
         due = started(work, stream, asks).communicate()[0]
-        test = ["--", sys.executable, os.path.abspath(__file__), "--compare", repository, log]
+        compared = os.path.join(work, "compared.py")  # by another name: a word that is no UTF-8 is refused
+        os.symlink(os.path.abspath(__file__), compared)
+        test = ["--", sys.executable, compared, "--compare", repository, log]
         wrong, kills = [], 0
         for workers in ("1", "4", "4"):
             words = ["checkout", "run", "--workers", workers, *ends, *test]

@@ -1,6 +1,7 @@
 # What the tests of the scripts share. Each test is a function named test_..; it runs in a folder of its own, and what
 # it prints is shown where it fails. A function needs_.. with the same name says whether the test can run here; what is
-# missing passes the test over, and is told by its name.
+# missing passes the test over, and is told by its name. A file runs its tests one by one, or those that are named;
+# tests/check runs those of all files, several at once. TIMES=1 tells the seconds of each.
 set -u
 top=$(cd "$(dirname "$0")/.." && pwd)
 PATH=$top/tools:$PATH
@@ -8,14 +9,16 @@ farmdawn=${FARMDAWN:-$top/crates/farmdawn/out/farmdawn}
 export PATH
 unset MAKEFLAGS MAKELEVEL MFLAGS # a make within a test is not one of make check
 export GIT_AUTHOR_NAME='Ann Lee' GIT_AUTHOR_EMAIL=ann@example.org GIT_COMMITTER_NAME=Bo GIT_COMMITTER_EMAIL=bo@example.org
-export GIT_CONFIG_GLOBAL=/dev/null GIT_CONFIG_SYSTEM=/dev/null GIT_CONFIG_NOSYSTEM=1 LC_ALL=C
+export GIT_CONFIG_SYSTEM=/dev/null GIT_CONFIG_NOSYSTEM=1 LC_ALL=C
 
-work=$(mktemp -d) || exit 1
+work=$(mktemp -d "${FARMDAWN_WORK:-${TMPDIR:-/tmp}}/tests.XXXXXXXX") || exit 1
 trap 'rm -rf "$work"' EXIT
+export GIT_CONFIG_GLOBAL="$work/gitconfig"
+printf '[core]\n\tfsync = none\n' >"$GIT_CONFIG_GLOBAL" # what is made here need not outlast the machine
 # farmdawn takes only words that are UTF-8, its own name with them
 if [ -x "$farmdawn" ] && ! "$farmdawn" --version >/dev/null 2>&1; then ln -s "$farmdawn" "$work/farmdawn" && farmdawn=$work/farmdawn; fi
-passed=0 failed=0 skipped=0 again=0
-long_sleep="sleep 77.$$s" # of this run alone: other checkouts may be tested beside it
+file=$(basename "$0") passed=0 failed=0 skipped=0 again=0 later=''
+long_sleep="sleep 777.$$s" # of this run alone: other tests may run beside it
 
 # Whether a test fails here: the text says what is not as it must be.
 expect() {
@@ -59,10 +62,10 @@ can_run() {
     needs_"$1" 2>/dev/null
 }
 
-# Runs a test in a new folder.
+# Runs a test in a new folder. A signal that ends it has it leave as otherwise, so that what it started is ended.
 run_test() {
     mkdir "$work/$1" || return
-    (cd "$work/$1" && "test_$1") >>"$work/$1.out" 2>&1
+    (trap 'exit 129' HUP && trap 'exit 130' INT && trap 'exit 143' TERM && cd "$work/$1" && "test_$1") >>"$work/$1.out" 2>&1
     ended=$?
     chmod -R u+w "$work/$1" 2>/dev/null
     rm -rf "${work:?}/$1"
@@ -72,46 +75,81 @@ run_test() {
 # Whether a test may fail by the clock alone, where other programs take the processors: its file names it in `by_clock`.
 watches_clock() { case " ${by_clock-} " in *" $1 "*) ;; *) return 1 ;; esac; }
 
-# Runs the tests that are named, and counts; the counts are added to the file FARMDAWN_COUNTS, too. A test that watches the
-# clock is tried once more where it fails, which is told with what the first try printed; no other one is.
+# The hundredths of a second since this machine began.
+read_clock() { read -r clock _ </proc/uptime && clock=${clock%.*}${clock#*.}; }
+
+# Tells how the test at hand ended, with what it printed where that is no matter of course.
+tell() {
+    seconds=''
+    if [ -n "${TIMES-}" ]; then
+        read_clock
+        seconds=$(((clock - began) / 10))
+        seconds=" [$((seconds / 10)).$((seconds % 10)) s]"
+    fi
+    echo "$1: $file $test${2-}$seconds"
+    case $1 in ok | skipped) ;; *) sed 's/^/    /' "$work/$test.out" ;; esac
+}
+
+# Tries a test, tells how it ended, and counts it. One that watches the clock has a second try behind all others.
+try_test() {
+    test=$1
+    read_clock
+    began=$clock
+    can_run "$test"
+    case $? in
+    0) ;;
+    127)
+        echo "test_$test or needs_$test is not there, or calls what is not" >"$work/$test.out"
+        tell FAILED
+        failed=$((failed + 1))
+        return
+        ;;
+    *)
+        tell skipped " ($missing is not here)"
+        skipped=$((skipped + 1))
+        return
+        ;;
+    esac
+    if run_test "$test"; then
+        tell "ok${SECOND_TRY:+ at the second try}"
+        passed=$((passed + 1)) again=$((again + ${SECOND_TRY:-0}))
+    elif watches_clock "$test" && [ -z "${SECOND_TRY-}" ]; then
+        tell 'has a second try'
+        later="$later $test"
+    else
+        tell FAILED
+        failed=$((failed + 1))
+    fi
+}
+
+# Runs the tests that are named, and counts. For tests/check, which sets LISTED, they are listed alone; and where it sets COUNTS, the
+# counts go into that file, and those that want a second try into the file LATER.
 run_tests() {
-    for test; do
-        can_run "$test"
-        can=$?
-        if [ $can -eq 127 ]; then
-            echo "FAILED: $test (test_$test or needs_$test is not there, or calls what is not)"
-            failed=$((failed + 1))
-        elif [ $can -ne 0 ]; then
-            echo "skipped: $test ($missing is not here)"
-            skipped=$((skipped + 1))
-        elif run_test "$test"; then
-            echo "ok: $test"
-            passed=$((passed + 1))
-        elif watches_clock "$test" && echo '-- the second try' >>"$work/$test.out" && run_test "$test"; then
-            echo "ok at the second try: $test"
-            sed 's/^/    /' "$work/$test.out"
-            passed=$((passed + 1)) again=$((again + 1))
-        else
-            echo "FAILED: $test"
-            sed 's/^/    /' "$work/$test.out"
-            failed=$((failed + 1))
-        fi
-    done
-    echo "$(basename "$0"): $passed passed ($again at the second try), $failed failed, $skipped skipped"
-    [ -z "${FARMDAWN_COUNTS-}" ] || echo "$passed $failed $skipped $again" >>"$FARMDAWN_COUNTS"
+    if [ -n "${LISTED-}" ]; then
+        for name; do echo "$file $name"; done >>"$LISTED"
+        return
+    fi
+    for name; do try_test "$name"; done
+    if [ -n "${COUNTS-}" ]; then
+        echo "$passed $failed $skipped $again" >>"$COUNTS"
+        for name in $later; do echo "$file $name"; done >>"$LATER"
+    else
+        SECOND_TRY=1
+        for name in $later; do try_test "$name"; done
+        echo "$file: $passed passed ($again at the second try), $failed failed, $skipped skipped"
+    fi
     [ "$failed" -eq 0 ]
 }
 
 # A repository in the folder `repository` with so many commits, of which those from BAD on have a file `bug`.
 make_line() {
     git init -q -b main repository && cd repository || exit 1
-    number=0
-    while [ $number -lt "$1" ]; do
-        echo $number >content
-        [ $number -lt "$2" ] || echo bug >bug
-        git add -A && git commit -q -m "change $number" || exit 1
-        number=$((number + 1))
-    done
+    awk -v commits="$1" -v bad="$2" 'BEGIN { for (i = 0; i < commits; i++) {
+        printf "commit refs/heads/main\nauthor %s <%s> now\ncommitter %s <%s> now\n", ENVIRON["GIT_AUTHOR_NAME"],
+            ENVIRON["GIT_AUTHOR_EMAIL"], ENVIRON["GIT_COMMITTER_NAME"], ENVIRON["GIT_COMMITTER_EMAIL"]
+        printf "data <<END\nchange %d\nEND\nM 100644 inline content\ndata <<END\n%d\nEND\n", i, i
+        if (i == bad) print "M 100644 inline bug\ndata <<END\nbug\nEND" } }' |
+        git fast-import --quiet --date-format=now && git reset -q --hard || exit 1
 }
 
 # The first bad commit by git bisect run, over the same words.
@@ -127,13 +165,22 @@ git_answer() {
 answer_of() { "$@" 2>told | tail -n 1; }
 first_bad() { echo "$(git rev-parse "$1") is the first bad commit"; }
 
-# No process runs on whose words have the sleep of this run. One that was sent a signal may be seen for a moment longer, and
-# what ends by itself for six seconds.
-nothing_sleeps() {
-    turns=0
-    while [ -n "$(pgrep -f "$long_sleep")" ] && [ $turns -lt 60 ]; do turns=$((turns + 1)) && sleep 0.1; done
-    expect 'no test runs on' [ -z "$(pgrep -f "$long_sleep")" ]
+# Waits until a command succeeds. Where it does not within a minute, it is told as what is not so.
+wait_until() {
+    awaited=$1 turns=0
+    shift
+    until "$@"; do
+        turns=$((turns + 1))
+        [ $turns -lt 600 ] || expect "$awaited" false
+        sleep 0.1
+    done
 }
+
+# No process runs whose words have this.
+none_runs() { [ -z "$(pgrep -f "$1")" ]; }
+
+# No process runs on whose words have the sleep of this run. One that was sent a signal may be seen for a while longer.
+nothing_sleeps() { wait_until 'no test runs on' none_runs "$long_sleep"; }
 
 # Nothing of a run is left: no worktree but the main one, no folder of a run, no process of a test.
 nothing_left() {

@@ -25,15 +25,8 @@ search() {
     exec "$farmdawn" run --workers "$workers" "$@" main main~39 -- sh -c "$test_words" "$name"
 }
 
-# Behind the program's end no test outlasts its own time.
-tests_end() {
-    turns=0
-    while pgrep -f "$name" >/dev/null; do
-        turns=$((turns + 1))
-        [ $turns -lt 15 ] || expect 'no test is left' false
-        sleep 0.1
-    done
-}
+# Behind the program's end no test is left once its own time is over.
+tests_end() { wait_until 'no test is left' none_runs "$name"; }
 
 # Sends a signal at many moments; the words of the search follow it.
 end_by() {
@@ -168,6 +161,11 @@ test_slow_input() {
     done
 }
 
+# None of the tests of a search runs, and none of its programs, which have a lock.
+tests_have_ended() {
+    none_runs "$long_sleep" && { flock -n .git/farmdawn/run.*/lock true 2>/dev/null || [ ! -e .git/farmdawn/run.*/lock ]; }
+}
+
 # Where the system can, the tests of git farmdawn end with it, however it ends; and it ends with `git`.
 needs_script_killed() { needs_all && has flock setsid && missing='setpriv --pdeathsig' && setpriv --pdeathsig TERM true; }
 test_script_killed() {
@@ -178,12 +176,7 @@ test_script_killed() {
         until [ "$(pgrep -f "$long_sleep" | wc -l)" -ge 4 ]; do expect 'the search goes on' kill -0 $! && sleep 0.1; done
         kill -KILL $!
         wait $!
-        turns=0
-        while [ -n "$(pgrep -f "$long_sleep")" ] || ! flock -n .git/farmdawn/run.*/lock true 2>/dev/null && [ -e .git/farmdawn/run.*/lock ]; do
-            turns=$((turns + 1))
-            [ $turns -lt 100 ] || expect "the tests of $tool end with it" false
-            sleep 0.1
-        done
+        wait_until "the tests of $tool end with it" tests_have_ended
         expect 'the next search is right' [ "$(git farmdawn main main~39 -- test ! -e bug 2>told | tail -n 1)" = "$(git rev-parse main~19) is the first bad commit" ]
         nothing_left
     done

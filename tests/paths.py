@@ -13,12 +13,15 @@ of git bisect run. What differs is told with its reason, which is looked for in 
 
 bad end: no commit that changes the paths is bad. git has no answer then, and git farmdawn names the bad end and says so.
 anew: git simplifies merges again from the marks that it has, and so tested a commit that its first list had not.
+unlisted: git is at the commit that git farmdawn names, a merge, and ends without an answer, as it takes that for one that changes
+none of the paths. It looks at parents that no good commit reaches, and at those that are good ends; which a good commit reaches it
+knows by the history that it has walked so far, in the order of dates. git farmdawn names the merge bases, too, and lists once.
 both right: each answer is bad, and no commit that changes the paths is left between it and the good ones of its own log; that
 may be so of several commits where the verdicts are not plain, or come by a commit that changes none of the paths.
 one of them: where other commits were tested, one met a test that stops the search, a bad merge base, or skipped commits alone, to
 which git farmdawn counts a bad end that changes none of the paths.
 
-Where the verdicts are bad from one commit on, and that one changes the paths, no difference is right but anew.
+Where the verdicts are bad from one commit on, and that one changes the paths, no difference is right but anew and unlisted.
 """
 import argparse
 import collections
@@ -45,7 +48,7 @@ def quoted(path):
 def random_files(choice, names, parents):
     """The files of a commit by those of its parents."""
     files = dict(choice.choice(parents)) if parents else {}
-    for name in {name for parent in parents for name in parent}:
+    for name in sorted({name for parent in parents for name in parent}):
         if len(parents) > 1 and choice.random() < 0.3:
             files[name] = choice.choice([parent.get(name, "gone") for parent in parents])
     for name in names:
@@ -98,8 +101,8 @@ def by_git(folder, question, paths):
 
 
 def listed(folder, question, paths, bad, goods):
-    """The commits that git lists for the paths."""
-    return git(folder, "rev-list", *(option for option in question.options if option == "--first-parent"), bad, *(f"^{good}" for good in goods), "--",
+    """The commits that git lists for the paths, once it has walked the history."""
+    return git(folder, "rev-list", "--topo-order", *(option for option in question.options if option == "--first-parent"), bad, *(f"^{good}" for good in goods), "--",
                *(f":(literal){path}" for path in paths))
 
 
@@ -164,6 +167,11 @@ def statuses_of(said, short):
     return (re.findall(rf"^(\S+) +{short}  ", said.told, re.M) or ["stop"])[0]
 
 
+def lists_none(question, tool, theirs):
+    """Whether git is at the commit that git farmdawn names, and found that it has no commit to test there."""
+    return theirs.status == 4 and theirs.answer is None and [tool.answer] == (last_bad(question, theirs) or [question.bad])
+
+
 def against_git(folder, question, paths, tool, theirs, changes):
     """How the answer of git bisect run stands to ours."""
     bases = git(folder, "merge-base", "--all", question.bad, *question.goods)
@@ -174,6 +182,8 @@ def against_git(folder, question, paths, tool, theirs, changes):
         return "bad end"
     if not {name for _, name in theirs.marks} <= set(first):
         return "anew"
+    if lists_none(question, tool, theirs) and is_right(folder, question, paths, tool):
+        return "unlisted"
     if question.plain and changes:
         return "DIFFERENT"
     if all(isinstance(said.answer, str) for said in (tool, theirs)) and is_right(folder, question, paths, tool) and is_right(folder, question, paths, theirs):
@@ -220,7 +230,7 @@ def try_one(number, arguments):
             statuses[names.index(parent)] for parent in git(folder, "rev-list", "--parents", "-n", "1", name)[1:])]
         changes = plain and all(name in listed(folder, question, paths, question.bad, question.goods) for name in culprits)
         beside = against_git(folder, question, paths, tool, theirs, changes)
-        if tool.status in (0, 2) and beside != "bad end" and replayed(folder, text, question) != last_bad(question, tool):
+        if tool.status in (0, 2) and beside not in ("bad end", "unlisted") and replayed(folder, text, question) != last_bad(question, tool):
             wrong.append("git comes to another commit by the log")
         return number, question, paths, tool, theirs, wrong, beside
     finally:
@@ -237,7 +247,7 @@ def main():
         numbers = range(arguments.first, arguments.first + arguments.count)
         for number, question, paths, tool, theirs, wrong, beside in pool.map(lambda n: try_one(n, arguments), numbers):
             counts[beside] += 1
-            if wrong or beside not in ("same answer", "no answer in both", "refused", "bad end", "both right"):
+            if wrong or beside not in ("same answer", "no answer in both", "refused", "bad end", "unlisted", "both right"):
                 print(f"{number}: {beside} {wrong}: {question} {paths}\n  git farmdawn {tool}\n  git bisect run {theirs}", flush=True)
             failures += bool(wrong) or beside == "DIFFERENT"
     print(", ".join(f"{key}: {count}" for key, count in sorted(counts.items())))

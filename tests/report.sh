@@ -103,6 +103,7 @@ make_hostile() {
     git fast-import --quiet <../stream && git reset -q --hard 2>/dev/null
 }
 
+# Each test waits until all have begun, so that all are told.
 needs_hostile() { needs_all; }
 test_hostile() {
     make_hostile
@@ -110,8 +111,10 @@ test_hostile() {
     for awk in mawk gawk 'busybox awk'; do
         command -v "${awk% *}" >/dev/null || continue
         mkdir -p ../bin && printf '#!/bin/sh\nexec %s "$@"\n' "$awk" >../bin/awk && chmod +x ../bin/awk
-        PATH=$PWD/../bin:$PATH git farmdawn --fresh --workers 9 --report ../report main main~9 -- sh -c \
-            'git log -1 --format=%B; cat path*; head -c 300 /dev/zero; test ! -e bug' "$(printf '<\n&"\\\033\342\202\254\n')" >log 2>told
+        rm -rf ../met && mkdir ../met || exit 1
+        MET=$PWD/../met PATH=$PWD/../bin:$PATH git farmdawn --fresh --workers 9 --report ../report main main~9 -- sh -c \
+            'touch "$MET/$FARMDAWN_COMMIT"; until [ "$(ls "$MET" | wc -l)" -ge 8 ]; do sleep 0.1; done
+            git log -1 --format=%B; cat path*; head -c 300 /dev/zero; test ! -e bug' "$(printf '<\n&"\\\033\342\202\254\n')" >log 2>told
         expect "a search by $awk" [ $? -eq 0 ]
         expect 'its report' report_is log 'status=0'
         expect 'of most commits' [ "$(grep -c '"commit": ' ../report/result.json)" -ge 8 ]

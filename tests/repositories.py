@@ -286,7 +286,7 @@ def try_one(number, arguments):
         tool, whole, theirs = by_tool(folder, question), by_whole(folder, question, dict(zip(names, statuses))), by_git(folder, question)
         same = same_search(folder, question, tool, whole)
         beside = against_git(folder, question, tool, theirs)
-        left = len(git(folder, "worktree", "list", "--porcelain")) > 6
+        left = git(folder, "worktree", "list", "--porcelain").count("worktree") > 1
         if arguments.keep and (not same or beside == "DIFFERENT"):
             shutil.copytree(folder, os.path.join(arguments.keep, str(number)), dirs_exist_ok=True)
         return number, question, tool, whole, theirs, same, beside, left

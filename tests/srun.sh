@@ -164,7 +164,7 @@ test_functions() {
     { echo "#!$(command -v bash)" && sed 1d "$top/tools/farmdawn-srun"; } >bin/farmdawn-srun
     chmod +x bin/farmdawn-srun
     # shellcheck disable=SC2016
-    timeout 20 bash -c 'for name in kill printf read mktemp sleep test cd rm wait true exit set unset trap eval exec export; do
+    timeout 60 bash -c 'for name in kill printf read mktemp sleep test cd rm wait true exit set unset trap eval exec export; do
             eval "$name() { return 3; }"; export -f "$name"
         done; builtin exec bin/farmdawn-srun --tries 1 -- sh -c "exit 77" name' 2>err
     expect 'the verdict' [ $? -eq 77 ]
@@ -193,8 +193,6 @@ test_parents() {
     until [ -e began ]; do expect 'the test runs' kill -0 $! && sleep 0.1; done
     kill -KILL $!
     wait $! 2>/dev/null
-    turns=0
-    while [ -n "$(pgrep -f "$long_sleep")" ] && [ $turns -lt 90 ]; do turns=$((turns + 1)) && sleep 0.1; done
     nothing_sleeps
 }
 

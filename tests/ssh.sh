@@ -68,14 +68,14 @@ test_words() {
     stand_in
     for words in '--tries 0 there' '--tries x there' '--tries 9999999999 there' there:x there:0 there: there:-1 there:1x there:9999999999 :4 :; do
         # shellcheck disable=SC2086
-        timeout 20 farmdawn-ssh --slots slots $words -- true name >out 2>err
+        timeout 60 farmdawn-ssh --slots slots $words -- true name >out 2>err
         expect "a fault: $words" [ $? -eq 255 ]
         expect 'a line on standard error' [ "$(grep -c ' want' err)" -eq 1 ]
     done
-    timeout 20 farmdawn-ssh --slots slots there:3 -- sh -c 'exit 9' name
+    timeout 60 farmdawn-ssh --slots slots there:3 -- sh -c 'exit 9' name
     expect 'right words' [ $? -eq 9 ]
     rm slots/there.0 && mkdir slots/there.0
-    timeout 20 farmdawn-ssh --slots slots there -- true name
+    timeout 60 farmdawn-ssh --slots slots there -- true name
     expect 'a place that cannot be locked is no verdict' [ $? -eq 255 ]
     expect 'nothing is left' [ -z "$(ls tmp)" ]
 }
@@ -102,12 +102,12 @@ test_waiting() {
 needs_hosts() { has flock mkfifo timeout; }
 test_hosts() {
     stand_in
-    timeout 20 farmdawn-ssh --slots slots --tries 2 lost lost:2 -- true name 2>err
+    timeout 60 farmdawn-ssh --slots slots --tries 2 lost lost:2 -- true name 2>err
     expect 'a lost test' [ $? -eq 255 ]
     expect 'which was tried twice' [ "$(grep -c 'on lost was lost' err)" -eq 2 ]
-    timeout 20 farmdawn-ssh --slots slots --tries 2 lost lost lost:2 there -- sh -c 'exit 9' name
+    timeout 60 farmdawn-ssh --slots slots --tries 2 lost lost lost:2 there -- sh -c 'exit 9' name
     expect 'another host tests it' [ $? -eq 9 ]
-    timeout 20 farmdawn-ssh --slots slots --tries 3 lost1 lost2 -- true name 2>err
+    timeout 60 farmdawn-ssh --slots slots --tries 3 lost1 lost2 -- true name 2>err
     expect 'a test that is lost on two' [ $? -eq 255 ]
     expect 'in turns' [ "$(sed 's/.* on \(.*\) was lost/\1/' err | tr '\n' ' ')" = 'lost1 lost2 lost1 ' ]
 }
@@ -148,7 +148,7 @@ test_interrupts() {
     done
     sleep 1
     # what watches the connection on the host has the words of the test, and stays for a while
-    expect 'no test runs on' [ -z "$(pgrep -f "^$long_sleep")" ]
+    wait_until 'no test runs on' none_runs "^$long_sleep"
 }
 
 needs_many() { has_ssh; }
@@ -181,7 +181,7 @@ test_answers() {
     stand_in_told
     while IFS= read -r told; do
         printf '%b' "$told" >told
-        timeout 20 farmdawn-ssh --slots slots --tries 1 there -- true name 2>err
+        timeout 60 farmdawn-ssh --slots slots --tries 1 there -- true name 2>err
         expect "no verdict of what was told: $told" [ $? -eq 255 ]
         expect 'which is told' grep -q 'on there was lost' err
     done <<'END'
@@ -201,7 +201,7 @@ TOKEN -1 ended\n
 other-status 0 ended\n
 END
     printf 'Welcome to this host\nTOKEN 9 ended\n' >told
-    timeout 20 farmdawn-ssh --slots slots --tries 1 there -- true name
+    timeout 60 farmdawn-ssh --slots slots --tries 1 there -- true name
     expect 'a whole line is a verdict' [ $? -eq 9 ]
 }
 
@@ -213,7 +213,7 @@ test_slots() {
     mkdir taken && chmod 1777 tmp
     for name in farmdawn-ssh "farmdawn-ssh-$(id -u)"; do
         mkdir "tmp/$name" && ln -s "$PWD/victim" "tmp/$name/there.0" && ln -s "$PWD/made" "tmp/$name/there.1"
-        timeout 20 farmdawn-ssh --tries 1 there:2 -- sh -c 'exit 9' name 2>err
+        timeout 60 farmdawn-ssh --tries 1 there:2 -- sh -c 'exit 9' name 2>err
         ended=$?
         expect 'no file is emptied by a link' [ "$(cat victim)" = kept ]
         expect 'nor made' [ ! -e made ]
@@ -221,23 +221,23 @@ test_slots() {
     done
     expect 'no verdict with such a file in our folder' [ "$ended $(grep -c 'not a file of yours' err)" = '255 1' ]
     ln -s "$PWD/taken" "tmp/farmdawn-ssh-$(id -u)"
-    timeout 20 farmdawn-ssh --tries 1 there -- true name 2>err
+    timeout 60 farmdawn-ssh --tries 1 there -- true name 2>err
     expect 'nor in a folder that a link leads to' [ "$? $(grep -c 'is a link' err)" = '255 1' ]
     rm "tmp/farmdawn-ssh-$(id -u)"
-    timeout 20 farmdawn-ssh there -- sh -c 'exit 9' name
+    timeout 60 farmdawn-ssh there -- sh -c 'exit 9' name
     expect 'a verdict' [ $? -eq 9 ]
     # shellcheck disable=SC2012
     expect 'our folder is for us alone' [ "$(ls -ld "tmp/farmdawn-ssh-$(id -u)" | cut -c1-10)" = drwx------ ]
     chmod 777 "tmp/farmdawn-ssh-$(id -u)"
-    timeout 20 farmdawn-ssh there -- true name 2>err
+    timeout 60 farmdawn-ssh there -- true name 2>err
     expect 'no verdict in one that others may write' [ "$? $(grep -c 'by others' err)" = '255 1' ]
     for host in ../x /x 'a b' '' 'a
 b'; do
-        timeout 20 farmdawn-ssh --slots slots "$host" -- true name 2>err
+        timeout 60 farmdawn-ssh --slots slots "$host" -- true name 2>err
         expect "no host: '$host'" [ "$? $(grep -c 'is wanted' err)" = '255 1' ]
     done
     touch there
-    timeout 20 farmdawn-ssh --slots slots 't*' -- sh -c 'exit 9' name
+    timeout 60 farmdawn-ssh --slots slots 't*' -- sh -c 'exit 9' name
     expect 'a host is no pattern of files' [ "$? $(ls slots)" = '9 t*.0' ]
 }
 
@@ -245,10 +245,10 @@ needs_others() { has flock mkfifo timeout && missing='root, who makes files of o
 test_others() {
     stand_in
     mkdir tmp/farmdawn-ssh-0 && chown nobody tmp/farmdawn-ssh-0
-    timeout 20 farmdawn-ssh --tries 1 there -- true name 2>err
+    timeout 60 farmdawn-ssh --tries 1 there -- true name 2>err
     expect 'no verdict in the folder of another' [ "$? $(grep -c 'another user' err)" = '255 1' ]
     chown 0 tmp/farmdawn-ssh-0 && : >tmp/farmdawn-ssh-0/there.0 && chown nobody tmp/farmdawn-ssh-0/there.0
-    timeout 20 farmdawn-ssh --tries 1 there -- true name 2>err
+    timeout 60 farmdawn-ssh --tries 1 there -- true name 2>err
     expect 'nor with a file of another' [ "$? $(grep -c 'not a file of yours' err)" = '255 1' ]
 }
 
@@ -259,7 +259,7 @@ test_limit() {
     mkdir slots
     flock slots/there.0 sh -c 'touch held; while [ -e .. ] && [ ! -e off ]; do sleep 0.1; done' &
     until [ -e held ]; do sleep 0.1; done
-    timeout 30 farmdawn-ssh --slots slots --wait 2 there -- touch tested name 2>err
+    timeout 60 farmdawn-ssh --slots slots --wait 2 there -- touch tested name 2>err
     expect 'no verdict, and two lines' [ "$? $(grep -c 'waits for a host\|no host was free for 2 s' err)" = '255 2' ]
     expect 'no test was run' [ ! -e tested ]
     touch off
@@ -272,13 +272,13 @@ test_environment() {
     echo 'exit 3' >startup
     mkdir -p elsewhere/folder elsewhere/slots folder
     for setting in "ENV=$PWD/startup" "BASH_ENV=$PWD/startup" IFS=7 POSIXLY_CORRECT=1 LC_ALL=C.UTF-8 "CDPATH=$PWD/elsewhere" "FARMDAWN_PARENT=1 1"; do
-        env "$setting" timeout 20 farmdawn-ssh --slots slots --folder folder there:17 -- sh -c '[ "$PWD" = "$1" ] && exit 77' sh "$PWD/folder" name
+        env "$setting" timeout 60 farmdawn-ssh --slots slots --folder folder there:17 -- sh -c '[ "$PWD" = "$1" ] && exit 77' sh "$PWD/folder" name
         expect "$setting" [ $? -eq 77 ]
     done
     for variable in host status hosts tries verdict me own token farmdawn folder; do
         # shellcheck disable=SC2016
         env "$variable=it's
-mine " timeout 20 farmdawn-ssh --slots slots --folder "$PWD" there -- sh -c 'eval "[ \"\$$1\" = \"$2\" ]" && exit 77' sh "$variable" "it's
+mine " timeout 60 farmdawn-ssh --slots slots --folder "$PWD" there -- sh -c 'eval "[ \"\$$1\" = \"$2\" ]" && exit 77' sh "$variable" "it's
 mine " name
         expect "the user's own $variable" [ $? -eq 77 ]
     done
@@ -291,7 +291,7 @@ test_functions() {
     { echo "#!$(command -v bash)" && sed 1d "$top/tools/farmdawn-ssh"; } >bin/farmdawn-ssh
     chmod +x bin/farmdawn-ssh
     # shellcheck disable=SC2016
-    timeout 20 bash -c 'for name in flock kill printf read ls id mkfifo mktemp sleep test cd rm wait true chmod exit set unset trap eval exec export; do
+    timeout 60 bash -c 'for name in flock kill printf read ls id mkfifo mktemp sleep test cd rm wait true chmod exit set unset trap eval exec export; do
             eval "$name() { return 3; }"; export -f "$name"
         done; builtin exec bin/farmdawn-ssh --slots slots there -- sh -c "exit 77" name' 2>err
     expect 'the verdict' [ $? -eq 77 ]
@@ -320,9 +320,7 @@ test_parents() {
     until [ -e began ]; do expect 'the test runs' kill -0 $! && sleep 0.1; done
     kill -KILL $!
     wait $! 2>/dev/null
-    turns=0
-    while [ -n "$(pgrep -f "^$long_sleep")" ] && [ $turns -lt 90 ]; do turns=$((turns + 1)) && sleep 0.1; done
-    expect 'no test runs on' [ -z "$(pgrep -f "^$long_sleep")" ]
+    wait_until 'no test runs on' none_runs "^$long_sleep"
 }
 
 by_clock='interrupts parents'

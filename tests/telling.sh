@@ -44,6 +44,19 @@ test_paths() {
     nothing_left
 }
 
+# Along first parents a merge that changes none of the paths is no candidate, also where good commits reach all of its parents.
+needs_paths_of_merges() { needs_all; }
+test_paths_of_merges() {
+    make_line 2 9
+    tree=$(git rev-parse 'main^{tree}')
+    one=$(git commit-tree -p main -m one "$tree") && two=$(git commit-tree -p main -m two "$tree") || exit 1
+    good=$(git commit-tree -p "$one" -p "$two" -m good "$tree") || exit 1
+    echo bug >bug && git add -A && bad=$(git commit-tree -p main -p "$one" -p "$two" -m bad "$(git write-tree)") || exit 1
+    expect 'the bad end is what is left' [ "$(answer_of git farmdawn --first-parent --path content "$bad" "$good" -- sh -c "$command")" = "$(first_bad "$bad")" ]
+    expect 'which is told' grep -q "none of the commits that change these paths is bad, and $bad changes none of them" told
+    nothing_left
+}
+
 # What cannot be searched by is named, and nothing is tested.
 needs_wrong_paths() { needs_all; }
 test_wrong_paths() {
@@ -93,5 +106,5 @@ test_progress() {
 needs_terminal() { needs_all && has python3 stty; }
 test_terminal() { expect 'on a terminal' python3 "$top/tests/terminal.py"; }
 
-[ $# -gt 0 ] || set -- paths wrong_paths progress terminal
+[ $# -gt 0 ] || set -- paths paths_of_merges wrong_paths progress terminal
 run_tests "$@"

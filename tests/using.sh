@@ -54,7 +54,7 @@ install_built() {
         echo 'case $1 in install) ;; *) exec '"$(command -v make)"' "$@" ;; esac'
         echo "make=$(command -v make)"
         # shellcheck disable=SC2016
-        echo '$make -s install-scripts "$2" && install -D -m 755 '"$farmdawn"' "${2#PREFIX=}/bin/farmdawn"'
+        echo '$make -s install-scripts "$2" && install -D -m 755 "'"$farmdawn"'" "${2#PREFIX=}/bin/farmdawn"'
     } >shim/make
     chmod +x shim/make
     PATH=$PWD/shim:$PATH
@@ -85,11 +85,12 @@ is_wanted() {
 run_page() {
     take_apart "$PWD/blocks"
     blocks=$PWD/blocks
-    # a newcomer: another home, and nothing of this checkout on the path
+    # a newcomer: another home, whose name needs no quotes, and nothing of this checkout on the path
     PATH=${PATH#"$top/tools:"}
     unset FARMDAWN
-    export HOME="$PWD/home"
-    mkdir "$HOME"
+    HOME=$(TMPDIR=/tmp mktemp -d) || exit 1
+    export HOME
+    trap 'rm -rf "$HOME"' EXIT
     install_built
     cd "$top" || exit 1
     for block in "$blocks"/*; do
