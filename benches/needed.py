@@ -1,7 +1,7 @@
 #!/usr/bin/env python3
 """What it saves that tests are ended which nobody asks for any more: the table in docs/USING.md.
 
-Usage: benches/needed.py [--commits N] [--mean SECONDS] [--searches N] [--workers N,N,..] [--jobs N]
+Usage: benches/needed.py [--commits N] [--mean SECONDS] [--searches N] [--workers N,N,..] [--kinds KIND,KIND,..] [--jobs N]
 
 Each search is one of `git farmdawn` over a line of commits, of which those from a random one on are bad. A test sleeps: as long
 as all others, or between a fifth and nine fifths of the mean, or of very different length (lognormal, sigma 0.8); and one kind
@@ -74,10 +74,11 @@ def main():
         parser.add_argument(f"--{option}", type=int, default=default)
     parser.add_argument("--mean", type=float, default=5)
     parser.add_argument("--workers", default="1,2,4,8,16")
+    parser.add_argument("--kinds", default=",".join(KINDS))
     arguments = parser.parse_args()
     counts = [int(word) for word in arguments.workers.split(",")]
     with tempfile.TemporaryDirectory() as room, ThreadPoolExecutor(arguments.jobs) as pool:
-        rows = [(kind, needed) for kind in KINDS for needed in ("never", None if kind == "short" else "1")]
+        rows = [(kind, needed) for kind in arguments.kinds.split(",") for needed in ("never", None if kind == "short" else "1")]
         due = {(kind, needed, workers): [pool.submit(search, room, kind, seed, workers, needed, arguments) for seed in range(arguments.searches)]
                for kind, needed in rows for workers in counts}
         print("| Tests | Ended | " + " | ".join(f"{count} worker{'s' if count > 1 else ''}" for count in counts) + " |")
