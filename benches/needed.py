@@ -79,14 +79,15 @@ def main():
     counts = [int(word) for word in arguments.workers.split(",")]
     with tempfile.TemporaryDirectory() as room, ThreadPoolExecutor(arguments.jobs) as pool:
         rows = [(kind, needed) for kind in arguments.kinds.split(",") for needed in ("never", None if kind == "short" else "1")]
-        due = {(kind, needed, workers): [pool.submit(search, room, kind, seed, workers, needed, arguments) for seed in range(arguments.searches)]
-               for kind, needed in rows for workers in counts}
+        # the two rows of a kind at the same time, as others may keep the machine busy, too
+        due = {(seed, kind, workers, needed): pool.submit(search, room, kind, seed, workers, needed, arguments)
+               for kind in arguments.kinds.split(",") for workers in counts for seed in range(arguments.searches) for it, needed in rows if it == kind}
         print("| Tests | Ended | " + " | ".join(f"{count} worker{'s' if count > 1 else ''}" for count in counts) + " |")
         print("|---|---|" + "---|" * len(counts))
         for kind, needed in rows:
             cells = []
             for workers in counts:
-                done = [one.result() for one in due[kind, needed, workers]]
+                done = [due[seed, kind, workers, needed].result() for seed in range(arguments.searches)]
                 cells.append(f"{sum(spent for spent, _ in done) / len(done):.1f} ({sum(tests for _, tests in done) / len(done):.0f})")
             print(f"| {kind} | {'at the end' if needed == 'never' else 'when needless'} | " + " | ".join(cells) + " |", flush=True)
 
