@@ -65,16 +65,21 @@ def make_repository(choice, folder):
 
 
 def write_table(choice, table, names, parents):
-    """What the test of each commit ends with, and after how long: bad from one commit on, but for some."""
+    """What the test of each commit ends with, and after how long: bad from one commit on, but for some. In half of the searches what
+    stops a search is there soon, then skips, and then the rest, so that what stood behind the first is asked for again."""
     os.mkdir(table)
     culprit, after = choice.randrange(len(names)), set()
     wild, share = choice.choice(WILD), choice.choice([0.1, 0.3, 0.5, 0.7])
+    in_turn = choice.random() < 0.5
+    if in_turn:
+        wild, share = [125, 125, 128], 0.5
     for number, name in enumerate(names):
         if number == culprit or after.intersection(parents[number]):
             after.add(number)
         status = choice.choice(wild) if choice.random() < share else int(number in after)
         with open(os.path.join(table, name), "w") as file:
-            file.write(f"{choice.choice(LENGTHS)} {status}\n")
+            length = {125: 0.7, 128: 0}.get(status, 1.5) if in_turn else choice.choice(LENGTHS)
+            file.write(f"{length} {status}\n")
 
 
 def random_search(choice, names):
