@@ -13,7 +13,7 @@ DIST ?= dist
 
 SCRIPTS = git-farmdawn farmdawn-worktree farmdawn-srun farmdawn-ssh
 # what a script starts or reads for itself, and has no page
-PARTS = farmdawn-part farmdawn-history farmdawn-progress farmdawn-certificate farmdawn-report
+PARTS = farmdawn-part farmdawn-history farmdawn-progress farmdawn-needed farmdawn-certificate farmdawn-report
 BIN = $(DESTDIR)$(PREFIX)/bin
 MAN = $(DESTDIR)$(PREFIX)/share/man/man1
 BASH_COMPLETIONS = $(DESTDIR)$(PREFIX)/share/bash-completion/completions

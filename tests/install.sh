@@ -3,7 +3,7 @@
 . "$(dirname "$0")/helpers.sh"
 
 scripts='git-farmdawn farmdawn-worktree farmdawn-srun farmdawn-ssh'
-parts='farmdawn-part farmdawn-history farmdawn-progress farmdawn-certificate farmdawn-report'
+parts='farmdawn-part farmdawn-history farmdawn-progress farmdawn-needed farmdawn-certificate farmdawn-report'
 
 needs_files() { has make install; }
 test_files() {

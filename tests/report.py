@@ -74,7 +74,7 @@ def check_tests(result, folder):
         else:
             expect(f"no status: {test}", test["status"] is None and not test["used"])
         expect(f"used as the log says: {test}", test["used"] == (test["commit"] in marks or test["commit"] in ends) or test["status"] is None)
-        if test["commit"] in marks:
+        if test["commit"] in marks and test["outcome"] != "ended":
             expect(f"the outcome of the log: {test}", test["outcome"] == marks[test["commit"]])
         if test["log"]:
             expect(f"its output: {test}", test["log"] == f"outputs/{test['commit']}.txt" and os.path.isfile(os.path.join(folder, test["log"])))

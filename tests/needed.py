@@ -1,0 +1,171 @@
+#!/usr/bin/env python3
+"""Random searches in which tests that nobody asks for any more are ended at every turn, each beside one worker's, byte for byte:
+needed.py [--seed N] [--count N] [--from N] [--jobs N] [--checkouts]
+
+The histories have merges, and tests that skip or stop the search, each with a length of its own. FARMDAWN names the program. With
+--checkouts tests run in checkouts; without it a stand-in for farmdawn-worktree reads what they end with, so that a search takes
+little more than its tests."""
+import argparse
+import collections
+import os
+import random
+import re
+import shutil
+import subprocess
+import sys
+import tempfile
+from concurrent.futures import ThreadPoolExecutor
+
+from repositories import CALM, FARMDAWN, TOP, call, git
+
+# what a test of a commit does: a line of the file of its name has the seconds that it takes, and its status
+TEST = """read -r pause status <"$0/$FARMDAWN_COMMIT"
+[ -n "${AT_ONCE-}" ] || sleep "$pause"
+exit "$status"
+"""
+STAND_IN = """#!/bin/sh
+for commit; do :; done
+read -r pause status <"$TABLE/$commit"
+[ -z "${AT_ONCE-}" ] || exit "$status"
+trap 'kill $!; exit 255' TERM
+sleep "$pause" &
+wait $!
+exit "$status"
+"""
+LENGTHS = [0, 0.1, 0.2, 0.5, 1, 2]
+# statuses that tests of some commits have in place of theirs
+WILD = [[0, 1, 125], [125], [125], [125] * 5 + [128], [0, 1, 125, 125, 255]]
+
+Search = collections.namedtuple("Search", "words workers")
+
+
+def random_parents(choice):
+    """The parents of each commit, by number: more or less of a line."""
+    steps, merges = choice.choice([[1], [1, 1, 1, 2], [1, 2, 3]]), choice.choice([0, 0.1, 0.4])
+    parents = [[]]
+    for number in range(1, choice.randrange(6, 50)):
+        named = [max(0, number - choice.choice(steps))]
+        if choice.random() < merges:
+            named.append(choice.randrange(number))
+        parents.append(list(dict.fromkeys(named)))
+    return parents
+
+
+def make_repository(choice, folder):
+    """A repository of commits without files, with a ref c0, c1, .. on each; their names, and the parents by number."""
+    parents = random_parents(choice)
+    text = []
+    for number, named in enumerate(parents):
+        text.append(f"reset refs/heads/c{number}\n\ncommit refs/heads/c{number}\nmark :{number + 1}\ncommitter gen <gen@gen> {1700000000 + 60 * number} +0000\n"
+                    f"data <<END\nchange {number}\nEND\n")
+        text += [f"{'merge' if index else 'from'} :{parent + 1}\n" for index, parent in enumerate(named)]
+    call(".", "git", "init", "-q", "-b", "main", folder)
+    call(folder, "git", "fast-import", "--quiet", stdin="".join(text).encode())
+    return git(folder, "rev-parse", *(f"c{number}" for number in range(len(parents)))), parents
+
+
+def write_table(choice, table, names, parents):
+    """What the test of each commit ends with, and after how long: bad from one commit on, but for some. In half of the searches what
+    stops a search is there soon, then skips, and then the rest, so that what stood behind the first is asked for again."""
+    os.mkdir(table)
+    culprit, after = choice.randrange(len(names)), set()
+    wild, share = choice.choice(WILD), choice.choice([0.1, 0.3, 0.5, 0.7])
+    in_turn = choice.random() < 0.5
+    if in_turn:
+        wild, share = [125, 125, 128], 0.5
+    for number, name in enumerate(names):
+        if number == culprit or after.intersection(parents[number]):
+            after.add(number)
+        status = choice.choice(wild) if choice.random() < share else int(number in after)
+        with open(os.path.join(table, name), "w") as file:
+            length = {125: 0.7, 128: 0}.get(status, 1.5) if in_turn else choice.choice(LENGTHS)
+            file.write(f"{length} {status}\n")
+
+
+def random_search(choice, names):
+    words = ["--first-parent"] if choice.random() < 0.2 else []
+    if choice.random() < 0.2:
+        words += ["--term-new", "broken", "--term-old", "fine"]
+    for _ in range(choice.choice([0, 0, 1, 2])):
+        words += ["--skip", choice.choice(names)]
+    goods = [choice.choice(names[:3]) for _ in range(choice.choice([1, 1, 1, 2]))]
+    return Search(words + [names[-1 - choice.randrange(3)], *goods], choice.choice([2, 3, 4, 6, 9]))
+
+
+def farmdawn(folder, tools, table, search, workers, **more):
+    """The status, and what is printed and told."""
+    environment = {**CALM, "PATH": tools + os.pathsep + os.environ["PATH"], "TABLE": table, "FARMDAWN": FARMDAWN, **more}
+    words = ["git", "farmdawn", "--fresh", "--workers", str(workers), *search.words, "--", "sh", "-c", TEST, table]
+    try:
+        done = subprocess.run(words, cwd=folder, env=environment, stdin=subprocess.DEVNULL, stdout=subprocess.PIPE, stderr=subprocess.PIPE, timeout=600)
+    except subprocess.TimeoutExpired as late:
+        return "HANGS", (late.stdout or b"").decode(), (late.stderr or b"").decode()
+    return done.returncode, done.stdout.decode(), done.stderr.decode()
+
+
+def count_repeated(told):
+    """How many commits were tested again, as they were asked for again."""
+    tested = collections.Counter(re.findall(r": testing ([0-9a-f]+)$", told, re.M))
+    return sum(times - 1 for times in tested.values())
+
+
+def most_at_once(told):
+    """How many tests ran at once by what was told, where ended ones may still be dying."""
+    now = most = 0
+    for line in told.splitlines():
+        if ": testing " in line:
+            now += 1
+        elif re.match(r"\S+( longer needed)?  +[0-9a-f]{12}", line):
+            now -= 1
+        most = max(most, now)
+    return most
+
+
+def try_one(number, arguments, tools):
+    choice = random.Random(f"{arguments.seed} {number}")
+    work = tempfile.mkdtemp()
+    folder, table = os.path.join(work, "repository"), os.path.join(work, "table")
+    try:
+        names, parents = make_repository(choice, folder)
+        write_table(choice, table, names, parents)
+        search = random_search(choice, names)
+        due = farmdawn(folder, tools, table, search, 1, AT_ONCE="1", FARMDAWN_NEEDED="never")
+        got = farmdawn(folder, tools, table, search, search.workers, FARMDAWN_NEEDED="0")
+        left = [name for name in os.listdir(os.path.join(folder, ".git", "farmdawn")) if name.startswith("run.")]
+        left += git(folder, "worktree", "list", "--porcelain")[6:]
+        return number, search, due, got, left
+    finally:
+        shutil.rmtree(work, ignore_errors=True)
+
+
+def main():
+    parser = argparse.ArgumentParser(usage=__doc__)
+    for option, default in (("--seed", 1), ("--count", 50), ("--from", 0), ("--jobs", 4)):
+        parser.add_argument(option, type=int, default=default, dest=option.strip("-").replace("from", "first"))
+    parser.add_argument("--checkouts", action="store_true")
+    arguments = parser.parse_args()
+    counts, statuses, wrong = collections.Counter(), collections.Counter(), 0
+    with tempfile.TemporaryDirectory() as room, ThreadPoolExecutor(arguments.jobs) as pool:
+        tools = os.path.join(room, "tools")
+        shutil.copytree(os.path.join(TOP, "tools"), tools)
+        if not arguments.checkouts:
+            with open(os.path.join(tools, "farmdawn-worktree"), "w") as file:
+                file.write(STAND_IN)
+        numbers = range(arguments.first, arguments.first + arguments.count)
+        for number, search, due, got, left in pool.map(lambda n: try_one(n, arguments, tools), numbers):
+            ended, repeated = len(re.findall("^no longer needed", got[2], re.M)), count_repeated(got[2])
+            counts.update({"tests": got[2].count(": testing "), "ended": ended, "tested again": repeated,
+                           "searches with an ended test": ended > 0, "with one tested again": repeated > 0})
+            statuses[got[0]] += 1
+            same = got[:2] == due[:2] and not left and most_at_once(got[2]) <= search.workers
+            if not same:
+                print(f"{number}: {search} left: {left}\n---- one worker\n{due[0]}\n{due[1]}{due[2]}---- with tests ended\n{got[0]}\n{got[1]}{got[2]}", flush=True)
+            wrong += not same
+    print("statuses: " + ", ".join(f"{key}: {count}" for key, count in sorted(statuses.items())))
+    print(", ".join(f"{key}: {count}" for key, count in counts.items()))
+    print(f"{arguments.count} searches: {arguments.count - wrong} as one worker, {wrong} wrong")
+    sys.exit(1 if wrong else 0)
+
+
+if __name__ == "__main__":
+    main()
