@@ -1,5 +1,5 @@
 -- The search of `sample`: its plan, its ends, and what its run is told as.
-use Rattle.std.proofs.Common.{◌≡◌, ℕ, zero, suc, ◌==◌, ◌≤◌, ◌-◌, ◌/◌, Bool, if◌then◌else◌, true, false, List, [], ◌∷◌, ◌++◌, length, map, replicate, count_by, Option, Some, None}
+use Rattle.std.proofs.Common.{◌≡◌, ℕ, zero, suc, ◌==◌, ◌≤◌, ◌-◌, ◌/◌, Bool, if◌then◌else◌, true, false, List, [], ◌∷◌, ◌++◌, length, replicate, count_by, Option, Some, None}
 use Rattle.std.proofs.Common.{Result, Ok, Err, IfOk, IsTrue, refl, sym, ap, subst, ◌∙◌, arith}
 use Rattle.std.proofs.lemmas.Bool.{both_ways, ne_eqb}
 use Rattle.std.proofs.lemmas.List.{append-nil, map-append, length-replicate}
