@@ -1,5 +1,5 @@
 -- The search of `sample`: its plan, its ends, and what its run is told as.
-use Rattle.std.proofs.Common.{◌≡◌, ℕ, zero, suc, ◌==◌, ◌≤◌, ◌-◌, ◌/◌, Bool, if◌then◌else◌, true, false, List, [], ◌∷◌, ◌++◌, length, map, replicate, count_by, Option, Some, None}
+use Rattle.std.proofs.Common.{◌≡◌, ℕ, zero, suc, ◌==◌, ◌≤◌, ◌-◌, ◌/◌, Bool, if◌then◌else◌, true, false, List, [], ◌∷◌, ◌++◌, length, replicate, count_by, Option, Some, None}
 use Rattle.std.proofs.Common.{Result, Ok, Err, IfOk, IsTrue, refl, sym, ap, subst, ◌∙◌, arith}
 use Rattle.std.proofs.lemmas.Bool.{both_ways, ne_eqb}
 use Rattle.std.proofs.lemmas.List.{append-nil, map-append, length-replicate}
@@ -28,7 +28,6 @@ use Rattle.bf_search.specs.Run.{End, Run, run, run_within, one_at_a_time}
 use Rattle.bf_state.specs.Runs.{is_open}
 use Rattle.bf_search.specs.State.{Search, ask}
 use Rattle.bf_state.specs.Session.{Session, with_search}
-use Rattle.bf_oid.specs.declared.object.Oid.{Oid}
 use Rattle.bf_tester.specs.Plans.{is_letter, plan_of}
 use Rattle.bf_tester.specs.declared.answer.Answer.{Answer as Tests}
 use Rattle.bf_texts.specs.Texts.{answer_lines, with_goods}
@@ -110,14 +109,17 @@ waits_told request history (Ok answer) none status text = (λ i. record { status
 
 -- ---- the run
 
-pub sample_ready : (graph : List (List ℕ)) (names : List Oid) (told : Option (List Outcome)) (answers : List Tests) (session before : Session)
-    (table : List (Option Outcome)) → session ≡ before → before.len ≡ length graph → HasEnds before.search → table ≡ replicate (length graph) None
-    → IsReady graph names told answers session table
-sample_ready graph names told answers session before table same len ends fresh = record {
+pub sample_ready : (history : History) (told : Option (List Outcome)) (answers : List Tests) (session before : Session) (table : List (Option Outcome))
+    → session ≡ before → before.len ≡ length history.parents → HasEnds before.search → table ≡ replicate (length history.parents) None
+    → IsReady history.parents history.names told answers session table
+sample_ready history told answers session before table same len ends fresh = record {
   len = ap (λ (s : Session). s.len) same ∙ len;
-  long = ap (λ (t : List (Option Outcome)). length t) fresh ∙ length-replicate (length graph) None;
+  long = ap (λ (t : List (Option Outcome)). length t) fresh ∙ length-replicate (length history.parents) None;
   ends = subst (λ (s : Session). HasEnds s.search) (sym same) ends;
-  known = record { answered = fresh_in names answers (length graph) table fresh; planned = fresh_follows told (length graph) table fresh };
+  known = record {
+    answered = fresh_in history.names answers (length history.parents) table fresh;
+    planned = fresh_follows told (length history.parents) table fresh;
+  };
 }
 
 -- no test failed

@@ -9,7 +9,6 @@ use Rattle.bf_output.specs.Output.{IsOutputOf, IsOver, IsOverBytes, IsOverFile, 
 use Rattle.bf_output.specs.Told.{Told}
 use Rattle.bf_search.specs.State.{ask}
 use Rattle.bf_shelf.specs.declared.shelf.ShelfFile.{ShelfFile}
-use Rattle.bf_words.specs.declared.request.Request.{Request}
 use Rattle.bf_begin.specs.Files.{file_given}
 use Rattle.bf_answers.specs.Ready.{AllTold}
 use Rattle.bf_begin.specs.declared.file.LogFile.{LogFile}

@@ -3,7 +3,7 @@ use Rattle.bf_program.proofs.sample.search_whole.Goals as goal
 
 pub run_leg-requires-clause-ready : goal.run_leg-requires-clause-ready
 run_leg-requires-clause-ready g c = λ κs within.
-    sample_ready _ _ _ _ _ c.args.first.state _ c.in_ok-standing.ensures.state c.requires.len c.requires.ends c.in_ok-standing.ensures.table
+    sample_ready c.args.history.now _ _ _ c.args.first.state _ c.in_ok-standing.ensures.state c.requires.len c.requires.ends c.in_ok-standing.ensures.table
 
 pub returns-clause-tells : goal.returns-clause-tells
 returns-clause-tells g c =
