@@ -1,7 +1,7 @@
 //! Several searches with shared workers.
 ghost use Rattle.std.specs.Prelude.{◌≡◌, ◌≤◌, [], length, map, All, IfOk};
 ghost use Rattle.bf_many.specs.Cores.{CanStart};
-ghost use Rattle.bf_many.specs.Shares.{HasHistory, HaveNoClaim, IsCase, IsLedFrom, KeepsTablesFrom};
+ghost use Rattle.bf_many.specs.Shares.{AreTheirs, HasHistory, HaveNoClaim, IsCase, IsDoneBy, IsLedFrom, KeepsTablesFrom};
 ghost use Rattle.bf_many.specs.Teams.{ArePartsOf, AreTablesOf, AreTestersOf, AreWhole, HaveAnswersOf, KeepFaults, KeepManner};
 
 use crate::absorb::absorb_all;
@@ -65,7 +65,8 @@ fn work_apart<R: Host, T: Tester>(
     testers: &[T],
 ) -> Result<Team<T>, AllocError>
     requires { IsCase case.now }
-    ensures { IfOk result (λ team. ArePartsOf T.Tester testers.now team.workers.items) }
+    ensures parts { IfOk result (λ team. ArePartsOf T.Tester testers.now team.workers.items) }
+    ensures count { IfOk result (λ team. length team.workers.items ≡ count) }
 {
     let searches = copies_of(alloc, case.searches.as_slice())?;
     let many = ManyCore::start(alloc, case.reach, searches)?;
@@ -100,6 +101,7 @@ fn done_again<'r, T: Tester>(
     ensures claims { IfOk result (λ replayed. HaveNoClaim replayed.many) }
     ensures tables { IfOk result
         (KeepsTablesFrom T.Tester team.now.workers.items case.entry) }
+    ensures workers { IfOk result (AreTheirs (length team.now.workers.items)) }
 {
     let ManyCase {
         reach,
@@ -143,6 +145,7 @@ pub fn run_shared<R: Host, T: Tester>(
         AreTablesOf T.Tester case.entry.names.now testers.new shared.tables.items) }
     ensures long { IfOk result (λ shared.
         All (λ table. length table ≡ length case.entry.reach.now) shared.tables.items) }
+    ensures workers { IfOk result (IsDoneBy workers) }
     ensures manner { KeepManner T.Tester testers.old testers.new }
     ensures is_split { AreWhole T.Tester testers.new }
     ensures faults { KeepFaults T.Tester testers.old testers.new }

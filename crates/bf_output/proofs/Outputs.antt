@@ -3,6 +3,7 @@ use Rattle.std.proofs.Common.{◌≡◌, ◌≢◌, ℕ, suc, Bool, true, false,
 use Rattle.std.proofs.Common.{inr, refl, sym, subst, ◌∙◌, ap, arith}
 use Rattle.std.proofs.lemmas.Bool.{both_ways}
 use Rattle.std.proofs.lemmas.List.{append-nil}
+use Rattle.std.proofs.lemmas.List.Elements.{All-nil}
 use Rattle.std.specs.List.{flat_map}
 use Rattle.bf_grammar.specs.declared.command.Command.{Command}
 use Rattle.bf_grammar.specs.declared.fault.Limits.{Limits}
@@ -18,10 +19,12 @@ use Rattle.bf_shelf.specs.declared.shelf.ShelfFile.{ShelfFile}
 use Rattle.bf_words.specs.declared.request.Request.{Request}
 use Rattle.bf_words.specs.declared.verb.Verb.{Verb}
 use Rattle.bf_words.specs.declared.verb.Verb.TheVariants.{Simulate, Run, Next, Replay, Gen, Sample}
+use Rattle.bf_search.specs.declared.farm.Event.{Event}
 use Rattle.bf_search.specs.declared.outcomes.Outcome.{Outcome}
 use Rattle.bf_farm.specs.Answering.{pair_of}
+use Rattle.bf_farm.specs.Doers.{IsOneOf, worker_of}
 use Rattle.bf_farm.specs.Ends.{awaited, failed_test, test_at}
-use Rattle.bf_farm.proofs.Noted.{failed_leads}
+use Rattle.bf_farm.proofs.Noted.{all_own, failed_leads}
 use Rattle.bf_runs.specs.Legs.{Legs, LegsLead, setting_of}
 use Rattle.bf_runs.proofs.Fresh.{none_known, fresh_in, fresh_follows}
 use Rattle.bf_search.specs.Outcomes.{outcomes_of_plan, outcomes_of_table}
@@ -148,8 +151,15 @@ nothing_tested request tested history first none = record {
     are = record {
       stand = _;
       whole = refl;
-      last = failed_leads (setting_of (course_of request history first) first.search) (nothing history) (run_on history first (nothing history)).end
-          (same_end history.parents (outcomes_of_table (nothing history)) (none_known (length history.parents)) first.search request.leg);
+      last = record {
+        leads = failed_leads (setting_of (course_of request history first) first.search) (nothing history) (run_on history first (nothing history)).end
+            (same_end history.parents (outcomes_of_table (nothing history)) (none_known (length history.parents)) first.search request.leg);
+        by_workers = record {
+          shared = [];
+          by_workers = All-nil (λ (e : Event). IsOneOf request.workers (worker_of e));
+          then_own = record { more = failed_test (asked_first history first); added = refl; own = all_own [] (asked_first history first) };
+        };
+      };
       ended = no_leg history.parents (outcomes_of_table (nothing history)) (none_known (length history.parents)) first.search request.leg;
     };
     is = refl;

@@ -1,4 +1,6 @@
+use Rattle.std.proofs.Common.{ℕ, subst}
 use Rattle.bf_many.specs.Cores.{machines_of}
+use Rattle.bf_many.specs.Shares.{AreTheirs}
 use Rattle.bf_many.proofs.Ending.{reached, tables_left, whole_after}
 use Rattle.bf_many.proofs.Helping.{home_itself, manner_of_parts}
 use Rattle.bf_many.proofs.Lengths.{long_after}
@@ -41,12 +43,16 @@ returns-clause-history g c = record {
   reached = reached c.in_ok-replayed.replayed.many c.in_ok-tables.tables.items c.in_ok-replayed.ensures.claims c.in_ok-tables.ensures;
 }
 
+pub returns-clause-workers : goal.returns-clause-workers
+returns-clause-workers g c =
+    (subst (λ (n : ℕ). AreTheirs n c.in_ok-replayed.replayed) c.in_ok-team.ensures.count c.in_ok-replayed.ensures.workers).events
+
 pub returns-clause-tables : goal.returns-clause-tables
 returns-clause-tables g c =
     tables_left g.T.Tester c.args.case.names.now c.args.testers.now c.absorb_all.new.testers c.in_ok-team.team.workers.items c.args.case.reach.now
     c.args.case.searches.items c.in_ok-replayed.replayed.many c.in_ok-tables.tables.items c.in_ok-replayed.replayed.events.items
     c.in_ok-replayed.ensures.led c.in_ok-replayed.ensures.tables c.in_ok-tables.ensures c.requires.testers c.absorb_all.ensures.manner
-    c.absorb_all.ensures.own c.in_ok-team.ensures c.in_ok-absorb_all.ensures.absorbed
+    c.absorb_all.ensures.own c.in_ok-team.ensures.parts c.in_ok-absorb_all.ensures.absorbed
 
 pub returns-clause-long : goal.returns-clause-long
 returns-clause-long g c =
@@ -54,4 +60,4 @@ returns-clause-long g c =
     c.in_ok-replayed.replayed.events.items c.requires.case.each c.in_ok-replayed.ensures.led c.in_ok-tables.ensures
 
 pub absorb_all-requires-after_bounds : goal.absorb_all-requires-after_bounds
-absorb_all-requires-after_bounds g c = λ κs lives. manner_of_parts g.T.Tester c.args.testers.now c.in_ok-team.team.workers.items c.in_ok-team.ensures
+absorb_all-requires-after_bounds g c = λ κs lives. manner_of_parts g.T.Tester c.args.testers.now c.in_ok-team.team.workers.items c.in_ok-team.ensures.parts
