@@ -22,7 +22,7 @@ unfolding LegsLead
 legs_alike course stand a b [] one other = one ∙ sym other
 legs_alike course stand a b (events ∷ whole) (table, leg, ended, more) (same, again, too, rest) =
     legs_alike course (stand_after course stand table) a b whole more
-    (subst (λ (t : List (Option Outcome)). LegsLead course (stand_after course stand t) whole b) (same_table _ None _ _ leg again) rest)
+    (subst (λ (t : List (Option Outcome)). LegsLead course (stand_after course stand t) whole b) (same_table _ None _ _ leg.leads again.leads) rest)
 
 -- where the last of some legs began
 record IsLast (course : Course) (stand after : Stand) (whole : List (List Event)) (events : List Event) : Type 0 where
@@ -47,7 +47,7 @@ module _ (course : Course) (told : Option (List Outcome)) (before after : List A
   from_last last table led leg same =
       leg_keeps (setting_of course stand.search) stand.table report.table report.events.items
       (subst (λ (s : Stand). IsLeg course s report.events.items report.table) (legs_alike course (first_stand course) last stand whole led between.legs)
-      (subst (λ (t : List (Option Outcome)). IsLeg course last report.events.items t) same leg))
+      (subst (λ (t : List (Option Outcome)). IsLeg course last report.events.items t) same leg)).leads
 
   after_leg : report.ending ≡ ending.Leg → Keeps stand.table report.table
   after_leg e =
