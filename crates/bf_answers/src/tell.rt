@@ -1,12 +1,12 @@
 //! What the text of an answer is made of: commits, sides, the lines of an end, and its status.
 ghost use Rattle.std.specs.Prelude.{◌≡◌, ◌++◌, length, IfOk, OnOk};
 ghost use Rattle.bf_log.specs.Labels as labels;
-ghost use Rattle.bf_log.specs.Lines.{ask_lines};
 ghost use Rattle.bf_output.specs.Beginning as beginning;
 ghost use Rattle.bf_output.specs.Simulate as simulate;
 ghost use Rattle.bf_output.specs.Tested.{status_at_end};
 ghost use Rattle.bf_search.specs.Farm.{end_of};
 ghost use Rattle.bf_search.specs.Within.{IsAskWithin, IsEndingWithin};
+ghost use Rattle.bf_texts.specs.Texts as texts;
 ghost use Rattle.bf_answers.specs.Answers.{IsWhole};
 ghost use Rattle.bf_answers.specs.Tellings.{end_lines_of};
 
@@ -81,7 +81,8 @@ fn write_told(
 ) -> Result<Status, AllocError>
     requires { IsAskWithin (length commits.names.now) ask.now }
     ensures status { IfOk result (λ status. status ≡ simulate.status_of_ask ask.now) }
-    ensures text { OnOk result (out.new ≡ out.old ++ ask_lines commits.entry sides.entry ask.now) }
+    ensures text { let tell = texts.ask_lines (labels.commits_of commits.entry) in
+        OnOk result (out.new ≡ out.old ++ tell (labels.sides_of sides.entry) ask.now) }
 {
     write_ask(commits, sides, ask, out)?;
     Ok(status_of_ask(ask))
