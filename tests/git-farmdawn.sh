@@ -758,7 +758,7 @@ test_interrupts() {
     nothing_sleeps
 }
 
-by_clock='logs_and_limits lost_follower warnings'
+by_clock='logs_and_limits lost_follower warnings interrupts'
 [ $# -gt 0 ] || set -- line merges unrelated_good terms encodings signed signed_by_gpg sha256 shallow part_of_many submodules \
     places words folders_and_scripts tracked_files links_of_commits torn_outcomes foreign_folders environment bash_environment \
     left_by_tests odd_words odd_paths lost_output full_disk many_skips few_programs stops warnings hanging log_limit prune tools \

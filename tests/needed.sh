@@ -130,6 +130,6 @@ test_random() {
     expect 'in checkouts' python3 "$top/tests/needed.py" --count 3 --from 100 --checkouts
 }
 
-by_clock='freed again'
+by_clock='freed again interrupts'
 [ $# -gt 0 ] || set -- freed again interrupts random
 run_tests "$@"
