@@ -159,7 +159,8 @@ def main():
             statuses[got[0]] += 1
             same = got[:2] == due[:2] and not left and most_at_once(got[2]) <= search.workers
             if not same:
-                print(f"{number}: {search} left: {left}\n---- one worker\n{due[0]}\n{due[1]}{due[2]}---- with tests ended\n{got[0]}\n{got[1]}{got[2]}", flush=True)
+                print(f"{number}: {search} left: {left}\n---- one worker\n{due[0]}\n{due[1]}{due[2]}"
+                      f"---- with tests ended\n{got[0]}\n{got[1]}{got[2]}", flush=True)
             wrong += not same
     print("statuses: " + ", ".join(f"{key}: {count}" for key, count in sorted(statuses.items())))
     print(", ".join(f"{key}: {count}" for key, count in counts.items()))

@@ -102,7 +102,8 @@ def by_git(folder, question, paths):
 
 def listed(folder, question, paths, bad, goods):
     """The commits that git lists for the paths, once it has walked the history."""
-    return git(folder, "rev-list", "--topo-order", *(option for option in question.options if option == "--first-parent"), bad, *(f"^{good}" for good in goods), "--",
+    options = [option for option in question.options if option == "--first-parent"]
+    return git(folder, "rev-list", "--topo-order", *options, bad, *(f"^{good}" for good in goods), "--",
                *(f":(literal){path}" for path in paths))
 
 
