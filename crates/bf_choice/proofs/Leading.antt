@@ -7,7 +7,7 @@ use Rattle.std.specs.Option.{option_map}
 use Rattle.std.proofs.lemmas.List.{get_or_past}
 use Rattle.bf_search.specs.Candidates.{is_in}
 use Rattle.bf_search.specs.Choice.{best, count_in, value_of, is_eligible}
-use Rattle.bf_choice.specs.declared.Choice.{Choice}
+use Rattle.bf_choice.specs.declared.choosing.Choice.{Choice}
 use Rattle.bf_choice.specs.Leader.{better_of}
 use Rattle.bf_choice.proofs.Greatest.{greatest_of_none, greatest_is}
 

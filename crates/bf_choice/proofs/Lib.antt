@@ -1,3 +1,16 @@
+pub mod Listed
+pub mod BaseRows
+pub mod Parents
+pub mod Tops
+pub mod Checked
+pub mod Counting
+pub mod Steps
+pub mod Rows
+pub mod MergeCounts
+pub mod Numbered
+pub mod Cutting
+pub mod Weighed
+pub mod Sides
 pub mod Greatest
 pub mod Leading
 pub mod Ranked

@@ -1,2 +1,9 @@
+pub mod Parents
+pub mod BlockRows
+pub mod Counted
+pub mod Numbering
+pub mod Pieces
+pub mod Plain
+pub mod Sizes
 pub mod Leader
 pub mod Ranking

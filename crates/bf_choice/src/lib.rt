@@ -1,70 +1,28 @@
-//! Which of the candidates to test next.
+//! What is asked next: the check of the merge bases, and the best of the candidates by their weights.
+//!
+//! `check` says whether a merge base has to be tested first; `candidates` are the places that may be the first bad
+//! one, `weights` how many of them each reaches, and `choose` takes the best (git-bisect-lk2009, "Bisection
+//! algorithm").
 #![tactic(auto)]
 
-ghost use Rattle.std.specs.Prelude.{◌≡◌, ◌≤◌, length};
-ghost use Rattle.std.specs.List.{All};
-ghost use Rattle.std.specs.Option.{option_map};
-ghost use Rattle.bf_search.specs.Choice.{best, count_in, value_of};
-ghost use Rattle.bf_choice.specs.Leader.{better_of};
-
+mod bases;
+mod cands;
+mod checks;
+mod choosing;
+mod marks;
+mod merges;
+mod numbering;
+mod parents;
+mod pieces;
+mod plain;
 mod ranking;
+mod sizes;
+mod weighing;
 
-use bf_rows::Row;
+pub use bases::merge_bases;
+pub use cands::candidates;
+pub use checks::check;
+pub use choosing::choose;
+pub use plain::weights_plain;
 pub use ranking::{Chosen, Ranking};
-
-/// A place that may be asked, and how many candidates its test rules out at least.
-#[derive(Clone, Copy)]
-struct Choice {
-    place: u32,
-    value: u32,
-}
-
-/// How many of `count` candidates are ruled out at least by a test of one that reaches `weight` of
-/// them: those where it is good, and the others where it is bad.
-fn value_of_weight(count: u32, weight: u32) -> u32
-    requires { weight ≤ count }
-    ensures { result ≡ value_of count weight }
-{
-    weight.min(count - weight)
-}
-
-/// The earlier choice, unless the later one has a greater value.
-fn better(leader: Option<Choice>, later: Choice) -> Choice
-    ensures { result ≡ better_of leader later }
-{
-    match leader {
-        Some(earlier) if later.value <= earlier.value => earlier,
-        _ => later,
-    }
-}
-
-fn place_of(leader: Option<Choice>) -> Option<u32>
-    ensures { result ≡ option_map (λ choice. choice.place) leader }
-{
-    leader.map(|choice| choice.place)
-}
-
-/// The candidate whose test halves the candidates best, the earliest among equals.
-///
-/// The candidates are the true places of `mask`, and `weights` has for each of them how many of them
-/// it reaches. The place `bad` and those in `skips` are not asked, and there is no answer exactly
-/// where no other candidate is left. The value of a candidate is that of git-bisect-lk2009; all
-/// values are compared, so the search does not stop early at one that is close to half.
-pub fn choose(mask: &Row, weights: &[u32], bad: u32, skips: &Row) -> Option<u32>
-    requires weight_each { length weights.now ≡ length mask.now }
-    requires skip_each { length skips.now ≡ length mask.now }
-    requires within { All (λ weight. weight ≤ count_in mask.now) weights.now }
-    ensures { result ≡ best mask.now weights.now bad skips.now }
-{
-    let count = mask.count();
-    let mut leader: Option<Choice> = None;
-    let mut from = 0;
-    while let Some(place) = mask.next_from(from) {
-        if place != bad && !skips.get(place) {
-            let value = value_of_weight(count, weights[place as usize]);
-            leader = Some(better(leader, Choice { place, value }));
-        }
-        from = place + 1;
-    }
-    place_of(leader)
-}
+pub use weighing::weights;

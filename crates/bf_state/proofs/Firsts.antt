@@ -17,7 +17,7 @@ use Rattle.bf_search.specs.State.{Search, Asked, without_test, ask_best, ask_amo
 use Rattle.bf_search.proofs.Reaching.{Reaches-parent}
 use Rattle.bf_search.proofs.Modes.{IsGraph-in_mode}
 use Rattle.bf_search.proofs.CandidateLemmas.{SomeReaches, SomeReaches-from_test, IsCandidate, IsCandidate-from_test, is_candidate-true, any_reaches-true}
-use Rattle.bf_bases.proofs.Listed.{Contains-filter_range}
+use Rattle.bf_choice.proofs.Listed.{Contains-filter_range}
 use Rattle.bf_state.specs.FirstBad.{IsFirstBad}
 use Rattle.bf_state.specs.Session.{IsSearchBelow}
 

@@ -3,7 +3,7 @@ use Rattle.std.proofs.Common.{◌≡◌, ◌≢◌, ℕ, ◌<◌, Bool, cond, Li
 use Rattle.std.proofs.lemmas.Bool.{ne_eqb}
 use Rattle.std.specs.List.{All, Contains}
 use Rattle.std.specs.Option.{IfSome}
-use Rattle.bf_bases.proofs.Listed.{Contains-filter_range}
+use Rattle.bf_choice.proofs.Listed.{Contains-filter_range}
 use Rattle.bf_choice.specs.Ranking.{IsOther, IsRanking}
 use Rattle.bf_choice.proofs.Leading.{inside}
 use Rattle.bf_search.specs.declared.asks.Ask.{Ask}

@@ -1,7 +1,7 @@
 //! Bases and checks of one small history; `git merge-base --all` gives the same bases.
 ghost use Rattle.std.specs.Prelude.{◌≡◌, ◌<◌, [], length, All, IfOk, OnOk};
 
-use bf_bases::{check, merge_bases};
+use bf_choice::{check, merge_bases};
 use bf_graph::Graph;
 use bf_reach::Reach;
 use bf_rows::Row;

@@ -1,7 +1,7 @@
 //! What is reached in a diamond, and which of its commits are candidates.
 ghost use Rattle.std.specs.Prelude.{◌≡◌, length, IfOk};
 
-use bf_cands::candidates;
+use bf_choice::candidates;
 use bf_graph::Graph;
 use bf_reach::Reach;
 use bf_rows::Row;

@@ -1,4 +1,4 @@
-use Rattle.bf_weights.proofs.Weighed.{length-mask}
+use Rattle.bf_choice.proofs.Weighed.{length-mask}
 use Rattle.test_search.proofs.weights.agreed.Goals as goal
 
 pub weights_plain-requires : goal.weights_plain-requires

@@ -1,7 +1,7 @@
 use Rattle.std.proofs.Common.{◌≡◌, ℕ, false, Option, Some, None, refl, ap, sym, ◌∙◌}
 use Rattle.std.specs.List.{position}
 use Rattle.std.specs.Option.{is_some}
-use Rattle.bf_bases.proofs.Rows.{none_true}
+use Rattle.bf_choice.proofs.BaseRows.{none_true}
 use Rattle.bf_state.specs.Session.{Session}
 use Rattle.bf_state.proofs.Settled.{none_warned}
 use Rattle.bf_state.proofs.state.State.bases_to_warn_of.Goals as goal

@@ -1,5 +1,0 @@
-use Rattle.bf_bases.specs.Parents.{IsParentsBelow}
-use Rattle.bf_bases.proofs.marks.fill_parents.Given as goal
-
-abbrev pub invariant-loop-place : goal.invariant-loop-place
-invariant-loop-place l = IsParentsBelow l.graph l.row l.place l.out

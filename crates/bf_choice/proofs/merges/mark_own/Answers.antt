@@ -1,0 +1,16 @@
+use Rattle.std.proofs.Common.{◌-◌, Bool, true, List, [], set, ap, sym, ◌∙◌, arith}
+use Rattle.std.proofs.lemmas.List.{set-get_or}
+use Rattle.bf_choice.proofs.Rows.{own_row-within, own_row-past}
+use Rattle.bf_choice.proofs.merges.mark_own.Goals as goal
+
+pub returns-then-column-lt-COLUMNS : goal.returns-then-column-lt-COLUMNS
+returns-then-column-lt-COLUMNS c =
+    c.set.ensures
+    ∙ ap (λ (row : List Bool). set c.args.blocks.now c.args.place row)
+    (ap (λ (row : List Bool). set row (c.args.place - c.args.start) true) c.requires.empty ∙ own_row-within c.args.start c.args.place
+    (c.args.place - c.args.start) (omega arith) (omega arith))
+
+pub returns-else-column-lt-COLUMNS : goal.returns-else-column-lt-COLUMNS
+returns-else-column-lt-COLUMNS c =
+    sym (set-get_or c.args.blocks.now c.args.place [])
+    ∙ ap (λ (row : List Bool). set c.args.blocks.now c.args.place row) (c.requires.empty ∙ own_row-past c.args.start c.args.place (omega arith))

@@ -1,6 +1,0 @@
-use Rattle.std.proofs.Common.{◌≡◌, ◌*◌, length}
-use Rattle.bf_weights.specs.Sizes.{CountsMerges}
-use Rattle.bf_weights.proofs.merges.count_merges.Given as goal
-
-abbrev pub invariant-loop-block : goal.invariant-loop-block
-invariant-loop-block l = (length l.blocks ≡ length l.graph) × CountsMerges l.graph (l.block * 512) l.sizes

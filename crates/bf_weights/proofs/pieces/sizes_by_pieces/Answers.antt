@@ -1,8 +1,0 @@
-use Rattle.std.proofs.Common.{◌≡◌, length, ◌∙◌, arith}
-use Rattle.bf_weights.proofs.Cutting.{sizes-all}
-use Rattle.bf_weights.proofs.pieces.sizes_by_pieces.Goals as goal
-
-pub returns-clause-sizes : goal.returns-clause-sizes
-returns-clause-sizes c =
-    let end : c.loop-place.place ≡ length c.args.graph.now = omega arith in
-    sizes-all c.args.graph.now c.loop-place.base c.loop-place.sizes.items (c.loop-place.invariant.3 end ∙ end) c.loop-place.invariant.0

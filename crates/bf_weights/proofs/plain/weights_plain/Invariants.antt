@@ -1,7 +1,0 @@
-use Rattle.std.proofs.Common.{◌≡◌, map, length}
-use Rattle.std.specs.List.{range_with_len}
-use Rattle.bf_weights.specs.Plain.{weight_in}
-use Rattle.bf_weights.proofs.plain.weights_plain.Given as goal
-
-abbrev pub invariant-loop-place : goal.invariant-loop-place
-invariant-loop-place l = (length l.reached ≡ length l.reach) × (l.weights.items ≡ map (weight_in l.reach l.mask l.first_parent) (range_with_len 0 l.place))
