@@ -6,7 +6,7 @@ ghost use Rattle.bf_output.specs.Simulate as simulate;
 ghost use Rattle.bf_output.specs.Tested.{status_at_end};
 ghost use Rattle.bf_search.specs.Farm.{end_of};
 ghost use Rattle.bf_search.specs.Within.{IsAskWithin, IsEndingWithin};
-ghost use Rattle.bf_texts.specs.Texts as texts;
+ghost use Rattle.bf_terms.specs.Texts as texts;
 ghost use Rattle.bf_answers.specs.Answers.{IsWhole};
 ghost use Rattle.bf_answers.specs.Tellings.{end_lines_of};
 
@@ -41,7 +41,7 @@ pub fn sides_of(terms: &Terms) -> Sides<'_>
 }
 
 /// Adds the lines of the end of a run, or of a test that failed, and gives the status.
-#[tactic(auto, unfolding(bf_texts::specs::Texts::answer_lines))]
+#[tactic(auto, unfolding(bf_terms::specs::Texts::answer_lines))]
 pub fn write_end(
     commits: Commits<'_>,
     sides: Sides<'_>,

@@ -10,7 +10,7 @@ use bf_answers::{Beginning, Stop};
 use bf_import::History;
 use bf_io::Word;
 use bf_reach::Reach;
-use bf_rows::Row;
+use bf_reach::Row;
 use bf_search::{Entry, Mark};
 use bf_state::true_places;
 use std::alloc::{AllocError, Global};

@@ -13,7 +13,7 @@ use crate::fault::{CertFault, LineFault};
 use crate::line::Line;
 use crate::make::parents_in_mode;
 use bf_graph::Places;
-use bf_rows::Row;
+use bf_reach::Row;
 use std::alloc::{AllocError, Global};
 use std::marker::Model;
 

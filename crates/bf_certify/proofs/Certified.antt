@@ -42,7 +42,7 @@ use Rattle.bf_searches.specs.Searching.{IsRunning}
 use Rattle.bf_searches.specs.Telling.{trace_with}
 use Rattle.bf_state.specs.Runs.{in_sequence, is_open}
 use Rattle.bf_state.specs.Session.{Session, IsSearchBelow}
-use Rattle.bf_texts.specs.Texts.{log_from}
+use Rattle.bf_terms.specs.Texts.{log_from}
 use Rattle.bf_words.specs.declared.request.Request.{Request}
 use Rattle.std.proofs.lemmas.Bool.{both_ways}
 

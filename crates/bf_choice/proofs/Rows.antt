@@ -10,7 +10,7 @@ use Rattle.std.proofs.lemmas.Simd.{zip2_of_maps}
 use Rattle.std.specs.List.{All, list_any, count_by, range_with_len}
 use Rattle.std.specs.Simd.Lanes.{zip2}
 use Rattle.bf_graph.specs.Graph.{parents_of, IsGraph}
-use Rattle.bf_rows.specs.Blocks.{row_at, empty_row}
+use Rattle.bf_reach.specs.Blocks.{row_at, empty_row}
 use Rattle.bf_search.specs.Reach.{reaches}
 use Rattle.bf_choice.specs.Counted.{count_below}
 use Rattle.bf_choice.specs.BlockRows.{columns, block_row, own_row, or_rows, HasBlockRows}

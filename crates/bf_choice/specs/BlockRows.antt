@@ -2,7 +2,7 @@
 use Rattle.std.specs.Prelude.{◌≡◌, ℕ, ◌<◌, ◌≤◌, Bool, ◌==◌, ◌||◌, List, length, map, fold, slice_set}
 use Rattle.std.specs.List.{range_with_len}
 use Rattle.std.specs.Simd.Lanes.{zip2}
-use Rattle.bf_rows.specs.Blocks.{row_at, empty_row}
+use Rattle.bf_reach.specs.Blocks.{row_at, empty_row}
 use Rattle.bf_search.specs.Reach.{reaches}
 
 -- how many places a block has

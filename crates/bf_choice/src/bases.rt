@@ -6,7 +6,7 @@ ghost use Rattle.bf_search.specs.Bases.{merge_bases};
 
 use crate::marks::fill_parents;
 use bf_reach::{Reach, true_places};
-use bf_rows::Row;
+use bf_reach::Row;
 use std::alloc::{AllocError, Global};
 
 /// The merge bases of the bad place with the good ones, by place: the places that `bad` and some

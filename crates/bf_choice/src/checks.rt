@@ -7,7 +7,7 @@ use crate::bases::keep_bases;
 use crate::marks::has_all;
 use bf_graph::Places;
 use bf_reach::{Reach, mark_all, true_places};
-use bf_rows::Row;
+use bf_reach::Row;
 use bf_search::Check;
 use std::alloc::{AllocError, Global};
 

@@ -5,7 +5,7 @@ ghost use Rattle.std.specs.Option.{option_map};
 ghost use Rattle.bf_search.specs.Choice.{best, count_in, value_of};
 ghost use Rattle.bf_choice.specs.Leader.{better_of};
 
-use bf_rows::Row;
+use bf_reach::Row;
 
 /// A place that may be asked, and how many candidates its test rules out at least.
 #[derive(Clone, Copy)]

@@ -7,7 +7,7 @@ ghost use Rattle.bf_choice.specs.Parents.{IsParentsBelow};
 
 use bf_graph::Graph;
 use bf_reach::mark_all;
-use bf_rows::Row;
+use bf_reach::Row;
 
 /// Whether each of these places is true in the row.
 pub(crate) fn has_all(row: &Row, places: &[u32]) -> bool

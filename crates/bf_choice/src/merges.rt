@@ -1,13 +1,13 @@
 //! How many places each merge of a graph reaches, counted in blocks of 512.
 ghost use Rattle.std.specs.Prelude.{◌≡◌, ◌↔◌, ◌+◌, ◌<◌, ◌≤◌, ◌^◌, ◌||◌, true, false, length, slice_set, All, IfOk, OnOk};
 ghost use Rattle.bf_graph.specs.Graph.{IsGraph};
-ghost use Rattle.bf_rows.specs.Blocks.{row_at, empty_row};
+ghost use Rattle.bf_reach.specs.Blocks.{row_at, empty_row};
 ghost use Rattle.bf_choice.specs.Sizes.{parentage_of, HasNoMerge, CountsMerges, CountsBlock};
 ghost use Rattle.bf_choice.specs.BlockRows.{own_row, with_parents, HasBlockRows};
 
 use crate::parents::{Parentage, parentage_of};
 use bf_graph::Graph;
-use bf_rows::{Blocks, COLUMNS};
+use bf_reach::{Blocks, COLUMNS};
 use std::alloc::{AllocError, Global};
 
 /// The sizes of the merges. What stands at other places says nothing.

@@ -4,7 +4,7 @@ ghost use Rattle.bf_graph.specs.Graph.{IsGraph};
 ghost use Rattle.bf_choice.specs.Numbering.{candidate_numbers, numbers_of, IsCandidateGraph};
 
 use bf_graph::Graph;
-use bf_rows::Row;
+use bf_reach::Row;
 use std::alloc::{AllocError, Global};
 
 /// By place, how many candidates stand before it. For a candidate this is its number.

@@ -5,7 +5,7 @@ ghost use Rattle.bf_search.specs.Choice.{count_in};
 ghost use Rattle.bf_choice.specs.Ranking.{IsRanking, IsPassed, StandsAt, IsBestRanked, IsOtherRanked, AreAllRanks};
 
 use crate::choosing::value_of_weight;
-use bf_rows::Row;
+use bf_reach::Row;
 use std::alloc::{AllocError, Global};
 use std::marker::Model;
 

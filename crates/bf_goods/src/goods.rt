@@ -1,7 +1,7 @@
 //! A list of good places, in which no place stands twice.
 ghost use Rattle.std.specs.Prelude.{◌≡◌, ◌↔◌, [], length, IsTrue, IfOk, OnOk, OnErr};
 ghost use Rattle.bf_search.specs.Bases.{has_place};
-ghost use Rattle.bf_texts.specs.Texts.{with_good, with_goods};
+ghost use Rattle.bf_terms.specs.Texts.{with_good, with_goods};
 
 use bf_graph::Places;
 use indexmap::IndexSet;

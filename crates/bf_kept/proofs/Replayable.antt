@@ -22,7 +22,7 @@ use Rattle.bf_search.specs.Outcomes.{Outcomes}
 use Rattle.bf_search.specs.Run.{run}
 use Rattle.bf_search.specs.State.{Search}
 use Rattle.bf_terms.specs.Words.{term_fault}
-use Rattle.bf_texts.specs.Texts.{Known, Sides, hex_of, log_from}
+use Rattle.bf_terms.specs.Texts.{Known, Sides, hex_of, log_from}
 use Rattle.bf_kept.specs.Kept.{IsOneLine, IsKept, commits_of}
 use Rattle.bf_kept.specs.Laws.{IsLoaded, AreSides, AreEnds}
 use Rattle.bf_kept.proofs.Keeping.{loaded_kept, nothing_kept}

@@ -19,7 +19,7 @@ use Rattle.bf_search.specs.Outcomes.{Outcomes}
 use Rattle.bf_search.specs.Run.{run}
 use Rattle.bf_search.specs.State.{Search, IsSearchOver}
 use Rattle.bf_terms.specs.Words.{term_fault}
-use Rattle.bf_texts.specs.Texts.{Known, Sides, nothing_known, log, log_from}
+use Rattle.bf_terms.specs.Texts.{Known, Sides, nothing_known, log, log_from}
 
 -- the commands of a stream lead to this history
 abbrev pub IsLoaded : History → Type 0

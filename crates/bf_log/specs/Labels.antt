@@ -1,7 +1,7 @@
 -- What the writer is given, as the definition of the texts has it.
 use Rattle.std.specs.Prelude.{◌≡◌, length, map}
 use Rattle.bf_oid.specs.declared.object.Oid.{Oid}
-use Rattle.bf_texts.specs.Texts as texts
+use Rattle.bf_terms.specs.Texts as texts
 use Rattle.bf_log.specs.declared.label.Commits.{Commits}
 use Rattle.bf_log.specs.declared.label.Sides.{Sides}
 

@@ -1,7 +1,7 @@
 -- What a call adds, and the texts that its parts add: names of commits, comments, and a text as a line.
 use Rattle.std.specs.Prelude.{◌≡◌, ℕ, Bool, List, ◌++◌, codes, Result, OnOk}
 use Rattle.std.specs.List.{flat_map}
-use Rattle.bf_texts.specs.Texts.{Commits, Sides, comment_of, hex_of, quoted, text_line, waiting_text}
+use Rattle.bf_terms.specs.Texts.{Commits, Sides, comment_of, hex_of, quoted, text_line, waiting_text}
 
 -- a call that adds a text: where it succeeds, the text stands behind what was there
 abbrev pub Adds : {X E : Type 0} → List ℕ → List ℕ → Result X E → List ℕ → Type 0

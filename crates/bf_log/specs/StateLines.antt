@@ -3,7 +3,7 @@
 use Rattle.std.specs.Prelude.{ℕ, ◌<◌, List, ◌++◌, codes, Option, All}
 use Rattle.std.specs.List.{flat_map}
 use Rattle.std.specs.Option.{ForSome}
-use Rattle.bf_texts.specs.Texts.{Commits, Sides, text_line, hex_of, given_bad}
+use Rattle.bf_terms.specs.Texts.{Commits, Sides, text_line, hex_of, given_bad}
 use Rattle.bf_log.specs.declared.state.Standing.{Standing}
 
 -- a word and the name of a commit

@@ -5,7 +5,7 @@ use Rattle.std.specs.List.{flat_map}
 use Rattle.bf_search.specs.declared.farm.Event.{Event}
 use Rattle.bf_search.specs.declared.farm.Event.TheVariants.{Claim, Post, Give}
 use Rattle.bf_search.specs.declared.outcomes.Outcome.{Outcome}
-use Rattle.bf_texts.specs.Texts.{Commits, text_line, hex_of, outcome_text}
+use Rattle.bf_terms.specs.Texts.{Commits, text_line, hex_of, outcome_text}
 
 -- a word, the number of a worker, and the name of a commit
 unfoldable pub worker_text : Commits → List ℕ → ℕ → ℕ → List ℕ

@@ -1,6 +1,6 @@
 //! The lines of an answer.
 ghost use Rattle.std.specs.Prelude.{◌<◌, length, All};
-ghost use Rattle.bf_texts.specs.Texts as texts;
+ghost use Rattle.bf_terms.specs.Texts as texts;
 ghost use Rattle.bf_search.specs.Within.{IsAskWithin};
 ghost use Rattle.bf_log.specs.Labels.{commits_of, sides_of};
 ghost use Rattle.bf_log.specs.Lines.{Adds, name_lines, next_line, waiting_line};
@@ -33,7 +33,7 @@ pub(crate) fn put_ask(
 }
 
 /// Adds the line of a run that a test aborted.
-#[tactic(auto, unfolding(bf_texts::specs::Texts::aborted_line))]
+#[tactic(auto, unfolding(bf_terms::specs::Texts::aborted_line))]
 pub(crate) fn put_aborted(
     commits: Commits<'_>,
     place: u32,
@@ -83,7 +83,7 @@ pub(crate) fn put_waiting(
     }
 }
 
-#[tactic(auto, unfolding(bf_texts::specs::Texts::waiting_for_old))]
+#[tactic(auto, unfolding(bf_terms::specs::Texts::waiting_for_old))]
 fn put_waiting_for_old(out: &mut Bytes, sides: Sides<'_>) -> Result<(), AllocError>
     ensures { Adds out.old out.new result (texts.waiting_for_old (sides_of sides.entry)) }
 {
@@ -94,7 +94,7 @@ fn put_waiting_for_old(out: &mut Bytes, sides: Sides<'_>) -> Result<(), AllocErr
     out.append(b" commit known")
 }
 
-#[tactic(auto, unfolding(bf_texts::specs::Texts::waiting_for_both))]
+#[tactic(auto, unfolding(bf_terms::specs::Texts::waiting_for_both))]
 fn put_waiting_for_both(out: &mut Bytes, sides: Sides<'_>) -> Result<(), AllocError>
     ensures { Adds out.old out.new result (texts.waiting_for_both (sides_of sides.entry)) }
 {
@@ -105,7 +105,7 @@ fn put_waiting_for_both(out: &mut Bytes, sides: Sides<'_>) -> Result<(), AllocEr
     out.append(b" commits")
 }
 
-#[tactic(auto, unfolding(bf_texts::specs::Texts::waiting_for_new))]
+#[tactic(auto, unfolding(bf_terms::specs::Texts::waiting_for_new))]
 fn put_waiting_for_new(out: &mut Bytes, sides: Sides<'_>, good_count: u64) -> Result<(), AllocError>
     ensures { Adds out.old out.new result
         (texts.waiting_for_new (sides_of sides.entry) good_count) }
@@ -140,7 +140,7 @@ fn put_next(out: &mut Bytes, commits: Commits<'_>, place: u32) -> Result<(), All
     put_name_line(out, commits, place)
 }
 
-#[tactic(auto, unfolding(bf_texts::specs::Texts::merge_base_bad_lines))]
+#[tactic(auto, unfolding(bf_terms::specs::Texts::merge_base_bad_lines))]
 fn put_merge_base_bad(
     out: &mut Bytes,
     commits: Commits<'_>,
@@ -160,7 +160,7 @@ fn put_merge_base_bad(
     out.append(b" commits.\n")
 }
 
-#[tactic(auto, unfolding(bf_texts::specs::Texts::not_ancestor_line))]
+#[tactic(auto, unfolding(bf_terms::specs::Texts::not_ancestor_line))]
 fn put_not_ancestor(
     out: &mut Bytes,
     commits: Commits<'_>,
@@ -180,7 +180,7 @@ fn put_not_ancestor(
     out.append(b".\n")
 }
 
-#[tactic(auto, unfolding(bf_texts::specs::Texts::both_sides_line))]
+#[tactic(auto, unfolding(bf_terms::specs::Texts::both_sides_line))]
 fn put_both_sides(
     out: &mut Bytes,
     commits: Commits<'_>,
@@ -199,7 +199,7 @@ fn put_both_sides(
     out.append(b"\n")
 }
 
-#[tactic(auto, unfolding(bf_texts::specs::Texts::first_bad_line))]
+#[tactic(auto, unfolding(bf_terms::specs::Texts::first_bad_line))]
 fn put_first_bad(
     out: &mut Bytes,
     commits: Commits<'_>,
@@ -216,7 +216,7 @@ fn put_first_bad(
     out.append(b" commit\n")
 }
 
-#[tactic(auto, unfolding(bf_texts::specs::Texts::only_skipped_lines))]
+#[tactic(auto, unfolding(bf_terms::specs::Texts::only_skipped_lines))]
 fn put_only_skipped(
     out: &mut Bytes,
     commits: Commits<'_>,

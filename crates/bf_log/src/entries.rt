@@ -1,7 +1,7 @@
 //! The lines of a log.
 ghost use Rattle.std.specs.Prelude.{◌≡◌, ◌<◌, length, All, OnOk};
 ghost use Rattle.std.specs.Option.{ForSome};
-ghost use Rattle.bf_texts.specs.Texts as texts;
+ghost use Rattle.bf_terms.specs.Texts as texts;
 ghost use Rattle.bf_logs.specs.Written.{known_after_all};
 ghost use Rattle.bf_log.specs.Labels.{AreCommits, commits_of, sides_of};
 ghost use Rattle.bf_search.specs.Within.{IsEntryWithin};
@@ -39,7 +39,7 @@ pub(crate) fn put_entries(
 }
 
 /// Adds the lines of an entry, without its status line.
-#[tactic(auto, unfolding(bf_texts::specs::Texts::entry_lines))]
+#[tactic(auto, unfolding(bf_terms::specs::Texts::entry_lines))]
 fn put_entry(
     out: &mut Bytes,
     commits: Commits<'_>,
@@ -76,7 +76,7 @@ fn put_entry(
 }
 
 /// Adds the lines of a start entry.
-#[tactic(auto, unfolding(bf_texts::specs::Texts::start_lines))]
+#[tactic(auto, unfolding(bf_terms::specs::Texts::start_lines))]
 fn put_start(
     out: &mut Bytes,
     commits: Commits<'_>,
@@ -101,7 +101,7 @@ fn put_start(
 }
 
 /// Adds the ends of a start as comments.
-#[tactic(auto, unfolding(bf_texts::specs::Texts::end_lines))]
+#[tactic(auto, unfolding(bf_terms::specs::Texts::end_lines))]
 fn put_ends(
     out: &mut Bytes,
     commits: Commits<'_>,
@@ -125,7 +125,7 @@ fn put_ends(
 }
 
 /// Adds the names of the ends of a start as words.
-#[tactic(auto, unfolding(bf_texts::specs::Texts::end_words))]
+#[tactic(auto, unfolding(bf_terms::specs::Texts::end_words))]
 fn put_start_names(
     out: &mut Bytes,
     commits: Commits<'_>,
@@ -305,7 +305,7 @@ fn put_first_bad(
 }
 
 /// Adds the lines that name the skipped commits that are left.
-#[tactic(auto, unfolding(bf_texts::specs::Texts::skipped_left_lines))]
+#[tactic(auto, unfolding(bf_terms::specs::Texts::skipped_left_lines))]
 fn put_skipped_left(
     out: &mut Bytes,
     commits: Commits<'_>,

@@ -1,7 +1,7 @@
 //! How a commit is named in a text.
 ghost use Rattle.std.specs.Prelude.{◌<◌, ◌++◌, length};
 ghost use Rattle.hex.specs.Hex.{encode_lower};
-ghost use Rattle.bf_texts.specs.Texts as texts;
+ghost use Rattle.bf_terms.specs.Texts as texts;
 ghost use Rattle.bf_log.specs.Labels.{commits_of};
 ghost use Rattle.bf_log.specs.Lines.{Adds, name_line, quoted_name};
 

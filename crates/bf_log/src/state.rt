@@ -1,7 +1,7 @@
 //! The lines of a state.
 ghost use Rattle.std.specs.Prelude.{◌≡◌, ◌<◌, length, All, OnErr};
 ghost use Rattle.std.specs.Option.{ForSome};
-ghost use Rattle.bf_texts.specs.Texts as texts;
+ghost use Rattle.bf_terms.specs.Texts as texts;
 ghost use Rattle.bf_log.specs.Labels.{commits_of, sides_of};
 ghost use Rattle.bf_log.specs.Lines.{Adds};
 ghost use Rattle.bf_log.specs.StateLines as state;

@@ -1,6 +1,6 @@
 //! The lines of a trace, and of a test that failed.
 ghost use Rattle.std.specs.Prelude.{◌≡◌, OnErr};
-ghost use Rattle.bf_texts.specs.Texts.{hex_of};
+ghost use Rattle.bf_terms.specs.Texts.{hex_of};
 ghost use Rattle.bf_log.specs.Labels.{commits_of};
 ghost use Rattle.bf_log.specs.Lines.{Adds};
 ghost use Rattle.bf_log.specs.Trace.{event_line, event_lines, failed_test_line, leg_line, post_text, worker_text};

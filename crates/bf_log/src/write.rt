@@ -2,7 +2,7 @@
 //! it behind.
 ghost use Rattle.std.specs.Prelude.{◌≡◌, ◌<◌, length, All, OnOk, OnErr};
 ghost use Rattle.bf_logs.specs.Written.{known_after_all};
-ghost use Rattle.bf_texts.specs.Texts as texts;
+ghost use Rattle.bf_terms.specs.Texts as texts;
 ghost use Rattle.bf_log.specs.Labels.{AreCommits, commits_of, sides_of};
 ghost use Rattle.bf_search.specs.Within.{IsAskWithin, IsEntryWithin};
 ghost use Rattle.bf_log.specs.Lines.{Adds, waiting_line};

@@ -10,9 +10,9 @@ use Rattle.bf_search.specs.declared.entries.Entry.{Entry}
 use Rattle.bf_search.specs.declared.entries.Entry.TheVariants.{Start, Marked, SkippedBase, FirstBadFound, OnlySkippedLeft}
 use Rattle.bf_search.specs.declared.outcomes.Mark.{Mark}
 use Rattle.bf_search.specs.declared.outcomes.Mark.TheVariants.{Good, Bad, Skip}
-use Rattle.bf_texts.specs.Texts.{Commits, Sides, hex_of, label_of, text_line, comment_of, quoted, word_of_mark, given_terms, option_words, end_lines, end_words}
-use Rattle.bf_texts.specs.Texts.{start_lines, mark_lines, first_words, possible_words, skipped_left_lines, entry_lines, Known, known_after, waiting_for_old}
-use Rattle.bf_texts.specs.Texts.{waiting_for_both, waiting_for_new, waiting_text, has_status, status_line, log_from}
+use Rattle.bf_terms.specs.Texts.{Commits, Sides, hex_of, label_of, text_line, comment_of, quoted, word_of_mark, given_terms, option_words, end_lines, end_words}
+use Rattle.bf_terms.specs.Texts.{start_lines, mark_lines, first_words, possible_words, skipped_left_lines, entry_lines, Known, known_after, waiting_for_old}
+use Rattle.bf_terms.specs.Texts.{waiting_for_both, waiting_for_new, waiting_text, has_status, status_line, log_from}
 use Rattle.bf_reading.specs.Reading.{lines_of, past_blanks, behind, command_text, is_word, first_is_dash, read_start, read_words, and_then, Line, PassedOver}
 use Rattle.bf_reading.specs.Reading.{Command, line_of_word, read_line, read_log, said}
 use Rattle.bf_reading.specs.declared.line.LogWord.{LogWord}

@@ -8,8 +8,8 @@ use Rattle.bf_search.specs.declared.entries.Entry.TheVariants.{Start, Marked, Sk
 use Rattle.bf_search.specs.declared.outcomes.Mark.{Mark}
 use Rattle.bf_search.specs.declared.outcomes.Mark.TheVariants.{Good, Bad, Skip}
 use Rattle.bf_search.specs.Bases.{has_place}
-use Rattle.bf_texts.specs.Texts.{Commits, Sides, Known, hex_of, label_of, text_line, comment_of, word_of_mark, first_words, possible_words, skipped_left_lines}
-use Rattle.bf_texts.specs.Texts.{mark_lines, entry_lines, known_after, with_good, has_status, status_line, waiting_text, log_from}
+use Rattle.bf_terms.specs.Texts.{Commits, Sides, Known, hex_of, label_of, text_line, comment_of, word_of_mark, first_words, possible_words, skipped_left_lines}
+use Rattle.bf_terms.specs.Texts.{mark_lines, entry_lines, known_after, with_good, has_status, status_line, waiting_text, log_from}
 use Rattle.bf_reading.specs.Reading.{begin_with, lines_of, past_blanks, behind, command_text, read_line, read_log}
 use Rattle.bf_logs.specs.Written.{has_no_end, AreReadable, known_after_all}
 use Rattle.bf_logs.specs.Resolved.{AreRunEntries}
@@ -23,7 +23,7 @@ use Rattle.bf_graph.specs.Graph.{IsGraph}
 use Rattle.bf_search.specs.Outcomes.{Outcomes}
 use Rattle.bf_search.specs.State.{Search, IsSearchOver}
 use Rattle.bf_search.specs.Run.{run}
-use Rattle.bf_texts.specs.Texts.{nothing_known, log}
+use Rattle.bf_terms.specs.Texts.{nothing_known, log}
 use Rattle.bf_logs.specs.LogState.{retold}
 use Rattle.bf_logs.specs.Replay.{Setting}
 use Rattle.bf_logs.specs.Back.{Begin, start_of, told_of, IsReplayable, GoesOnFrom}

@@ -2,7 +2,7 @@
 use Rattle.std.proofs.Common.{◌≡◌, ℕ, false, List, [], ◌∷◌, ◌++◌, sym, ap, ◌∙◌, append_assoc, append-nil, ⊎_elim}
 use Rattle.std.proofs.lemmas.Bool.{cond-true, cond-false, cases_Bool}
 use Rattle.bf_search.specs.Bases.{has_place}
-use Rattle.bf_texts.specs.Texts.{with_goods}
+use Rattle.bf_terms.specs.Texts.{with_goods}
 
 -- places that stand neither there nor twice
 abbrev Fresh : List ℕ → List ℕ → Type 0

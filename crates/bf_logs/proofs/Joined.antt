@@ -2,7 +2,7 @@
 use Rattle.std.proofs.Common.{◌≡◌, ℕ, ◌+◌, ◌==◌, cond, Bool, true, false, List, [], ◌∷◌, ◌++◌, map, Option, Some, None, Result, Ok, Err, refl, sym, ap, ◌∙◌}
 use Rattle.std.proofs.Common.{append_assoc}
 use Rattle.bf_search.specs.declared.entries.Entry.{Entry}
-use Rattle.bf_texts.specs.Texts.{Commits, Sides, Known, entry_lines, status_line, known_after, log_from}
+use Rattle.bf_terms.specs.Texts.{Commits, Sides, Known, entry_lines, status_line, known_after, log_from}
 use Rattle.bf_logs.specs.LogState.{LogState, retold}
 use Rattle.bf_reading.specs.Reading.{begin_with, add_byte, lines_of, Line, PassedOver, Command, NoForm, read_line, add_line, read_lines, said}
 use Rattle.bf_reading.specs.declared.line.LogWord.{LogWord}

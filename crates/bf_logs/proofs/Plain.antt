@@ -6,7 +6,7 @@ use Rattle.std.proofs.lemmas.List.Folds.{list_all-append}
 use Rattle.std.specs.List.{list_all, flat_map, slice_index}
 use Rattle.std.specs.Fmt.{decimal, digits, digits_onto, digit_glyph}
 use Rattle.hex.specs.Hex.{encode_with, encode_lower, lower_digits}
-use Rattle.bf_texts.specs.Texts.{quoted}
+use Rattle.bf_terms.specs.Texts.{quoted}
 use Rattle.bf_reading.specs.Reading.{is_blank, add_byte, lines_of, Plain, Quoted, Words, no_words, end_word, with_byte, take_plain, take_byte, take_bytes}
 use Rattle.bf_reading.specs.Reading.{told_words, words_of, Line, PassedOver, Command, NoForm, read_line, add_line, read_lines, said, first_is_dash}
 use Rattle.bf_reading.specs.declared.line.LogWord.{LogWord}

@@ -6,7 +6,7 @@ use Rattle.bf_search.specs.declared.entries.Entry.{Entry}
 use Rattle.bf_search.specs.declared.entries.Entry.TheVariants.{Start, Marked, SkippedBase, FirstBadFound, OnlySkippedLeft}
 use Rattle.bf_search.specs.declared.outcomes.Mark.{Mark}
 use Rattle.bf_search.specs.declared.outcomes.Mark.TheVariants.{Good, Bad, Skip}
-use Rattle.bf_texts.specs.Texts.{Commits, Sides, standard_sides, hex_of, word_of_mark}
+use Rattle.bf_terms.specs.Texts.{Commits, Sides, standard_sides, hex_of, word_of_mark}
 use Rattle.bf_logs.specs.LogState.{LogState, started, marked_on, retold}
 use Rattle.bf_reading.specs.Reading.{is_word}
 use Rattle.bf_reading.specs.declared.line.LogWord.{LogWord}

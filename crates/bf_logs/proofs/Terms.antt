@@ -6,7 +6,7 @@ use Rattle.std.specs.Cmp.Lexicographic.{pointwise}
 use Rattle.bf_terms.specs.Words.{is_term_byte, is_command, has_length, begins_with_dash, has_form, is_term, is_new_term, is_old_term, term_fault}
 use Rattle.bf_terms.specs.Words as terms
 use Rattle.bf_terms.specs.declared.terms.TermFault.TheVariants.{New, Old, Same}
-use Rattle.bf_texts.specs.Texts.{Sides}
+use Rattle.bf_terms.specs.Texts.{Sides}
 use Rattle.bf_reading.specs.Reading.{is_word, first_is_dash}
 use Rattle.bf_logs.specs.Written.{is_plain, IsMarkWord}
 use Rattle.bf_logs.specs.Resolved.{AreTerms}

@@ -16,7 +16,7 @@ use Rattle.bf_search.specs.Outcomes.{Outcomes, verdict_of}
 use Rattle.bf_search.specs.State.{Search, IsSearchOver, ask, mark}
 use Rattle.bf_search.specs.Run.{Run, marked_one, after_verdict, after_look, after_step, turn, run_within, run}
 use Rattle.bf_search.proofs.Turns.{asking}
-use Rattle.bf_texts.specs.Texts.{Commits, Sides, nothing_known, log}
+use Rattle.bf_terms.specs.Texts.{Commits, Sides, nothing_known, log}
 use Rattle.bf_logs.specs.LogState.{LogState, warnings, retold, take_entry}
 use Rattle.bf_search.specs.Ends.{end_entries}
 use Rattle.bf_reading.specs.Reading.{read_log, said}

@@ -3,7 +3,7 @@ use Rattle.std.proofs.Common.{◌≡◌, ℕ, zero, suc, ◌<◌, true, false, [
 use Rattle.std.proofs.lemmas.List.Elements.{All-cons, All-nil}
 use Rattle.std.specs.List.{slice_index_or}
 use Rattle.hex.specs.Hex.{encode_with}
-use Rattle.bf_texts.specs.Texts.{hex_of, standard_sides, nothing_known}
+use Rattle.bf_terms.specs.Texts.{hex_of, standard_sides, nothing_known}
 use Rattle.bf_logs.specs.Written.{has_no_end, known_after_all}
 use Rattle.bf_logs.specs.Back.{Begin, start_of, IsReplayable}
 use Rattle.bf_logs.specs.Cut.{AreKnown}

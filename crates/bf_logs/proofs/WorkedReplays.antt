@@ -11,8 +11,8 @@ use Rattle.bf_search.specs.Candidates.{is_candidate, candidates, candidate_row, 
 use Rattle.bf_search.specs.Choice.{best}
 use Rattle.bf_search.specs.Bases.{common_places, merge_bases, reaches_all, check_bases, check}
 use Rattle.bf_search.specs.State.{best_of, ask, mark}
-use Rattle.bf_texts.specs.Texts.{Commits, Sides, standard_sides, waiting_for_old, waiting_for_both, waiting_for_new, given_terms, first_words, possible_words}
-use Rattle.bf_texts.specs.Texts.{end_lines, end_words, start_lines, mark_lines, skipped_left_lines, entry_lines, log_from, log}
+use Rattle.bf_terms.specs.Texts.{Commits, Sides, standard_sides, waiting_for_old, waiting_for_both, waiting_for_new, given_terms, first_words, possible_words}
+use Rattle.bf_terms.specs.Texts.{end_lines, end_words, start_lines, mark_lines, skipped_left_lines, entry_lines, log_from, log}
 use Rattle.bf_reading.specs.Reading.{is_word, lines_of, past_blanks, behind, command_text, take_bytes, words_of, read_start, read_words, read_lines, read_log}
 use Rattle.bf_reading.specs.declared.line.LogLine.{LogLine}
 use Rattle.bf_logs.specs.Replay.{Setting, ReplayFault, Name, NotStarted, Term, Replayed, places_of, replay_from, replay}

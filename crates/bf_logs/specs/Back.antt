@@ -5,7 +5,7 @@ use Rattle.bf_search.specs.declared.entries.Entry.{Entry}
 use Rattle.bf_search.specs.declared.entries.Entry.TheVariants.{Start}
 use Rattle.bf_search.specs.Outcomes.{Outcomes}
 use Rattle.bf_search.specs.Run.{Run, run}
-use Rattle.bf_texts.specs.Texts.{Commits, Sides, hex_of}
+use Rattle.bf_terms.specs.Texts.{Commits, Sides, hex_of}
 use Rattle.bf_logs.specs.LogState.{LogState, started, closed, told_by}
 use Rattle.bf_reading.specs.Reading.{read_log}
 use Rattle.bf_reading.specs.declared.line.LogLine.{LogLine}

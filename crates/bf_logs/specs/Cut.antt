@@ -5,7 +5,7 @@ use Rattle.bf_search.specs.declared.entries.Entry.TheVariants.{Marked}
 use Rattle.bf_search.specs.declared.outcomes.Mark.{Mark}
 use Rattle.bf_search.specs.Outcomes.{Outcomes}
 use Rattle.bf_search.specs.Run.{Run, run}
-use Rattle.bf_texts.specs.Texts.{Commits, Sides, Known, log_from}
+use Rattle.bf_terms.specs.Texts.{Commits, Sides, Known, log_from}
 use Rattle.bf_logs.specs.LogState.{LogState}
 use Rattle.bf_reading.specs.Reading.{Line, PassedOver, Command, NoForm, read_line}
 use Rattle.bf_logs.specs.Written.{known_after_all}

@@ -7,7 +7,7 @@ use Rattle.bf_search.specs.declared.outcomes.Mark.{Mark}
 use Rattle.bf_search.specs.Outcomes.{Outcomes}
 use Rattle.bf_search.specs.State.{Search, IsSearchOver}
 use Rattle.bf_search.specs.Run.{run}
-use Rattle.bf_texts.specs.Texts.{Commits, Sides, Known, nothing_known, log_from, log}
+use Rattle.bf_terms.specs.Texts.{Commits, Sides, Known, nothing_known, log_from, log}
 use Rattle.bf_reading.specs.Reading.{said, lines_of, read_log}
 use Rattle.bf_logs.specs.LogState.{LogState, retold, closed, told_by}
 use Rattle.bf_logs.specs.Written.{AreReadable, AreNamed, words_of_entries, known_after_all}

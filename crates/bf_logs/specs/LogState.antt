@@ -6,7 +6,7 @@ use Rattle.bf_search.specs.declared.entries.Entry.TheVariants.{Start, Marked, Sk
 use Rattle.bf_search.specs.declared.outcomes.Mark.{Mark}
 use Rattle.bf_search.specs.State.{Search, ask, mark}
 use Rattle.bf_search.specs.Run.{Run, End, Answered, Leg, Open, Aborted}
-use Rattle.bf_texts.specs.Texts.{with_goods}
+use Rattle.bf_terms.specs.Texts.{with_goods}
 
 -- a search, and the entries that led to it
 pub record LogState : Type 0 where

@@ -4,7 +4,7 @@ use Rattle.bf_search.specs.declared.outcomes.Mark.{Mark}
 use Rattle.bf_search.specs.declared.outcomes.Mark.TheVariants.{Good, Bad, Skip}
 use Rattle.bf_terms.specs.Words.{term_fault}
 use Rattle.bf_terms.specs.declared.terms.TermFault.{TermFault}
-use Rattle.bf_texts.specs.Texts.{Sides, standard_sides}
+use Rattle.bf_terms.specs.Texts.{Sides, standard_sides}
 use Rattle.bf_logs.specs.LogState.{LogState, started, marked_on}
 use Rattle.bf_reading.specs.Reading.{is_word}
 use Rattle.bf_reading.specs.declared.line.LogWord.{LogWord}

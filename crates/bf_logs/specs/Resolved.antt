@@ -2,7 +2,7 @@
 use Rattle.std.specs.Prelude.{◌≡◌, ℕ, ◌<◌, Bool, true, false, List, [], ◌∷◌, codes, Ok}
 use Rattle.bf_search.specs.declared.entries.Entry.{Entry}
 use Rattle.bf_search.specs.declared.entries.Entry.TheVariants.{Start, Marked}
-use Rattle.bf_texts.specs.Texts.{Commits, Sides, standard_sides, hex_of}
+use Rattle.bf_terms.specs.Texts.{Commits, Sides, standard_sides, hex_of}
 use Rattle.bf_reading.specs.Reading.{is_word}
 use Rattle.bf_logs.specs.Replay.{Setting}
 

@@ -4,7 +4,7 @@ use Rattle.std.specs.List.{list_all, slice_index_or}
 use Rattle.bf_search.specs.declared.entries.Entry.{Entry}
 use Rattle.bf_search.specs.declared.entries.Entry.TheVariants.{Start, Marked}
 use Rattle.bf_terms.specs.Words.{term_fault}
-use Rattle.bf_texts.specs.Texts.{Commits, Sides, Known, known_after, hex_of, word_of_mark}
+use Rattle.bf_terms.specs.Texts.{Commits, Sides, Known, known_after, hex_of, word_of_mark}
 use Rattle.bf_reading.specs.Reading.{is_word, first_is_dash}
 use Rattle.bf_reading.specs.declared.line.LogWord.{LogWord}
 use Rattle.bf_reading.specs.declared.line.LogWord.TheVariants.{MarkWord}

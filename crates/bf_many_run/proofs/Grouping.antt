@@ -19,7 +19,7 @@ use Rattle.bf_search.specs.declared.outcomes.Outcome.{Outcome}
 use Rattle.bf_search.specs.Run.{Run}
 use Rattle.bf_state.specs.Session.{Session}
 use Rattle.bf_tester.specs.declared.tester.Tester.{Ghosts}
-use Rattle.bf_texts.specs.Texts.{Known, answer_lines, log_from}
+use Rattle.bf_terms.specs.Texts.{Known, answer_lines, log_from}
 use Rattle.bf_words.specs.declared.request.Request.{Request}
 use Rattle.bf_words.specs.Words.{request}
 use Rattle.bf_many_run.specs.declared.begun.Begun.{Begun}

@@ -26,7 +26,7 @@ use Rattle.bf_searches.specs.Telling.{trace_with}
 use Rattle.bf_state.specs.Runs.{is_open}
 use Rattle.bf_state.specs.Session.{Session}
 use Rattle.bf_searches.specs.declared.telling.Telling.{Telling}
-use Rattle.bf_texts.specs.Texts.{Commits, Sides, answer_lines, log_from}
+use Rattle.bf_terms.specs.Texts.{Commits, Sides, answer_lines, log_from}
 use Rattle.bf_many_run.specs.declared.begun.Begun.{Begun}
 use Rattle.bf_many_run.specs.Groups.{IsLogOf, log_with, told_from, told_over, trace_of}
 

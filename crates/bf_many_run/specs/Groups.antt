@@ -24,7 +24,7 @@ use Rattle.bf_search.specs.Run.{Run, one_at_a_time}
 use Rattle.bf_searches.specs.Telling.{trace_with}
 use Rattle.bf_searches.specs.declared.telling.Telling.{Telling}
 use Rattle.bf_tester.specs.declared.tester.Tester.{Ghosts}
-use Rattle.bf_texts.specs.Texts.{answer_lines, log_from}
+use Rattle.bf_terms.specs.Texts.{answer_lines, log_from}
 use Rattle.bf_many_run.specs.declared.begun.Begun.{Begun}
 use Rattle.bf_many_run.specs.declared.begun.Slot.{Slot}
 use Rattle.bf_many_run.specs.declared.begun.Slot.TheVariants.{Refused, Begun as BegunSlot}

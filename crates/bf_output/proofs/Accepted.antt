@@ -3,7 +3,7 @@ use Rattle.std.proofs.Common.{◌≡◌, ℕ, cond, Bool, true, false, ◌||◌,
 use Rattle.std.proofs.Common.{refl, subst}
 use Rattle.std.specs.Option.{option_map}
 use Rattle.bf_terms.specs.Words.{term_fault}
-use Rattle.bf_texts.specs.Texts.{Sides}
+use Rattle.bf_terms.specs.Texts.{Sides}
 use Rattle.bf_words.specs.declared.options.Choice.TheVariants.{TermNew, TermOld}
 use Rattle.bf_words.specs.declared.request.Request.{Request}
 use Rattle.bf_words.specs.declared.role.Role.{Role}

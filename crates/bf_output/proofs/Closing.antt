@@ -6,7 +6,7 @@ use Rattle.bf_search.specs.State.{Search, ask, mark}
 use Rattle.bf_state.proofs.Asks.{ask_leaves}
 use Rattle.bf_terms.specs.declared.terms.TermFault.{TermFault}
 use Rattle.bf_terms.specs.Words.{term_fault}
-use Rattle.bf_texts.specs.Texts.{Sides}
+use Rattle.bf_terms.specs.Texts.{Sides}
 use Rattle.bf_logs.specs.LogState.{marked_on}
 use Rattle.bf_logs.specs.Replay.{Setting, ReplayFault, Replayed, Worded, if_ok, places_of, terms_of, has_none, names_terms, tried, begun_at, open_sides}
 use Rattle.bf_logs.specs.Replay.{mark_in, by_terms, mark_of, stays_open, worded, named, take_line, replay_from, replay}

@@ -12,7 +12,7 @@ use Rattle.bf_state.proofs.Tables.{seq_ends_alike, seq_goes_on}
 use Rattle.bf_words.specs.declared.request.Request.{Request}
 use Rattle.bf_output.specs.Beginning.{Begun, commits_of, log_on}
 use Rattle.bf_output.specs.Simulate.{IsRunTold, IsSimulated, plan_of, ran, run_over, status_of_end}
-use Rattle.bf_texts.specs.Texts.{answer_lines}
+use Rattle.bf_terms.specs.Texts.{answer_lines}
 use Rattle.bf_output.specs.Tested.{Tested, IsTested, IsFrontIfTold, run_on, status_at_end, lines_at_end, told_of_run, is_test_fault}
 use Rattle.bf_output.specs.Traces.{traced, traced_if}
 use Rattle.bf_output.specs.Told.{Told}

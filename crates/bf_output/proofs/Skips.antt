@@ -7,7 +7,7 @@ use Rattle.bf_search.specs.declared.entries.Entry.{Entry}
 use Rattle.bf_search.specs.declared.outcomes.Mark.TheVariants.{Skip}
 use Rattle.bf_search.specs.State.{Search, IsSearchOver, ask, mark}
 use Rattle.bf_state.proofs.Asks.{ask_leaves}
-use Rattle.bf_texts.specs.Texts.{Known}
+use Rattle.bf_terms.specs.Texts.{Known}
 use Rattle.bf_logs.specs.Resolved.{AreRunEntries}
 use Rattle.bf_logs.specs.LogState.{LogState, retold}
 use Rattle.bf_logs.specs.Written.{known_after_all}

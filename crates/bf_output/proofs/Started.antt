@@ -16,7 +16,7 @@ use Rattle.bf_search.specs.declared.entries.Entry.TheVariants.{Start}
 use Rattle.bf_search.specs.State.{IsSearchOver}
 use Rattle.bf_state.proofs.Below.{below_begun, IsSearchOver-from_below}
 use Rattle.bf_state.proofs.Once.{All-with_goods}
-use Rattle.bf_texts.specs.Texts.{Sides, nothing_known, with_goods}
+use Rattle.bf_terms.specs.Texts.{Sides, nothing_known, with_goods}
 use Rattle.bf_words.specs.declared.request.Request.{Request}
 use Rattle.bf_output.specs.Beginning.{Begun, between_ends, has_ends, sides_or_standard, with_skips}
 use Rattle.bf_output.proofs.Accepted.{AreAccepted}

@@ -13,7 +13,7 @@ use Rattle.bf_state.specs.Session.{begun}
 use Rattle.bf_logs.specs.Replay.{Replayed}
 use Rattle.bf_logs.specs.Written.{known_after_all}
 use Rattle.bf_shelf.specs.declared.shelf.LoadFault.{LoadFault}
-use Rattle.bf_texts.specs.Texts.{Commits, Sides, Known, nothing_known, standard_sides, log_from, with_goods}
+use Rattle.bf_terms.specs.Texts.{Commits, Sides, Known, nothing_known, standard_sides, log_from, with_goods}
 use Rattle.bf_words.specs.declared.request.Request.{Request}
 use Rattle.bf_words.specs.Words.{word_at}
 use Rattle.bf_output.specs.Logs.{replayed_log}

@@ -7,7 +7,7 @@ use Rattle.bf_grammar.specs.declared.fault.StreamFault.TheVariants as stream
 use Rattle.bf_history.specs.declared.fault.ImportFault.{ImportFault}
 use Rattle.bf_history.specs.declared.fault.ImportFault.TheVariants as faults
 use Rattle.bf_names.specs.declared.fault.NameFault.{NameFault}
-use Rattle.bf_texts.specs.Texts.{Sides, text_line, waiting_text}
+use Rattle.bf_terms.specs.Texts.{Sides, text_line, waiting_text}
 use Rattle.bf_output.specs.declared.status.Status.TheVariants as status
 use Rattle.bf_output.specs.declared.status.StreamKind.{StreamKind}
 use Rattle.bf_output.specs.declared.status.StreamKind.TheVariants as kind

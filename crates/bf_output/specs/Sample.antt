@@ -7,7 +7,7 @@ use Rattle.bf_search.specs.declared.entries.Entry.TheVariants.{Start, Marked, Sk
 use Rattle.bf_search.specs.declared.outcomes.Outcome.{Outcome}
 use Rattle.bf_search.specs.declared.outcomes.Outcome.TheVariants.{Exit}
 use Rattle.bf_search.specs.Run.{Run}
-use Rattle.bf_texts.specs.Texts.{text_line, answer_lines}
+use Rattle.bf_terms.specs.Texts.{text_line, answer_lines}
 use Rattle.bf_words.specs.declared.request.Request.{Request}
 use Rattle.bf_output.specs.Beginning.{Begun, between_ends, commits_of}
 use Rattle.bf_output.specs.Simulate.{run_over, status_of_end}

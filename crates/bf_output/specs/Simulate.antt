@@ -9,7 +9,7 @@ use Rattle.bf_search.specs.declared.outcomes.Outcome.TheVariants.{Exit}
 use Rattle.bf_runs.specs.Legs.{Legs, AreLegs, AreTestsOf, all_of}
 use Rattle.bf_search.specs.Outcomes.{lenient, outcome_of_letter, outcomes_of_plan, outcomes_of_table}
 use Rattle.bf_search.specs.Run.{End, Answered, Leg, Open, Aborted, Run, one_at_a_time}
-use Rattle.bf_texts.specs.Texts.{answer_lines}
+use Rattle.bf_terms.specs.Texts.{answer_lines}
 use Rattle.bf_words.specs.declared.request.Request.{Request}
 use Rattle.bf_words.specs.Words.{word_or}
 use Rattle.bf_output.specs.declared.status.Status.{Status}

@@ -11,7 +11,7 @@ use Rattle.bf_state.specs.Runs.{GoesOn, is_open}
 use Rattle.bf_tester.specs.declared.answer.Answer.{Answer}
 use Rattle.bf_tester.specs.declared.tester.Tester.{Ghosts}
 use Rattle.bf_tester.specs.Plans.{PreparesTold}
-use Rattle.bf_texts.specs.Texts.{Commits, Sides, answer_lines}
+use Rattle.bf_terms.specs.Texts.{Commits, Sides, answer_lines}
 use Rattle.bf_words.specs.declared.request.Request.{Request}
 use Rattle.bf_output.specs.declared.status.Status.{Status}
 use Rattle.bf_output.specs.declared.status.Status.TheVariants as status

@@ -5,7 +5,7 @@ use Rattle.bf_history.specs.Meanings.{History}
 use Rattle.bf_log.specs.Trace.{event_lines, leg_line}
 use Rattle.bf_runs.specs.Legs.{Course, Legs}
 use Rattle.bf_search.specs.declared.farm.Event.{Event}
-use Rattle.bf_texts.specs.Texts.{Commits}
+use Rattle.bf_terms.specs.Texts.{Commits}
 use Rattle.bf_words.specs.declared.request.Request.{Request}
 use Rattle.bf_output.specs.Beginning.{Begun, commits_of}
 use Rattle.bf_output.specs.Told.{Told}

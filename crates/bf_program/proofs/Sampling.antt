@@ -30,7 +30,7 @@ use Rattle.bf_search.specs.State.{Search, ask}
 use Rattle.bf_state.specs.Session.{Session, with_search}
 use Rattle.bf_tester.specs.Plans.{is_letter, plan_of}
 use Rattle.bf_tester.specs.declared.answer.Answer.{Answer as Tests}
-use Rattle.bf_texts.specs.Texts.{answer_lines, with_goods}
+use Rattle.bf_terms.specs.Texts.{answer_lines, with_goods}
 use Rattle.bf_words.specs.declared.request.Request.{Request}
 use Rattle.bf_answers.specs.Answers.{IsWhole}
 use Rattle.bf_answers.specs.Tellings.{begun_of, told_of}

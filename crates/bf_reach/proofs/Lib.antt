@@ -1,3 +1,9 @@
+pub mod Joined
+pub mod BitRows
+pub mod Counted
+pub mod Lowest
+pub mod RowSteps
+pub mod BlockSteps
 pub mod Listed
 pub mod Marking
 pub mod Chains

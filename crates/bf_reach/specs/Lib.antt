@@ -1,1 +1,5 @@
+pub mod Bits
+pub mod Bitwise
+pub mod Blocks
+pub mod Row
 pub mod Marks

@@ -4,7 +4,7 @@ ghost use Rattle.bf_reach.specs.Marks.{marked};
 ghost use Rattle.bf_search.specs.Candidates.{places_of};
 
 use bf_graph::Places;
-use bf_rows::Row;
+use crate::Row;
 use std::alloc::{AllocError, Global};
 
 /// Makes these places true, and leaves the others.

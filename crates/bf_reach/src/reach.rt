@@ -7,7 +7,7 @@ ghost use Rattle.bf_reach.specs.Marks.{Marks};
 
 use crate::marks::mark_all;
 use bf_graph::Graph;
-use bf_rows::Row;
+use crate::Row;
 use std::alloc::{AllocError, Global};
 use std::marker::Model;
 

@@ -17,7 +17,7 @@ use Rattle.bf_search.specs.declared.outcomes.Mark.{Mark}
 use Rattle.bf_state.specs.Session.{Session, begun}
 use Rattle.bf_terms.specs.declared.terms.TermFault.{TermFault}
 use Rattle.bf_terms.specs.declared.terms.TermFault.TheVariants as terms
-use Rattle.bf_texts.specs.Texts.{Sides}
+use Rattle.bf_terms.specs.Texts.{Sides}
 use Rattle.bf_names.specs.declared.fault.NameFault.{NameFault}
 use Rattle.bf_replay.specs.declared.fault.ReplayFault.{ReplayFault}
 use Rattle.bf_replay.specs.declared.fault.ReplayFault.TheVariants as faults

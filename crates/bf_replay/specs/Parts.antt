@@ -10,7 +10,7 @@ use Rattle.bf_search.specs.declared.entries.Entry.{Entry}
 use Rattle.bf_search.specs.declared.entries.Entry.TheVariants.{Marked}
 use Rattle.bf_search.specs.declared.outcomes.Mark.{Mark}
 use Rattle.bf_state.specs.Session.{Session}
-use Rattle.bf_texts.specs.Texts.{Sides}
+use Rattle.bf_terms.specs.Texts.{Sides}
 use Rattle.bf_logs.specs.Replay as replay
 use Rattle.bf_replay.specs.declared.fold.Replayed.{Replayed}
 use Rattle.bf_replay.specs.declared.fold.Setting.{Setting}

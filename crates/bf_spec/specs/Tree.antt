@@ -11,7 +11,7 @@ use Rattle.bf_search.specs.Outcomes.{outcomes_of_table}
 use Rattle.bf_search.specs.Run.{Run, run}
 use Rattle.bf_search.specs.State.{Asked}
 use Rattle.bf_state.specs.Session.{Session, with_search}
-use Rattle.bf_texts.specs.Texts.{standard_sides}
+use Rattle.bf_terms.specs.Texts.{standard_sides}
 use Rattle.bf_spec.specs.declared.node.Node.{Node}
 use Rattle.bf_spec.specs.Nodes.{path_of, IsTree}
 use Rattle.bf_spec.specs.Ways.{IsAsked}

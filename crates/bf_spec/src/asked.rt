@@ -10,7 +10,7 @@ use crate::nodes::Nodes;
 use crate::table::Table;
 use crate::walk::child;
 use bf_reach::Reach;
-use bf_rows::Row;
+use bf_reach::Row;
 use bf_search::{Ask, Mark, Verdict};
 use bf_state::State;
 use bf_terms::verdict_of;

@@ -6,7 +6,7 @@ use Rattle.std.proofs.lemmas.List.Elements.{All-push, All-head, All-tail}
 use Rattle.std.proofs.lemmas.List.Folds.{list_any-append}
 use Rattle.std.proofs.lemmas.List.Quantifiers.{all_pairs_push}
 use Rattle.std.specs.List.{All, AllPairs}
-use Rattle.bf_texts.specs.Texts.{with_good, with_goods}
+use Rattle.bf_terms.specs.Texts.{with_good, with_goods}
 use Rattle.bf_search.specs.Bases.{has_place}
 use Rattle.bf_search.proofs.Turns.{has_place-true}
 

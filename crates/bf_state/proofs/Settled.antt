@@ -4,7 +4,7 @@ use Rattle.std.proofs.lemmas.Bool.{false_from_ne_true, cond-false}
 use Rattle.std.specs.List.{filter, find}
 use Rattle.std.specs.Prelude.{not}
 use Rattle.bf_graph.specs.Graph.{IsGraph}
-use Rattle.bf_texts.specs.Texts.{with_good}
+use Rattle.bf_terms.specs.Texts.{with_good}
 use Rattle.bf_search.specs.declared.asks.Ask.{Ask}
 use Rattle.bf_search.specs.declared.asks.Ask.TheVariants.{WaitBoth, WaitBad, WaitGood, Test, MergeBaseBad, GoodNotAncestor, BothSides, FirstBad, OnlySkipped}
 use Rattle.bf_search.specs.declared.asks.Check.{Check}

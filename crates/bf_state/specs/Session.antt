@@ -3,7 +3,7 @@ use Rattle.std.specs.Prelude.{◌≡◌, ◌≢◌, ℕ, ◌<◌, Bool, false, L
 use Rattle.bf_search.specs.declared.asks.Step.{Step}
 use Rattle.bf_search.specs.declared.outcomes.Mark.{Mark}
 use Rattle.std.specs.List.{AllPairs}
-use Rattle.bf_texts.specs.Texts.{Sides, with_goods}
+use Rattle.bf_terms.specs.Texts.{Sides, with_goods}
 use Rattle.bf_search.specs.State.{Search, ask, mark}
 
 pub record Session : Type 0 where

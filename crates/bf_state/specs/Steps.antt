@@ -13,7 +13,7 @@ use Rattle.bf_state.specs.declared.asking.Decision.{Decision}
 use Rattle.bf_state.specs.declared.asking.Passage.{Passage}
 use Rattle.bf_state.specs.declared.asking.Passage.TheVariants.{Asks, Passed}
 use Rattle.bf_state.specs.Session.{Session, with_search}
-use Rattle.bf_texts.specs.Texts.{with_good}
+use Rattle.bf_terms.specs.Texts.{with_good}
 
 -- the place that an ask asks to test
 abbrev pub tested : Ask → Option ℕ

@@ -15,7 +15,7 @@ use bf_choice::candidates;
 use bf_choice::choose;
 use bf_graph::Places;
 use bf_reach::{Reach, true_places};
-use bf_rows::Row;
+use bf_reach::Row;
 use bf_search::{Ask, Check, Step};
 use bf_choice::weights;
 use std::alloc::AllocError;

@@ -11,7 +11,7 @@ use crate::state::State;
 use crate::weighed::weights_of;
 use bf_choice::Ranking;
 use bf_reach::{Reach, true_places};
-use bf_rows::Row;
+use bf_reach::Row;
 use bf_search::{Ask, Step};
 use std::alloc::AllocError;
 

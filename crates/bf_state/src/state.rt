@@ -1,7 +1,7 @@
 //! The state of a search.
 ghost use Rattle.std.specs.Prelude.{◌≡◌, ◌≢◌, ℕ, ◌<◌, true, false, length, Some, None, All, IfSome, IfOk, OnOk, OnErr};
 ghost use Rattle.bf_graph.specs.Graph.{IsGraph};
-ghost use Rattle.bf_texts.specs.Texts.{with_good};
+ghost use Rattle.bf_terms.specs.Texts.{with_good};
 ghost use Rattle.bf_search.specs.Bases.{has_place};
 ghost use Rattle.bf_search.specs.State as searches;
 ghost use Rattle.bf_search.specs.declared.asks.Ask.TheVariants.{Test};
@@ -19,7 +19,7 @@ use bf_choice::Ranking;
 use bf_goods::Goods;
 use bf_graph::Places;
 use bf_reach::Reach;
-use bf_rows::Row;
+use bf_reach::Row;
 use bf_search::{Mark, Step};
 use bf_terms::Terms;
 use std::alloc::{AllocError, Global};

@@ -9,7 +9,7 @@ use crate::asking::{Decision, Passage, ask_over, pass};
 use crate::state::State;
 use bf_choice::candidates;
 use bf_reach::Reach;
-use bf_rows::Row;
+use bf_reach::Row;
 use bf_search::Step;
 use bf_choice::weights;
 use std::alloc::AllocError;

@@ -1,3 +1,15 @@
+pub mod Chains
+pub mod Delimited
+pub mod Ends
+pub mod Filled
+pub mod Fronts
+pub mod Going
+pub mod Holding
+pub mod Looking
+pub mod Passing
+pub mod Pieces
+pub mod Plain
+pub mod Words
 pub mod Lines
 pub mod Starts
 pub mod Turns

@@ -9,10 +9,10 @@ use Rattle.bf_grammar.specs.Place.{Reading, Gives, pure, refuse, lifted, ◌>>=�
 use Rattle.bf_grammar.specs.Lines.{front_line, take_line, with_line}
 use Rattle.bf_grammar.specs.Commands.{line_as, optional, some}
 use Rattle.bf_grammar.proofs.Parts.{LineIs}
-use Rattle.bf_lines.specs.declared.cursor.Cursor.{Cursor}
-use Rattle.bf_lines.specs.Cursor.{Reads, TextIs, place_at, line_of, looks_for}
-use Rattle.bf_lines.specs.Held.{Held, place_of}
-use Rattle.bf_lines.proofs.Chains.{reads_then, reads_stopped, reads_pure, reads_said, reads_unsaid, reads_line}
+use Rattle.bf_stream.specs.declared.cursor.Cursor.{Cursor}
+use Rattle.bf_stream.specs.Cursor.{Reads, TextIs, place_at, line_of, looks_for}
+use Rattle.bf_stream.specs.Held.{Held, place_of}
+use Rattle.bf_stream.proofs.Chains.{reads_then, reads_stopped, reads_pure, reads_said, reads_unsaid, reads_line}
 
 -- what holds where a test is true
 pub at_true : (test : Bool) (P : Type 0) → test ≡ true → OnTrue test P → P

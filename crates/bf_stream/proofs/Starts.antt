@@ -17,10 +17,10 @@ use Rattle.bf_grammar.specs.Lines.{is_text, take_line}
 use Rattle.bf_grammar.specs.Forms.{where_so, data_form, modified_path}
 use Rattle.bf_grammar.specs.Commands.{content_at, announced_at, dataref_at, command_of, done_is_due, end_of_input}
 use Rattle.bf_grammar.proofs.Parts.{LineIs}
-use Rattle.bf_lines.specs.declared.cursor.Cursor.{Cursor}
-use Rattle.bf_lines.specs.Cursor.{Reads, place_at, limits_of, line_of, is_due}
-use Rattle.bf_lines.specs.Held.{Held, place_in, place_of}
-use Rattle.bf_lines.proofs.Chains.{reads_then, reads_stopped, reads_pure, reads_said, reads_unsaid, reads_line, reads_same}
+use Rattle.bf_stream.specs.declared.cursor.Cursor.{Cursor}
+use Rattle.bf_stream.specs.Cursor.{Reads, place_at, limits_of, line_of, is_due}
+use Rattle.bf_stream.specs.Held.{Held, place_in, place_of}
+use Rattle.bf_stream.proofs.Chains.{reads_then, reads_stopped, reads_pure, reads_said, reads_unsaid, reads_line, reads_same}
 use Rattle.bf_stream.specs.Parts.{content_named}
 use Rattle.bf_stream.proofs.Lines.{reads_value}
 

@@ -7,8 +7,8 @@ use Rattle.bf_grammar.specs.Place.{Place, Reading, and_then, ◌>>=◌, goes_on,
 use Rattle.bf_grammar.specs.Commands.{target_at, change_at, merges_at, changes_at, one_more, all_of}
 use Rattle.bf_grammar.proofs.Composing.{fails_alike}
 use Rattle.bf_grammar.proofs.Repeating.{TakesSome, repeat-is}
-use Rattle.bf_lines.specs.declared.cursor.Cursor.{Cursor}
-use Rattle.bf_lines.specs.Cursor.{Reads, place_at, faults_at, limits_of, left_to_read}
+use Rattle.bf_stream.specs.declared.cursor.Cursor.{Cursor}
+use Rattle.bf_stream.specs.Cursor.{Reads, place_at, faults_at, limits_of, left_to_read}
 
 abbrev pub step_of : {X : Type 0} → Reading (Option X) → List X → Reading (List X ⊎ List X)
 step_of item items = item >>= one_more items

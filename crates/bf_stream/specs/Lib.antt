@@ -1,2 +1,10 @@
+pub mod Cursor
+pub mod Data
+pub mod Filling
+pub mod Fronts
+pub mod Going
+pub mod Held
+pub mod Steps
+pub mod Window
 pub mod Parts
 pub mod Standing

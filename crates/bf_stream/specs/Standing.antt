@@ -5,7 +5,7 @@ use Rattle.bf_grammar.specs.declared.command.Command.{Command}
 use Rattle.bf_grammar.specs.declared.fault.Limits.{Limits}
 use Rattle.bf_grammar.specs.declared.fault.StreamFault.{StreamFault}
 use Rattle.bf_grammar.specs.Place.{Place, Reading}
-use Rattle.bf_lines.specs.Cursor as cursor
+use Rattle.bf_stream.specs.Cursor as cursor
 use Rattle.bf_stream.specs.declared.reader.Reader.{Reader}
 
 -- the place where a reader stands, where the source tells what it has left

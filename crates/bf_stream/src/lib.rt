@@ -12,5 +12,5 @@ mod reading;
 pub use bf_grammar::{
     Change, Changes, Command, Commit, DataRef, Header, Limit, Limits, StreamFault, Target, Targets,
 };
-pub use bf_lines::Window;
+pub use window::Window;
 pub use reader::Reader;

@@ -1,6 +1,6 @@
 //! The parts of a command: lines that begin with their word, and data parts.
 ghost use Rattle.bf_grammar.specs.Commands as grammar;
-ghost use Rattle.bf_lines.specs.Cursor.{IsShortWord};
+ghost use Rattle.bf_stream.specs.Cursor.{IsShortWord};
 ghost use Rattle.bf_stream.specs.Parts.{ident_behind, ident_in, target_behind, target_in};
 ghost use Rattle.bf_stream.specs.Standing.{HasLine, Reads, Takes, TakesIfSome};
 

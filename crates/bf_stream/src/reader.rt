@@ -1,5 +1,5 @@
 //! The reader of commands.
-use bf_lines::Cursor;
+use crate::Cursor;
 
 /// Reads the commands of a stream from a source, in windows of 64 KiB. It borrows the source as long
 /// as it lives, and the bytes that it has read are gone from the source.

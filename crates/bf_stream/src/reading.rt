@@ -2,14 +2,14 @@
 ghost use Rattle.std.specs.Prelude.{◌≡◌, false, IfOk};
 ghost use Rattle.bf_grammar.specs.Commands.{command_at};
 ghost use Rattle.bf_grammar.specs.Limits.{IsWithin};
-ghost use Rattle.bf_lines.specs.Held.{nothing_held};
+ghost use Rattle.bf_stream.specs.Held.{nothing_held};
 ghost use Rattle.bf_stream.specs.Standing as standing;
 ghost use Rattle.bf_stream.specs.Standing.{Opens, Reads, IsOverBy, TakesIfSome};
 
 use crate::{Reader, Window};
 use bf_grammar::{Command, Limits, StreamFault};
 use bf_io::Source;
-use bf_lines::Cursor;
+use crate::Cursor;
 use std::alloc::{AllocError, Global};
 
 impl<'a, S: Source> Reader<'a, S> {

@@ -1,6 +1,6 @@
 //! The terms of a search.
 ghost use Rattle.std.specs.Prelude.{◌≡◌, codes, Some, None, Err, IfSome, IfNone, IfOk, IsOkUnless};
-ghost use Rattle.bf_texts.specs.Texts.{standard_sides};
+ghost use Rattle.bf_terms.specs.Texts.{standard_sides};
 ghost use Rattle.bf_terms.specs.Words.{term_fault};
 ghost use Rattle.bf_terms.specs.declared.terms.TermFault.TheVariants as faults;
 
@@ -47,7 +47,7 @@ pub struct Terms {
 
 impl Model for Terms {
     ghost use Rattle.std.specs.Prelude.{◌≡◌, None};
-    ghost use Rattle.bf_texts.specs.Texts.{Sides};
+    ghost use Rattle.bf_terms.specs.Texts.{Sides};
 
     ghost Value = { Sides };
 

@@ -5,7 +5,7 @@ use bf_import::{History, ImportFault, Limits, import};
 use bf_io::{Bytes, MemSource};
 use bf_names::{NameFault, resolve, resolve_range};
 use bf_reach::Reach;
-use bf_rows::Row;
+use bf_reach::Row;
 use std::alloc::{AllocError, Global};
 use std::process::Abort;
 use std::test::Fail;

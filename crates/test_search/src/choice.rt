@@ -1,6 +1,6 @@
 //! Which commit is asked.
 use bf_choice::choose;
-use bf_rows::Row;
+use bf_reach::Row;
 use std::test::Fail;
 
 /// The commits 1, 2 and 3 of a diamond whose root is good and whose last commit is bad.

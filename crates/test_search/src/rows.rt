@@ -1,5 +1,5 @@
 //! Rows of places.
-use bf_rows::{Blocks, Row};
+use bf_reach::{Blocks, Row};
 use std::test::Fail;
 
 #[test]

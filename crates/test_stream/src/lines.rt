@@ -4,7 +4,7 @@ ghost use Rattle.bf_grammar.specs.Limits.{IsWithin};
 
 use bf_grammar::{Limit, Limits, StreamFault};
 use bf_io::{Bytes, MemSource};
-use bf_lines::Cursor;
+use bf_stream::Cursor;
 use std::alloc::Global;
 use std::process::Abort;
 use std::test::Fail;

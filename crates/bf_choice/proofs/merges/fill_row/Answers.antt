@@ -1,5 +1,5 @@
 use Rattle.std.proofs.Common.{ℕ, List, set, ap, ◌∙◌}
-use Rattle.bf_rows.specs.Blocks.{row_at}
+use Rattle.bf_reach.specs.Blocks.{row_at}
 use Rattle.bf_choice.specs.BlockRows.{or_rows}
 use Rattle.bf_choice.proofs.Rows.{HasBlockRows-more}
 use Rattle.bf_choice.proofs.merges.fill_row.Goals as goal

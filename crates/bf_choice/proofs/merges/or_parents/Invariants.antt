@@ -1,5 +1,5 @@
 use Rattle.std.proofs.Common.{◌≡◌, set, take}
-use Rattle.bf_rows.specs.Blocks.{row_at}
+use Rattle.bf_reach.specs.Blocks.{row_at}
 use Rattle.bf_choice.specs.BlockRows.{or_rows}
 use Rattle.bf_choice.proofs.merges.or_parents.Given as goal
 

@@ -1,6 +1,6 @@
 use Rattle.std.proofs.Common.{◌++◌, codes}
-use Rattle.bf_texts.specs.Texts as texts
-use Rattle.bf_texts.specs.Texts.{aborted_line}
+use Rattle.bf_terms.specs.Texts as texts
+use Rattle.bf_terms.specs.Texts.{aborted_line}
 use Rattle.bf_log.specs.Labels.{commits_of}
 use Rattle.bf_log.proofs.Joined.{more, last}
 use Rattle.bf_log.proofs.answer.put_aborted.Goals as goal

@@ -1,6 +1,6 @@
 use Rattle.std.proofs.Common.{◌++◌, codes}
-use Rattle.bf_texts.specs.Texts as texts
-use Rattle.bf_texts.specs.Texts.{merge_base_bad_lines}
+use Rattle.bf_terms.specs.Texts as texts
+use Rattle.bf_terms.specs.Texts.{merge_base_bad_lines}
 use Rattle.bf_log.specs.Labels.{commits_of, sides_of}
 use Rattle.bf_log.proofs.Joined.{more, last}
 use Rattle.bf_log.proofs.answer.put_merge_base_bad.Goals as goal

@@ -1,8 +1,8 @@
 use Rattle.std.proofs.Common.{ℕ}
 use Rattle.std.specs.List.{flat_map}
 use Rattle.std.proofs.Common.{◌++◌, codes}
-use Rattle.bf_texts.specs.Texts as texts
-use Rattle.bf_texts.specs.Texts.{only_skipped_lines}
+use Rattle.bf_terms.specs.Texts as texts
+use Rattle.bf_terms.specs.Texts.{only_skipped_lines}
 use Rattle.bf_log.specs.Labels.{commits_of, sides_of}
 use Rattle.bf_log.proofs.Joined.{more, last}
 use Rattle.bf_log.proofs.answer.put_only_skipped.Goals as goal

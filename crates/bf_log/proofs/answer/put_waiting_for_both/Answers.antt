@@ -1,5 +1,5 @@
 use Rattle.std.proofs.Common.{◌++◌, codes}
-use Rattle.bf_texts.specs.Texts.{waiting_for_both}
+use Rattle.bf_terms.specs.Texts.{waiting_for_both}
 use Rattle.bf_log.specs.Labels.{sides_of}
 use Rattle.bf_log.proofs.Joined.{more, last}
 use Rattle.bf_log.proofs.answer.put_waiting_for_both.Goals as goal

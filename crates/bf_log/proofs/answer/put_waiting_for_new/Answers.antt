@@ -1,6 +1,6 @@
 use Rattle.std.specs.Fmt.{decimal}
 use Rattle.std.proofs.Common.{◌++◌, codes}
-use Rattle.bf_texts.specs.Texts.{waiting_for_new}
+use Rattle.bf_terms.specs.Texts.{waiting_for_new}
 use Rattle.bf_log.specs.Labels.{sides_of}
 use Rattle.bf_log.proofs.Joined.{more, last}
 use Rattle.bf_log.proofs.answer.put_waiting_for_new.Goals as goal

@@ -1,6 +1,6 @@
 use Rattle.std.proofs.Common.{◌++◌, codes}
-use Rattle.bf_texts.specs.Texts as texts
-use Rattle.bf_texts.specs.Texts.{given_terms}
+use Rattle.bf_terms.specs.Texts as texts
+use Rattle.bf_terms.specs.Texts.{given_terms}
 use Rattle.bf_log.specs.Labels.{sides_of}
 use Rattle.bf_log.proofs.Joined.{more, last}
 use Rattle.bf_log.proofs.entries.put_given_terms.Goals as goal

@@ -1,6 +1,6 @@
 use Rattle.std.proofs.Common.{◌≡◌, ℕ, ◌++◌, take}
 use Rattle.std.specs.List.{flat_map}
-use Rattle.bf_texts.specs.Texts as texts
+use Rattle.bf_terms.specs.Texts as texts
 use Rattle.bf_log.specs.Labels.{commits_of}
 use Rattle.bf_log.proofs.entries.put_quoted_names.Given as goal
 

@@ -1,7 +1,7 @@
 use Rattle.std.proofs.Common.{codes}
 use Rattle.std.specs.List.{flat_map}
-use Rattle.bf_texts.specs.Texts as texts
-use Rattle.bf_texts.specs.Texts.{skipped_left_lines}
+use Rattle.bf_terms.specs.Texts as texts
+use Rattle.bf_terms.specs.Texts.{skipped_left_lines}
 use Rattle.bf_log.specs.Labels.{commits_of, sides_of}
 use Rattle.bf_log.proofs.Joined.{last}
 use Rattle.bf_log.proofs.entries.put_skipped_left.Goals as goal

@@ -1,5 +1,5 @@
 use Rattle.std.proofs.Common.{◌≡◌, [], drop}
-use Rattle.bf_texts.specs.Texts.{with_goods}
+use Rattle.bf_terms.specs.Texts.{with_goods}
 use Rattle.bf_goods.proofs.goods.Goods.each_once.Given as goal
 
 abbrev pub invariant-loop-place : goal.invariant-loop-place

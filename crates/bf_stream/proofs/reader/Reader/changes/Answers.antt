@@ -1,7 +1,7 @@
 use Rattle.bf_grammar.specs.Commands.{changes_at}
 use Rattle.bf_grammar.specs.Commands.{change_at}
 use Rattle.bf_grammar.proofs.Onward.{changes_take}
-use Rattle.bf_lines.proofs.Chains.{reads_handed_on}
+use Rattle.bf_stream.proofs.Chains.{reads_handed_on}
 use Rattle.bf_stream.proofs.Turns.{collects_none, collects_more, collects_all, collects_stopped, all_changes}
 use Rattle.bf_stream.proofs.reader.Reader.changes.Goals as goal
 

@@ -1,5 +1,5 @@
 use Rattle.bf_grammar.specs.Commands.{change_at}
-use Rattle.bf_lines.specs.Cursor.{left_to_read}
+use Rattle.bf_stream.specs.Cursor.{left_to_read}
 use Rattle.bf_stream.proofs.Turns.{Collects}
 use Rattle.bf_stream.proofs.reader.Reader.changes.Given as goal
 

@@ -1,5 +1,5 @@
 use Rattle.bf_grammar.specs.Commands.{command_at}
-use Rattle.bf_lines.proofs.Chains.{reads_then, reads_stopped, reads_handed_on}
+use Rattle.bf_stream.proofs.Chains.{reads_then, reads_stopped, reads_handed_on}
 use Rattle.std.proofs.Common.{sym, ◌∙◌}
 use Rattle.bf_stream.proofs.Starts.{ends_due, ends_free}
 use Rattle.bf_stream.proofs.reader.Reader.command.Goals as goal

@@ -1,5 +1,5 @@
 use Rattle.bf_grammar.specs.Commands.{headed_at}
-use Rattle.bf_lines.proofs.Chains.{reads_pure, reads_handed_on}
+use Rattle.bf_stream.proofs.Chains.{reads_pure, reads_handed_on}
 use Rattle.std.proofs.Common.{codes, ◌∙◌, ap, subst, Ok, Err}
 use Rattle.bf_grammar.specs.declared.command.Head.TheVariants as head
 use Rattle.bf_grammar.specs.Forms.{head_of, name_after}

@@ -1,5 +1,5 @@
 use Rattle.bf_grammar.specs.Commands.{committer_at}
-use Rattle.bf_lines.proofs.Chains.{reads_then, reads_stopped, reads_handed_on}
+use Rattle.bf_stream.proofs.Chains.{reads_then, reads_stopped, reads_handed_on}
 use Rattle.bf_stream.proofs.reader.Reader.committer.Goals as goal
 
 pub returns-in_err-must_be_at : goal.returns-in_err-must_be_at

@@ -3,8 +3,8 @@ use Rattle.bf_grammar.specs.declared.command.DataForm.TheVariants.{Counted, Deli
 use Rattle.bf_grammar.specs.Forms.{data_form, delimiter_in}
 use Rattle.bf_forms.specs.declared.parts.DataLine.{DataLine}
 use Rattle.bf_forms.specs.DataLines.{form_in, DelimiterIs}
-use Rattle.bf_lines.specs.Cursor.{delimited_by}
-use Rattle.bf_lines.proofs.Chains.{reads_handed_on}
+use Rattle.bf_stream.specs.Cursor.{delimited_by}
+use Rattle.bf_stream.proofs.Chains.{reads_handed_on}
 use Rattle.bf_stream.proofs.Lines.{line_is, reads_of}
 use Rattle.bf_stream.proofs.Starts.{announced_refused, announced_read}
 use Rattle.bf_stream.proofs.reader.Reader.content.Goals as goal

@@ -3,7 +3,7 @@ use Rattle.bf_grammar.specs.declared.command.ContentForm.TheVariants as content
 use Rattle.bf_grammar.specs.declared.command.DataRef.TheVariants as dataref
 use Rattle.bf_grammar.specs.Place.{pure}
 use Rattle.bf_stream.specs.Parts.{content_named}
-use Rattle.bf_lines.proofs.Chains.{reads_then, reads_stopped, reads_pure, reads_handed_on}
+use Rattle.bf_stream.proofs.Chains.{reads_then, reads_stopped, reads_pure, reads_handed_on}
 use Rattle.bf_stream.proofs.Lines.{reads_of}
 use Rattle.bf_stream.proofs.reader.Reader.dataref.Goals as goal
 

@@ -1,5 +1,5 @@
 use Rattle.bf_grammar.specs.Commands.{delete_at}
-use Rattle.bf_lines.proofs.Chains.{reads_handed_on}
+use Rattle.bf_stream.proofs.Chains.{reads_handed_on}
 use Rattle.std.proofs.Common.{codes, sym, ◌∙◌, ap, Ok, Err, List, ℕ}
 use Rattle.bf_grammar.specs.Forms.{text_after}
 use Rattle.bf_stream.proofs.Starts.{delete_next}

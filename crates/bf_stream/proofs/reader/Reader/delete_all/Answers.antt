@@ -1,5 +1,5 @@
 use Rattle.bf_grammar.specs.Commands.{delete_all_at}
-use Rattle.bf_lines.proofs.Chains.{reads_handed_on}
+use Rattle.bf_stream.proofs.Chains.{reads_handed_on}
 use Rattle.std.proofs.Common.{sym, ap, Err}
 use Rattle.bf_stream.proofs.Starts.{delete_all_form, delete_all_next}
 use Rattle.bf_stream.proofs.Lines.{line_is, line_refused, line_read, line_alone}

@@ -1,7 +1,7 @@
 use Rattle.std.proofs.Common.{codes, sym, ap, Err}
 use Rattle.bf_grammar.specs.Commands.{mark_at}
 use Rattle.bf_grammar.specs.Forms.{mark_of}
-use Rattle.bf_lines.proofs.Chains.{reads_handed_on}
+use Rattle.bf_stream.proofs.Chains.{reads_handed_on}
 use Rattle.bf_stream.proofs.Lines.{optional_stopped, optional_absent, optional_refused, optional_taken, at_true, line_is}
 use Rattle.bf_stream.proofs.reader.Reader.mark.Goals as goal
 

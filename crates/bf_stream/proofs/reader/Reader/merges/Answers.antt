@@ -2,7 +2,7 @@ use Rattle.std.proofs.Common.{codes}
 use Rattle.bf_grammar.specs.Commands.{merges_at}
 use Rattle.bf_stream.specs.Parts.{target_behind}
 use Rattle.bf_grammar.proofs.Onward.{merges_take}
-use Rattle.bf_lines.proofs.Chains.{reads_handed_on}
+use Rattle.bf_stream.proofs.Chains.{reads_handed_on}
 use Rattle.bf_stream.proofs.Turns.{collects_none, collects_more, collects_all, collects_stopped, all_merges}
 use Rattle.bf_stream.proofs.reader.Reader.merges.Goals as goal
 

@@ -1,6 +1,6 @@
 use Rattle.std.proofs.Common.{codes}
 use Rattle.bf_stream.specs.Parts.{target_behind}
-use Rattle.bf_lines.specs.Cursor.{left_to_read}
+use Rattle.bf_stream.specs.Cursor.{left_to_read}
 use Rattle.bf_stream.proofs.Turns.{Collects}
 use Rattle.bf_stream.proofs.reader.Reader.merges.Given as goal
 

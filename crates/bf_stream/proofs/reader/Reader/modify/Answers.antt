@@ -1,5 +1,5 @@
 use Rattle.bf_grammar.specs.Commands.{modify_at}
-use Rattle.bf_lines.proofs.Chains.{reads_handed_on}
+use Rattle.bf_stream.proofs.Chains.{reads_handed_on}
 use Rattle.std.proofs.Common.{◌∙◌, ap, Err}
 use Rattle.bf_grammar.specs.Forms.{modify_form}
 use Rattle.bf_stream.proofs.Starts.{modify_next, modify_stopped, modify_read}

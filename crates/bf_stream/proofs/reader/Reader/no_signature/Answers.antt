@@ -1,5 +1,5 @@
 use Rattle.bf_grammar.specs.Commands.{no_signature_at}
-use Rattle.bf_lines.proofs.Chains.{reads_then, reads_stopped, reads_pure, reads_handed_on}
+use Rattle.bf_stream.proofs.Chains.{reads_then, reads_stopped, reads_pure, reads_handed_on}
 use Rattle.bf_stream.proofs.Lines.{refused_here}
 use Rattle.bf_stream.proofs.reader.Reader.no_signature.Goals as goal
 

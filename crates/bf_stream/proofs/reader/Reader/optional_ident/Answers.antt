@@ -1,5 +1,5 @@
 use Rattle.bf_grammar.specs.Commands.{author_at}
-use Rattle.bf_lines.proofs.Chains.{reads_then, reads_stopped, reads_pure, reads_handed_on}
+use Rattle.bf_stream.proofs.Chains.{reads_then, reads_stopped, reads_pure, reads_handed_on}
 use Rattle.bf_stream.proofs.reader.Reader.optional_ident.Goals as goal
 
 pub returns-in_err-at_word : goal.returns-in_err-at_word

@@ -1,7 +1,7 @@
 use Rattle.std.proofs.Common.{codes, ap, Err}
 use Rattle.bf_grammar.specs.Commands.{original_oid_at}
 use Rattle.bf_grammar.specs.Forms.{text_after}
-use Rattle.bf_lines.proofs.Chains.{reads_then, reads_stopped, reads_pure, reads_handed_on}
+use Rattle.bf_stream.proofs.Chains.{reads_then, reads_stopped, reads_pure, reads_handed_on}
 use Rattle.bf_stream.proofs.Lines.{optional_stopped, optional_absent, optional_refused, optional_taken, at_true, line_is}
 use Rattle.bf_stream.proofs.reader.Reader.skip_original_oid.Goals as goal
 

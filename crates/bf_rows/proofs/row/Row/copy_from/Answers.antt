@@ -1,6 +1,0 @@
-use Rattle.std.proofs.Common.{sym, ◌∙◌}
-use Rattle.bf_rows.proofs.Joined.{zip2_right}
-use Rattle.bf_rows.proofs.row.Row.copy_from.Goals as goal
-
-pub returns : goal.returns
-returns c = c.join.ensures ∙ sym (zip2_right c.args.self.now c.args.other.now c.requires)

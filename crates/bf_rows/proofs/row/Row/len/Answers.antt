@@ -1,5 +1,0 @@
-use Rattle.bf_rows.proofs.RowSteps.{shown_length}
-use Rattle.bf_rows.proofs.row.Row.len.Goals as goal
-
-pub returns : goal.returns
-returns c = shown_length c.self.inside.len c.self.inside.words.items c.args.self.now (record { holds = c.self.invariant; view = c.self.view_is })

@@ -1,4 +1,0 @@
-pub mod Bits
-pub mod Bitwise
-pub mod Blocks
-pub mod Row
