@@ -13,7 +13,7 @@ use Rattle.bf_farm.specs.declared.report.Report.{Report}
 use Rattle.bf_graph.specs.Graph.{IsGraph}
 use Rattle.bf_history.specs.Meanings.{History}
 use Rattle.bf_log.specs.Trace.{event_lines}
-use Rattle.bf_logs.specs.Written.{known_after_all}
+use Rattle.bf_log.specs.Written.{known_after_all}
 use Rattle.bf_output.specs.Beginning.{Begun, commits_of}
 use Rattle.bf_output.specs.Simulate.{plan_of, run_over}
 use Rattle.bf_output.specs.Tested.{Tested, IsFrontIfTold, IsFrontOf, IsTested, is_test_fault, run_on, status_at_end, told_of_run}

@@ -8,12 +8,12 @@ use Rattle.bf_oid.specs.declared.object.Oid.{Oid}
 use Rattle.bf_history.specs.declared.fault.ImportFault.{ImportFault}
 use Rattle.bf_history.specs.Meanings.{History, nothing_loaded, name_at}
 use Rattle.bf_graph.specs.Graph.{IsGraph}
-use Rattle.bf_logs.specs.Back.{Begin, IsReplayable, LeadsTo, GivesBack}
-use Rattle.bf_logs.specs.Resolved.{AreResolved, AreRunEntries}
-use Rattle.bf_logs.specs.LogState.{LogState, retold}
-use Rattle.bf_logs.specs.Written.{has_no_end, AreNamed}
-use Rattle.bf_logs.proofs.Joined.{file_gives_back}
-use Rattle.bf_logs.proofs.Whole.{are_append, run_are}
+use Rattle.bf_log.specs.Back.{Begin, IsReplayable, LeadsTo, GivesBack}
+use Rattle.bf_log.specs.Resolved.{AreResolved, AreRunEntries}
+use Rattle.bf_log.specs.LogState.{LogState, retold}
+use Rattle.bf_log.specs.Written.{has_no_end, AreNamed}
+use Rattle.bf_log.proofs.JoinedLogs.{file_gives_back}
+use Rattle.bf_log.proofs.Whole.{are_append, run_are}
 use Rattle.bf_names.specs.Names.{name}
 use Rattle.bf_replay.specs.Meaning.{setting_of}
 use Rattle.bf_search.specs.declared.entries.Entry.{Entry}

@@ -3,7 +3,7 @@ use Rattle.std.specs.Prelude.{◌≡◌, ℕ, ◌<◌, true, List, length, map, 
 use Rattle.hex.specs.Hex.{IsBytes}
 use Rattle.bf_oid.specs.declared.object.Oid.{Oid}
 use Rattle.bf_history.specs.Meanings.{History, name_at, place_named}
-use Rattle.bf_logs.specs.Written.{has_no_end}
+use Rattle.bf_log.specs.Written.{has_no_end}
 use Rattle.bf_terms.specs.Texts.{Commits}
 
 -- a subject is one line

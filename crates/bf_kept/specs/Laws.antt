@@ -7,11 +7,11 @@ use Rattle.bf_graph.specs.Graph.{IsGraph}
 use Rattle.bf_history.specs.Imports.{loaded}
 use Rattle.bf_history.specs.Meanings.{History, nothing_loaded}
 use Rattle.bf_kept.specs.Kept.{IsKept, commits_of}
-use Rattle.bf_logs.specs.Back.{Begin, start_of, told_of, IsReplayable, LeadsTo, GivesBack}
-use Rattle.bf_logs.specs.Cut.{ends_with_command, AreKnown, GoesOnText}
-use Rattle.bf_logs.specs.Resolved.{AreRunEntries, FitsStart}
-use Rattle.bf_logs.specs.LogState.{LogState, retold}
-use Rattle.bf_logs.specs.Written.{known_after_all}
+use Rattle.bf_log.specs.Back.{Begin, start_of, told_of, IsReplayable, LeadsTo, GivesBack}
+use Rattle.bf_log.specs.Cut.{ends_with_command, AreKnown, GoesOnText}
+use Rattle.bf_log.specs.Resolved.{AreRunEntries, FitsStart}
+use Rattle.bf_log.specs.LogState.{LogState, retold}
+use Rattle.bf_log.specs.Written.{known_after_all}
 use Rattle.bf_reading.specs.Reading.{lines_of}
 use Rattle.bf_replay.specs.Meaning.{setting_of}
 use Rattle.bf_search.specs.declared.entries.Entry.{Entry}

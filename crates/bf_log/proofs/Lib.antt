@@ -1,1 +1,13 @@
+pub mod Entries
+pub mod Replaying
+pub mod Onward
+pub mod Plain
+pub mod Back
+pub mod Goods
+pub mod Whole
+pub mod WorkedReplays
+pub mod Terms
+pub mod JoinedLogs
+pub mod Cut
+pub mod Witness
 pub mod Joined

@@ -1,3 +1,10 @@
+pub mod LogState
+pub mod Replay
+pub mod Written
+pub mod Resolved
+pub mod Back
+pub mod Cut
+pub mod Laws
 pub mod Labels
 pub mod Lines
 pub mod StateLines

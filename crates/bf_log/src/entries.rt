@@ -2,7 +2,7 @@
 ghost use Rattle.std.specs.Prelude.{◌≡◌, ◌<◌, length, All, OnOk};
 ghost use Rattle.std.specs.Option.{ForSome};
 ghost use Rattle.bf_terms.specs.Texts as texts;
-ghost use Rattle.bf_logs.specs.Written.{known_after_all};
+ghost use Rattle.bf_log.specs.Written.{known_after_all};
 ghost use Rattle.bf_log.specs.Labels.{AreCommits, commits_of, sides_of};
 ghost use Rattle.bf_search.specs.Within.{IsEntryWithin};
 ghost use Rattle.bf_log.specs.Lines.{Adds, comments, quoted_names};

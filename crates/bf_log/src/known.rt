@@ -1,6 +1,6 @@
 //! What is known of the ends of a search.
 ghost use Rattle.std.specs.Prelude.{◌≡◌, IfOk, OnOk, OnErr};
-ghost use Rattle.bf_logs.specs.Written.{known_after_all};
+ghost use Rattle.bf_log.specs.Written.{known_after_all};
 ghost use Rattle.bf_terms.specs.Texts as texts;
 ghost use Rattle.bf_log.specs.Labels.{sides_of};
 ghost use Rattle.bf_log.specs.Lines.{Adds};

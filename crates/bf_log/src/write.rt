@@ -1,7 +1,7 @@
 //! What callers write: each text is made whole before it is added, so that want of memory leaves nothing of
 //! it behind.
 ghost use Rattle.std.specs.Prelude.{◌≡◌, ◌<◌, length, All, OnOk, OnErr};
-ghost use Rattle.bf_logs.specs.Written.{known_after_all};
+ghost use Rattle.bf_log.specs.Written.{known_after_all};
 ghost use Rattle.bf_terms.specs.Texts as texts;
 ghost use Rattle.bf_log.specs.Labels.{AreCommits, commits_of, sides_of};
 ghost use Rattle.bf_search.specs.Within.{IsAskWithin, IsEntryWithin};

@@ -10,8 +10,8 @@ use Rattle.bf_answers.specs.declared.started.Beginning.{Beginning}
 use Rattle.bf_commands.specs.Many.{searched, searched_for}
 use Rattle.bf_guesses.specs.Ends.{HasEnds}
 use Rattle.bf_history.specs.Meanings.{History}
-use Rattle.bf_logs.specs.Written.{known_after_all}
-use Rattle.bf_logs.proofs.Joined.{log_joined}
+use Rattle.bf_log.specs.Written.{known_after_all}
+use Rattle.bf_log.proofs.JoinedLogs.{log_joined}
 use Rattle.bf_output.specs.Beginning.{Begun as BegunOf, begun_with_skips, commits_of}
 use Rattle.bf_output.specs.Simulate.{plan_of, ran, run_over, status_of_end}
 use Rattle.bf_output.specs.Told.{Told, ◌>>=◌, told_by}

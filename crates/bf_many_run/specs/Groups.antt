@@ -10,7 +10,7 @@ use Rattle.bf_farm.specs.declared.report.Report.{Report}
 use Rattle.bf_guesses.specs.Ends.{HasEnds}
 use Rattle.bf_history.specs.Meanings.{History}
 use Rattle.bf_log.specs.Trace.{event_lines}
-use Rattle.bf_logs.specs.Written.{known_after_all}
+use Rattle.bf_log.specs.Written.{known_after_all}
 use Rattle.bf_many.specs.declared.search.Search.{Search}
 use Rattle.bf_output.specs.Beginning.{commits_of}
 use Rattle.bf_output.specs.Simulate.{status_of_end}

@@ -7,9 +7,9 @@ use Rattle.bf_state.proofs.Asks.{ask_leaves}
 use Rattle.bf_terms.specs.declared.terms.TermFault.{TermFault}
 use Rattle.bf_terms.specs.Words.{term_fault}
 use Rattle.bf_terms.specs.Texts.{Sides}
-use Rattle.bf_logs.specs.LogState.{marked_on}
-use Rattle.bf_logs.specs.Replay.{Setting, ReplayFault, Replayed, Worded, if_ok, places_of, terms_of, has_none, names_terms, tried, begun_at, open_sides}
-use Rattle.bf_logs.specs.Replay.{mark_in, by_terms, mark_of, stays_open, worded, named, take_line, replay_from, replay}
+use Rattle.bf_log.specs.LogState.{marked_on}
+use Rattle.bf_log.specs.Replay.{Setting, ReplayFault, Replayed, Worded, if_ok, places_of, terms_of, has_none, names_terms, tried, begun_at, open_sides}
+use Rattle.bf_log.specs.Replay.{mark_in, by_terms, mark_of, stays_open, worded, named, take_line, replay_from, replay}
 use Rattle.bf_reading.specs.declared.line.LogLine.{LogLine}
 use Rattle.bf_reading.specs.declared.line.LogWord.{LogWord}
 use Rattle.bf_reading.specs.declared.line.LogWord.TheVariants.{Start, MarkWord}

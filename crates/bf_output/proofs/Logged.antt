@@ -9,7 +9,7 @@ use Rattle.bf_history.specs.declared.fault.ImportFault.TheVariants as faults
 use Rattle.bf_history.specs.Imports.{Loads}
 use Rattle.bf_history.specs.Meanings.{History}
 use Rattle.bf_kept.specs.Laws.{IsLoaded}
-use Rattle.bf_logs.specs.Replay.{Replayed, ReplayFault, Name, NotStarted, Term}
+use Rattle.bf_log.specs.Replay.{Replayed, ReplayFault, Name, NotStarted, Term}
 use Rattle.bf_names.specs.declared.fault.NameFault.{NameFault}
 use Rattle.bf_names.specs.Names.{name, range}
 use Rattle.bf_reading.specs.declared.line.LogLine.{LogLine}

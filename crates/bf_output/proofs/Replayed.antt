@@ -1,8 +1,8 @@
 -- A search that goes on from a file: the file with an LF at its end leads to where it goes on.
 use Rattle.std.proofs.Common.{◌≡◌, ℕ, Bool, true, is_some, ◌&&◌, nat_lt, List, [], ◌∷◌, ◌++◌, length, Option, Some, None, Result, Ok, Err, refl, ap, ◌∙◌}
 use Rattle.bf_history.specs.Meanings.{History}
-use Rattle.bf_logs.specs.Back.{LeadsTo}
-use Rattle.bf_logs.specs.Replay.{Replayed, ReplayFault, Name, NotStarted, Term}
+use Rattle.bf_log.specs.Back.{LeadsTo}
+use Rattle.bf_log.specs.Replay.{Replayed, ReplayFault, Name, NotStarted, Term}
 use Rattle.bf_names.specs.declared.fault.NameFault.{NameFault}
 use Rattle.bf_reading.specs.declared.line.LogLine.{LogLine}
 use Rattle.bf_reading.specs.Reading.{read_log}

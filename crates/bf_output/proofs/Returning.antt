@@ -5,14 +5,14 @@ use Rattle.bf_graph.specs.Graph.{IsGraph}
 use Rattle.bf_history.specs.Meanings.{History}
 use Rattle.bf_kept.specs.Laws.{IsLoaded}
 use Rattle.bf_kept.proofs.Replayable.{file_of_history, history_kept, replayable}
-use Rattle.bf_logs.specs.Back.{start_of, GivesBack, LeadsTo}
-use Rattle.bf_logs.specs.Cut.{AreKnown, GoesOnText}
-use Rattle.bf_logs.specs.Resolved.{AreRunEntries}
-use Rattle.bf_logs.specs.Replay.{Replayed}
-use Rattle.bf_logs.specs.LogState.{LogState, retold}
-use Rattle.bf_logs.specs.Written.{known_after_all}
-use Rattle.bf_logs.proofs.Cut.{text_alike, text_goes_on}
-use Rattle.bf_logs.proofs.Whole.{gives_back, log_leads, run_are}
+use Rattle.bf_log.specs.Back.{start_of, GivesBack, LeadsTo}
+use Rattle.bf_log.specs.Cut.{AreKnown, GoesOnText}
+use Rattle.bf_log.specs.Resolved.{AreRunEntries}
+use Rattle.bf_log.specs.Replay.{Replayed}
+use Rattle.bf_log.specs.LogState.{LogState, retold}
+use Rattle.bf_log.specs.Written.{known_after_all}
+use Rattle.bf_log.proofs.Cut.{text_alike, text_goes_on}
+use Rattle.bf_log.proofs.Whole.{gives_back, log_leads, run_are}
 use Rattle.bf_replay.specs.Meaning.{setting_of}
 use Rattle.bf_search.specs.declared.entries.Entry.{Entry}
 use Rattle.bf_search.specs.Outcomes.{Outcomes}

@@ -8,11 +8,11 @@ use Rattle.bf_search.specs.declared.outcomes.Mark.TheVariants.{Skip}
 use Rattle.bf_search.specs.State.{Search, IsSearchOver, ask, mark}
 use Rattle.bf_state.proofs.Asks.{ask_leaves}
 use Rattle.bf_terms.specs.Texts.{Known}
-use Rattle.bf_logs.specs.Resolved.{AreRunEntries}
-use Rattle.bf_logs.specs.LogState.{LogState, retold}
-use Rattle.bf_logs.specs.Written.{known_after_all}
-use Rattle.bf_logs.proofs.Entries.{retold_mark}
-use Rattle.bf_logs.proofs.Whole.{are_append, retold_append}
+use Rattle.bf_log.specs.Resolved.{AreRunEntries}
+use Rattle.bf_log.specs.LogState.{LogState, retold}
+use Rattle.bf_log.specs.Written.{known_after_all}
+use Rattle.bf_log.proofs.Entries.{retold_mark}
+use Rattle.bf_log.proofs.Whole.{are_append, retold_append}
 use Rattle.bf_output.specs.Beginning.{Begun, skip_entries, with_skip, with_skips}
 
 one_are : (n : ℕ) (warned : List ℕ) (p : ℕ) → p < n → AreRunEntries n (skip_entries warned p)

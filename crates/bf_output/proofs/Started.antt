@@ -5,12 +5,12 @@ use Rattle.std.proofs.lemmas.List.Elements.{All-nil}
 use Rattle.std.specs.List.{All}
 use Rattle.bf_history.specs.Meanings.{History}
 use Rattle.bf_kept.specs.Laws.{AreSides, AreEnds}
-use Rattle.bf_logs.specs.Back.{Begin, start_of, told_of}
-use Rattle.bf_logs.specs.Cut.{AreKnown}
-use Rattle.bf_logs.specs.Resolved.{AreRunEntries, FitsStart}
-use Rattle.bf_logs.specs.LogState.{LogState, retold}
-use Rattle.bf_logs.specs.Written.{known_after_all}
-use Rattle.bf_logs.proofs.Goods.{goods_again}
+use Rattle.bf_log.specs.Back.{Begin, start_of, told_of}
+use Rattle.bf_log.specs.Cut.{AreKnown}
+use Rattle.bf_log.specs.Resolved.{AreRunEntries, FitsStart}
+use Rattle.bf_log.specs.LogState.{LogState, retold}
+use Rattle.bf_log.specs.Written.{known_after_all}
+use Rattle.bf_log.proofs.Goods.{goods_again}
 use Rattle.bf_search.specs.declared.entries.Entry.{Entry}
 use Rattle.bf_search.specs.declared.entries.Entry.TheVariants.{Start}
 use Rattle.bf_search.specs.State.{IsSearchOver}

@@ -10,8 +10,8 @@ use Rattle.bf_search.specs.declared.outcomes.Mark.TheVariants.{Skip}
 use Rattle.bf_search.specs.Candidates.{places_of}
 use Rattle.bf_search.specs.State.{Search, ask, mark}
 use Rattle.bf_state.specs.Session.{begun}
-use Rattle.bf_logs.specs.Replay.{Replayed}
-use Rattle.bf_logs.specs.Written.{known_after_all}
+use Rattle.bf_log.specs.Replay.{Replayed}
+use Rattle.bf_log.specs.Written.{known_after_all}
 use Rattle.bf_shelf.specs.declared.shelf.LoadFault.{LoadFault}
 use Rattle.bf_terms.specs.Texts.{Commits, Sides, Known, nothing_known, standard_sides, log_from, with_goods}
 use Rattle.bf_words.specs.declared.request.Request.{Request}

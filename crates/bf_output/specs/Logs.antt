@@ -2,7 +2,7 @@
 use Rattle.std.specs.Prelude.{ℕ, List, Result, Ok, Err}
 use Rattle.bf_grammar.specs.declared.fault.Limit.TheVariants.{Log}
 use Rattle.bf_history.specs.Meanings.{History}
-use Rattle.bf_logs.specs.Replay.{Replayed, ReplayFault, Name, NotStarted, Term}
+use Rattle.bf_log.specs.Replay.{Replayed, ReplayFault, Name, NotStarted, Term}
 use Rattle.bf_names.specs.declared.fault.NameFault.{NameFault}
 use Rattle.bf_reading.specs.declared.line.LogLine.{LogLine}
 use Rattle.bf_reading.specs.Reading.{read_log}

@@ -2,7 +2,7 @@
 use Rattle.std.specs.Prelude.{ℕ, List, ◌++◌, Option, Some, None, Result, Ok, Err}
 use Rattle.bf_history.specs.Meanings.{History}
 use Rattle.bf_log.specs.StateLines.{state_lines}
-use Rattle.bf_logs.specs.Replay.{Replayed}
+use Rattle.bf_log.specs.Replay.{Replayed}
 use Rattle.bf_search.specs.Candidates.{places_of}
 use Rattle.bf_shelf.specs.declared.shelf.LoadFault.{LoadFault}
 use Rattle.bf_terms.specs.Texts.{log}

@@ -2,9 +2,9 @@
 use Rattle.std.specs.Prelude.{◌≡◌, ℕ, true, List, [], ◌∷◌, ◌++◌, Option, Some, None, Result, Ok, Err}
 use Rattle.bf_history.specs.Meanings.{History}
 use Rattle.bf_kept.specs.Laws.{IsLoaded}
-use Rattle.bf_logs.specs.Back.{GivesBack}
-use Rattle.bf_logs.specs.Cut.{ends_with_command, GoesOnText}
-use Rattle.bf_logs.specs.Written.{known_after_all}
+use Rattle.bf_log.specs.Back.{GivesBack}
+use Rattle.bf_log.specs.Cut.{ends_with_command, GoesOnText}
+use Rattle.bf_log.specs.Written.{known_after_all}
 use Rattle.bf_reading.specs.Reading.{lines_of}
 use Rattle.bf_replay.specs.Meaning.{setting_of}
 use Rattle.bf_search.specs.declared.entries.Entry.{Entry}

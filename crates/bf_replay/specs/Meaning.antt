@@ -8,7 +8,7 @@ use Rattle.bf_names.specs.declared.fault.NameFault.{NameFault}
 use Rattle.bf_reading.specs.declared.line.LogLine.{LogLine}
 use Rattle.bf_state.specs.Session.{Session}
 use Rattle.bf_terms.specs.Texts.{Sides}
-use Rattle.bf_logs.specs.Replay as replay
+use Rattle.bf_log.specs.Replay as replay
 use Rattle.bf_replay.specs.declared.fold.Replayed.{Replayed}
 
 -- names mean what they mean in the history

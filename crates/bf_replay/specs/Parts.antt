@@ -1,7 +1,7 @@
 -- What the lines of a log and their parts mean over a history.
 use Rattle.std.specs.Prelude.{◌≡◌, ℕ, ◌<◌, Bool, List, length, ◌++◌, [], ◌∷◌, Option, Some, Result, Ok, Vec, All, IfSome}
 use Rattle.bf_history.specs.Meanings.{History}
-use Rattle.bf_logs.specs.LogState.{warnings}
+use Rattle.bf_log.specs.LogState.{warnings}
 use Rattle.bf_names.specs.Names.{name}
 use Rattle.bf_names.specs.Order.{IsOrderOf}
 use Rattle.bf_names.specs.declared.fault.NameFault.{NameFault}
@@ -11,7 +11,7 @@ use Rattle.bf_search.specs.declared.entries.Entry.TheVariants.{Marked}
 use Rattle.bf_search.specs.declared.outcomes.Mark.{Mark}
 use Rattle.bf_state.specs.Session.{Session}
 use Rattle.bf_terms.specs.Texts.{Sides}
-use Rattle.bf_logs.specs.Replay as replay
+use Rattle.bf_log.specs.Replay as replay
 use Rattle.bf_replay.specs.declared.fold.Replayed.{Replayed}
 use Rattle.bf_replay.specs.declared.fold.Setting.{Setting}
 use Rattle.bf_replay.specs.declared.start.Start.{Start}

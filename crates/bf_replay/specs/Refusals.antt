@@ -5,7 +5,7 @@ use Rattle.bf_terms.specs.declared.terms.TermFault.TheVariants as terms
 use Rattle.bf_names.specs.declared.fault.NameFault.{NameFault}
 use Rattle.bf_replay.specs.declared.fault.ReplayFault.{ReplayFault}
 use Rattle.bf_replay.specs.declared.fault.ReplayFault.TheVariants as faults
-use Rattle.bf_logs.specs.Replay as replay
+use Rattle.bf_log.specs.Replay as replay
 
 abbrev pub IsRefusal : {X : Type 0} → ReplayFault → Result X (replay.ReplayFault NameFault) → Type 0
 IsRefusal (faults.Name line fault) replayed = replayed ≡ Err (replay.Name line fault)

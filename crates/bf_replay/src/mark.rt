@@ -1,6 +1,6 @@
 //! A mark line.
 ghost use Rattle.std.specs.Prelude.{◌≡◌, length, IfOk, IfErr, OnOk};
-ghost use Rattle.bf_logs.specs.Replay as logs;
+ghost use Rattle.bf_log.specs.Replay as logs;
 ghost use Rattle.bf_replay.specs.Meaning.{with_terms, with_open, AreWithin, HasLength};
 ghost use Rattle.bf_replay.specs.Parts.{HasOrder, LeadsTo, MakesMark, mark_in, word_in, AddsMark};
 ghost use Rattle.bf_replay.specs.Refusals.{Refuses};

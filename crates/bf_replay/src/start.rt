@@ -1,6 +1,6 @@
 //! A start line.
 ghost use Rattle.std.specs.Prelude.{◌≡◌, length, IfOk, IfErr, All};
-ghost use Rattle.bf_logs.specs.Replay as logs;
+ghost use Rattle.bf_log.specs.Replay as logs;
 ghost use Rattle.bf_replay.specs.Meaning.{text_of, AreWithin, HasLength};
 ghost use Rattle.bf_replay.specs.Parts.{Gives, GivesAll, HasOrder, LeadsTo, Means, IsPlaceOf, ArePlacesOf, begun_in, leaves_open, names_terms, places_in};
 ghost use Rattle.bf_replay.specs.Parts.{start_in, terms_in};

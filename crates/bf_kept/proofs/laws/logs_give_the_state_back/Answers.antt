@@ -1,6 +1,6 @@
 use Rattle.bf_kept.specs.Kept.{commits_of}
 use Rattle.bf_kept.proofs.Replayable.{history_kept, replayable}
-use Rattle.bf_logs.proofs.Whole.{gives_back}
+use Rattle.bf_log.proofs.Whole.{gives_back}
 use Rattle.bf_replay.specs.Meaning.{setting_of}
 use Rattle.bf_kept.proofs.laws.logs_give_the_state_back.Goals as goal
 

@@ -1,6 +1,6 @@
 use Rattle.bf_kept.specs.Kept.{commits_of}
 use Rattle.bf_kept.proofs.Replayable.{history_kept, replayable}
-use Rattle.bf_logs.proofs.Cut.{text_goes_on}
+use Rattle.bf_log.proofs.Cut.{text_goes_on}
 use Rattle.bf_replay.specs.Meaning.{setting_of}
 use Rattle.bf_kept.proofs.laws.runs_go_on_from_texts.Goals as goal
 

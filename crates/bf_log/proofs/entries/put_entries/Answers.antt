@@ -3,7 +3,7 @@ use Rattle.std.proofs.Math.Seq.{drop-cons}
 use Rattle.std.proofs.lemmas.List.{append-nil, drop_all}
 use Rattle.bf_terms.specs.Texts as texts
 use Rattle.bf_terms.specs.Texts.{log_from}
-use Rattle.bf_logs.specs.Written.{known_after_all}
+use Rattle.bf_log.specs.Written.{known_after_all}
 use Rattle.bf_log.specs.Labels.{commits_of, sides_of}
 use Rattle.bf_log.proofs.Joined.{entry_more}
 use Rattle.bf_search.specs.declared.entries.Entry.{Entry}

@@ -1,5 +1,5 @@
 use Rattle.std.proofs.Common.{◌≡◌, ◌++◌, drop}
-use Rattle.bf_logs.specs.Written.{known_after_all}
+use Rattle.bf_log.specs.Written.{known_after_all}
 use Rattle.bf_terms.specs.Texts as texts
 use Rattle.bf_log.specs.Labels.{commits_of, sides_of}
 use Rattle.bf_log.proofs.entries.put_entries.Given as goal

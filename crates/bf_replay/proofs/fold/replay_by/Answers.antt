@@ -1,6 +1,6 @@
 use Rattle.std.proofs.Common.{Option, drop, ap, ◌∙◌}
 use Rattle.std.proofs.lemmas.Result.{err_from_is_err_and}
-use Rattle.bf_logs.specs.Replay.{replay_from}
+use Rattle.bf_log.specs.Replay.{replay_from}
 use Rattle.bf_replay.specs.declared.fold.Replayed.{Replayed}
 use Rattle.bf_replay.specs.Meaning.{setting_of, replayed_of, replayed_before}
 use Rattle.bf_replay.proofs.Folding.{line_taken, line_refused, all_taken, none_started}

@@ -1,5 +1,5 @@
 use Rattle.std.proofs.Common.{◌≡◌, None, length, drop, IfSome}
-use Rattle.bf_logs.specs.Replay.{replay_from}
+use Rattle.bf_log.specs.Replay.{replay_from}
 use Rattle.bf_replay.specs.Meaning.{setting_of, replayed_before, AreWithin, HasLength}
 use Rattle.bf_replay.proofs.fold.replay_by.Given as goal
 

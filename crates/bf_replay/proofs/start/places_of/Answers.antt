@@ -2,7 +2,7 @@ use Rattle.std.proofs.Common.{◌≡◌, ◌<◌, [], length, Ok, ◌∙◌, sym
 use Rattle.std.specs.List.{All}
 use Rattle.std.proofs.lemmas.Result.{err_from_is_err_and}
 use Rattle.std.proofs.lemmas.List.Elements.{All-nil, All-push}
-use Rattle.bf_logs.specs.Replay.{named, places_of}
+use Rattle.bf_log.specs.Replay.{named, places_of}
 use Rattle.bf_names.specs.Names.{name}
 use Rattle.bf_replay.specs.Meaning.{setting_of}
 use Rattle.bf_replay.specs.Refusals.{IsRefusal}

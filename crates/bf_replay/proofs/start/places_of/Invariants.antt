@@ -1,6 +1,6 @@
 use Rattle.std.proofs.Common.{◌≡◌, ◌<◌, length, drop}
 use Rattle.std.specs.List.{All}
-use Rattle.bf_logs.specs.Replay.{places_of}
+use Rattle.bf_log.specs.Replay.{places_of}
 use Rattle.bf_replay.specs.Meaning.{setting_of}
 use Rattle.bf_replay.proofs.Folding.{behind_places}
 use Rattle.bf_replay.proofs.start.places_of.Given as goal

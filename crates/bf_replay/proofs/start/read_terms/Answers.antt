@@ -1,4 +1,4 @@
-use Rattle.bf_logs.specs.Replay.{terms_of}
+use Rattle.bf_log.specs.Replay.{terms_of}
 use Rattle.bf_replay.specs.Meaning.{text_of}
 use Rattle.bf_replay.proofs.Folding.{terms_refused}
 use Rattle.bf_replay.proofs.start.read_terms.Goals as goal

@@ -1,5 +1,5 @@
 use Rattle.std.proofs.Common.{◌≡◌, drop}
-use Rattle.bf_logs.specs.Written.{known_after_all}
+use Rattle.bf_log.specs.Written.{known_after_all}
 use Rattle.bf_log.proofs.known.Known.learn_all.Given as goal
 
 abbrev pub invariant-loop-entry : goal.invariant-loop-entry

@@ -1,5 +1,0 @@
-use Rattle.bf_logs.proofs.Entries.{run_tells}
-use Rattle.bf_logs.proofs.laws.entries_tell_the_state.Goals as goal
-
-pub returns : goal.returns
-returns c = λ graph known left s before. run_tells graph known left s before

@@ -1,5 +1,0 @@
-use Rattle.bf_logs.proofs.Back.{log_read_back}
-use Rattle.bf_logs.proofs.laws.logs_are_read_back.Goals as goal
-
-pub returns : goal.returns
-returns c = λ commits sides known entries readable named. log_read_back commits sides known entries readable named
