@@ -8,7 +8,7 @@ use Rattle.bf_history.specs.declared.fault.ImportFault.{ImportFault}
 use Rattle.bf_history.specs.declared.fault.ImportFault.TheVariants as faults
 use Rattle.bf_history.specs.Imports.{Loads}
 use Rattle.bf_history.specs.Meanings.{History}
-use Rattle.bf_kept.specs.Laws.{IsLoaded}
+use Rattle.bf_replay.specs.Laws.{IsLoaded}
 use Rattle.bf_log.specs.Replay.{Replayed, ReplayFault, Name, NotStarted, Term}
 use Rattle.bf_names.specs.declared.fault.NameFault.{NameFault}
 use Rattle.bf_names.specs.Names.{name, range}

@@ -3,8 +3,8 @@ use Rattle.std.proofs.Common.{◌≡◌, ℕ, true, List, [], ◌∷◌, ◌++�
 use Rattle.std.proofs.lemmas.List.{append-nil}
 use Rattle.bf_graph.specs.Graph.{IsGraph}
 use Rattle.bf_history.specs.Meanings.{History}
-use Rattle.bf_kept.specs.Laws.{IsLoaded}
-use Rattle.bf_kept.proofs.Replayable.{file_of_history, history_kept, replayable}
+use Rattle.bf_replay.specs.Laws.{IsLoaded}
+use Rattle.bf_replay.proofs.Replayable.{file_of_history, history_kept, replayable}
 use Rattle.bf_log.specs.Back.{start_of, GivesBack, LeadsTo}
 use Rattle.bf_log.specs.Cut.{AreKnown, GoesOnText}
 use Rattle.bf_log.specs.Resolved.{AreRunEntries}

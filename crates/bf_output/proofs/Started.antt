@@ -4,7 +4,7 @@ use Rattle.std.proofs.lemmas.Bool.{and_parts, both_ways}
 use Rattle.std.proofs.lemmas.List.Elements.{All-nil}
 use Rattle.std.specs.List.{All}
 use Rattle.bf_history.specs.Meanings.{History}
-use Rattle.bf_kept.specs.Laws.{AreSides, AreEnds}
+use Rattle.bf_replay.specs.Laws.{AreSides, AreEnds}
 use Rattle.bf_log.specs.Back.{Begin, start_of, told_of}
 use Rattle.bf_log.specs.Cut.{AreKnown}
 use Rattle.bf_log.specs.Resolved.{AreRunEntries, FitsStart}

@@ -1,7 +1,7 @@
 -- What a log gives back: the state of the run that it was printed for, and, where it is cut, the rest of that run.
 use Rattle.std.specs.Prelude.{◌≡◌, ℕ, true, List, [], ◌∷◌, ◌++◌, Option, Some, None, Result, Ok, Err}
 use Rattle.bf_history.specs.Meanings.{History}
-use Rattle.bf_kept.specs.Laws.{IsLoaded}
+use Rattle.bf_replay.specs.Laws.{IsLoaded}
 use Rattle.bf_log.specs.Back.{GivesBack}
 use Rattle.bf_log.specs.Cut.{ends_with_command, GoesOnText}
 use Rattle.bf_log.specs.Written.{known_after_all}

@@ -1,1 +1,5 @@
+pub mod Digests
+pub mod Keeping
+pub mod Naming
+pub mod Replayable
 pub mod Folding

@@ -1,3 +1,5 @@
+pub mod Kept
+pub mod Laws
 pub mod Refusals
 pub mod Meaning
 pub mod Parts

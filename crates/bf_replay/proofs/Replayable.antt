@@ -23,10 +23,10 @@ use Rattle.bf_search.specs.Run.{run}
 use Rattle.bf_search.specs.State.{Search}
 use Rattle.bf_terms.specs.Words.{term_fault}
 use Rattle.bf_terms.specs.Texts.{Known, Sides, hex_of, log_from}
-use Rattle.bf_kept.specs.Kept.{IsOneLine, IsKept, commits_of}
-use Rattle.bf_kept.specs.Laws.{IsLoaded, AreSides, AreEnds}
-use Rattle.bf_kept.proofs.Keeping.{loaded_kept, nothing_kept}
-use Rattle.bf_kept.proofs.Naming.{digits_mean, bytes_at}
+use Rattle.bf_replay.specs.Kept.{IsOneLine, IsKept, commits_of}
+use Rattle.bf_replay.specs.Laws.{IsLoaded, AreSides, AreEnds}
+use Rattle.bf_replay.proofs.Keeping.{loaded_kept, nothing_kept}
+use Rattle.bf_replay.proofs.Naming.{digits_mean, bytes_at}
 
 pub history_kept : (history : History) → IsLoaded history → IsKept history
 history_kept history (limits, commands, end, is) =

@@ -29,8 +29,8 @@ use Rattle.bf_history.specs.Meanings.{name_at, commit_on, stood, with_commit, pl
 use Rattle.bf_history.specs.Meanings.{after_reset, after_tag, after_command, is_no_name}
 use Rattle.bf_history.proofs.Steps.{last_step, within_same}
 use Rattle.bf_tables.proofs.Positions.{position_more}
-use Rattle.bf_kept.specs.Kept.{IsOneLine, IsWholeName, IsKept}
-use Rattle.bf_kept.proofs.Digests.{sha1_long, sha1_bytes, front_passes}
+use Rattle.bf_replay.specs.Kept.{IsOneLine, IsWholeName, IsKept}
+use Rattle.bf_replay.proofs.Digests.{sha1_long, sha1_bytes, front_passes}
 
 -- ---- one more name
 

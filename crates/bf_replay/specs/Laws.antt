@@ -6,7 +6,7 @@ use Rattle.bf_grammar.specs.declared.fault.StreamFault.{StreamFault}
 use Rattle.bf_graph.specs.Graph.{IsGraph}
 use Rattle.bf_history.specs.Imports.{loaded}
 use Rattle.bf_history.specs.Meanings.{History, nothing_loaded}
-use Rattle.bf_kept.specs.Kept.{IsKept, commits_of}
+use Rattle.bf_replay.specs.Kept.{IsKept, commits_of}
 use Rattle.bf_log.specs.Back.{Begin, start_of, told_of, IsReplayable, LeadsTo, GivesBack}
 use Rattle.bf_log.specs.Cut.{ends_with_command, AreKnown, GoesOnText}
 use Rattle.bf_log.specs.Resolved.{AreRunEntries, FitsStart}

@@ -1,5 +1,5 @@
 //! The laws of the logs of a history.
-ghost use Rattle.bf_kept.specs.Laws as laws;
+ghost use Rattle.bf_replay.specs.Laws as laws;
 
 /// Every history that a stream loads has a name for each commit, of 20 bytes, which leads back to it, and each
 /// subject is one line.

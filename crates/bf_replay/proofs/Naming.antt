@@ -17,7 +17,7 @@ use Rattle.bf_names.specs.Names.{place_spelled, place_of_base, place_of, after_s
 use Rattle.bf_tables.proofs.Positions.{position_more}
 use Rattle.bf_oid.proofs.Texts.{oid_of_hex-encode_lower}
 use Rattle.bf_terms.specs.Texts.{hex_of}
-use Rattle.bf_kept.specs.Kept.{IsWholeName, commits_of}
+use Rattle.bf_replay.specs.Kept.{IsWholeName, commits_of}
 
 -- ---- digits are none of the signs of a name
 

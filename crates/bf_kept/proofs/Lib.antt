@@ -1,4 +1,0 @@
-pub mod Digests
-pub mod Keeping
-pub mod Naming
-pub mod Replayable

@@ -1,5 +1,0 @@
-use Rattle.bf_kept.proofs.Replayable.{history_kept}
-use Rattle.bf_kept.proofs.laws.histories_are_kept.Goals as goal
-
-pub returns : goal.returns
-returns c = history_kept

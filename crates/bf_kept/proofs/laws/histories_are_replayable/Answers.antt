@@ -1,5 +1,0 @@
-use Rattle.bf_kept.proofs.Replayable.{history_kept, replayable}
-use Rattle.bf_kept.proofs.laws.histories_are_replayable.Goals as goal
-
-pub returns : goal.returns
-returns c = λ history sides b loaded s e. replayable history sides b (history_kept history loaded) s e
