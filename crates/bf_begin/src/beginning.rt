@@ -1,7 +1,7 @@
 //! How a search begins.
 ghost use Rattle.std.specs.Prelude.{◌≡◌, ◌<◌, [], ◌∷◌, length, is_some, All, IfOk};
 ghost use Rattle.std.specs.Option.{ForSome};
-ghost use Rattle.bf_guesses.specs.Ends.{HasEnds};
+ghost use Rattle.bf_state.specs.Ends.{HasEnds};
 ghost use Rattle.bf_output.specs.Beginning as beginning;
 ghost use Rattle.bf_output.specs.Beginning.{begun_by_words};
 ghost use Rattle.bf_search.specs.declared.entries.Entry.TheVariants.{Start};

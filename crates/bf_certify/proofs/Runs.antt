@@ -3,7 +3,7 @@ use Rattle.std.proofs.Common.{◌≡◌, ◌≢◌, ℕ, zero, suc, ◌<◌, Lis
 use Rattle.bf_cert.specs.Made.{AsksFirstBad}
 use Rattle.bf_cert.proofs.Making.{asks_again}
 use Rattle.bf_graph.specs.Graph.{IsGraph}
-use Rattle.bf_guesses.proofs.Causes.{leg_ends}
+use Rattle.bf_state.proofs.Causes.{leg_ends}
 use Rattle.bf_search.specs.declared.asks.Ask.{Ask}
 use Rattle.bf_search.specs.declared.asks.Ask.TheVariants.{WaitBoth, WaitBad, WaitGood, Test, MergeBaseBad, GoodNotAncestor, BothSides, FirstBad, OnlySkipped}
 use Rattle.bf_search.specs.declared.outcomes.Outcome.{Outcome}

@@ -11,7 +11,7 @@ use Rattle.bf_search.specs.Run.{End, Answered, Leg, Open, Aborted, leg_of, one_a
 use Rattle.bf_search.specs.Farm.{end_of}
 use Rattle.bf_state.specs.Runs.{IsPartOf, is_open}
 use Rattle.bf_state.proofs.Tables.{seq_ends_alike}
-use Rattle.bf_guesses.proofs.Used.{off_the_path, told as told_used}
+use Rattle.bf_state.proofs.Used.{off_the_path, told as told_used}
 use Rattle.bf_spec.specs.Walks.{Tells}
 
 module _ (graph : List (List ℕ)) (known more : Outcomes) (part : IsPartOf known more) where

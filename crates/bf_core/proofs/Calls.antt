@@ -18,7 +18,7 @@ use Rattle.bf_state.specs.Runs.{is_open}
 use Rattle.bf_state.specs.Session.{Session, with_search}
 use Rattle.bf_spec.specs.Walks.{Tells}
 use Rattle.bf_spec.specs.Tree.{Guesses}
-use Rattle.bf_guesses.specs.Ends.{marks_of}
+use Rattle.bf_state.specs.Ends.{marks_of}
 use Rattle.bf_core.specs.declared.consuming.Consumed.{Consumed}
 use Rattle.bf_core.specs.Claims.{AreClaims, IsFree}
 use Rattle.bf_core.specs.Consuming.{IsRunOn, IsSameRun, Begins, Consumes, best_at, IsUnwanted, IsCore}
@@ -26,7 +26,7 @@ use Rattle.bf_core.specs.Machine.{Machine, seen, setting_of, farm_of, run_of, Is
 use Rattle.bf_core.proofs.Opened.{best_is_free}
 use Rattle.bf_core.proofs.Joining.{told_open, same_is_run}
 use Rattle.bf_core.proofs.Beside.{seq_stays, told_alike, none_is_open, leg_told}
-use Rattle.bf_guesses.proofs.Causes.{leg_ends, leg_made}
+use Rattle.bf_state.proofs.Causes.{leg_ends, leg_made}
 use Rattle.bf_core.proofs.Standing.{part_put, put_elsewhere, put_back, standing_place, claims_without, claims_posted, claims_pushed, no_claims, step_post}
 use Rattle.bf_core.proofs.Standing.{step_give, step_claim}
 

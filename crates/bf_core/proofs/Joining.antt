@@ -23,14 +23,14 @@ use Rattle.bf_state.proofs.Tables.{seq_ends_alike}
 use Rattle.bf_spec.specs.Walks.{Tells}
 use Rattle.bf_spec.specs.Tree.{Guesses}
 use Rattle.bf_spec.specs.Guessed.{asked_at}
-use Rattle.bf_guesses.specs.Ends.{marks_of}
+use Rattle.bf_state.specs.Ends.{marks_of}
 use Rattle.bf_spec.specs.Ways.{IsAsked}
 use Rattle.bf_spec.specs.declared.follow.Walked.{Walked}
 use Rattle.bf_core.specs.declared.consuming.Consumed.{Consumed}
 use Rattle.bf_core.specs.Claims.{KeepsNodes, IsSameTree, IsIdle, IsIdleWorker}
 use Rattle.bf_core.specs.Consuming.{marks_since, IsAtRoot, IsRun, IsRunOn, IsSameRun, IsJoined, Begins, Consumes, IsUnwanted}
-use Rattle.bf_guesses.specs.Ends.{IsUnspent}
-use Rattle.bf_guesses.proofs.Legs.{run_follows, run_asked}
+use Rattle.bf_state.specs.Ends.{IsUnspent}
+use Rattle.bf_state.proofs.Legs.{run_follows, run_asked}
 use Rattle.bf_core.proofs.Passing.{run_passes}
 
 -- ---- what stays

@@ -16,7 +16,7 @@ use Rattle.bf_state.specs.Session.{Session, with_search}
 use Rattle.bf_spec.specs.Walks.{Tells}
 use Rattle.bf_spec.specs.Tree.{Guesses, HasNode}
 use Rattle.bf_spec.specs.Guessed.{asked_at}
-use Rattle.bf_guesses.specs.Ends.{marks_of}
+use Rattle.bf_state.specs.Ends.{marks_of}
 use Rattle.bf_spec.specs.Ways.{IsAsked}
 use Rattle.bf_spec.specs.declared.follow.Walked.{Walked}
 use Rattle.bf_core.specs.declared.consuming.Consumed.{Consumed}

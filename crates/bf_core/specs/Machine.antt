@@ -15,7 +15,7 @@ use Rattle.bf_search.specs.OpenPaths.{OpenPath, best_open}
 use Rattle.bf_search.specs.Farm.{Setting, Farm, consumed, best_place, has_claim, step}
 use Rattle.bf_state.specs.Session.{Session, with_search}
 use Rattle.bf_spec.specs.Walks.{Tells}
-use Rattle.bf_guesses.specs.Ends.{marks_of}
+use Rattle.bf_state.specs.Ends.{marks_of}
 use Rattle.bf_spec.specs.Ways.{IsAsked}
 use Rattle.bf_core.specs.declared.answers.ApplyFault.{ApplyFault}
 use Rattle.bf_core.specs.declared.answers.ApplyFault.TheVariants.{Illegal}

@@ -5,7 +5,7 @@ ghost use Rattle.bf_search.specs.declared.farm.Event.{Event as EventValue};
 ghost use Rattle.bf_search.specs.Farm.{has_claim, best_place, stands, without, step};
 ghost use Rattle.std.specs.Option.{option_copied};
 ghost use Rattle.bf_state.specs.Runs.{is_open};
-ghost use Rattle.bf_guesses.specs.Ends.{HasEnds};
+ghost use Rattle.bf_state.specs.Ends.{HasEnds};
 ghost use Rattle.bf_core.specs.Claims.{AreClaims, KeepsNodes};
 ghost use Rattle.bf_core.specs.Machine.{setting_of, farm_of, run_of, IsConsumed, IsStarted, IsStep, IsSameButNodes};
 ghost use Rattle.bf_core.specs.Machine.{IsAllTaken, ClaimsWork, LeavesPick, HasBestNode, KeepsGuesses};

@@ -1,6 +1,6 @@
 -- Searches that share workers.
 use Rattle.std.specs.Prelude.{◌≡◌, ℕ, List, length, replicate, All, Option, None}
-use Rattle.bf_guesses.specs.Ends.{HasEnds}
+use Rattle.bf_state.specs.Ends.{HasEnds}
 use Rattle.bf_many.specs.declared.search.Search.{Search}
 
 -- a search over so many commits whose ends are known, and no outcome

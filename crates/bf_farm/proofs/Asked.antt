@@ -11,8 +11,8 @@ use Rattle.bf_search.specs.Outcomes.{outcomes_of_table}
 use Rattle.bf_search.specs.Run.{End, Answered, Leg, Open, Aborted, Run, leg_of}
 use Rattle.bf_search.specs.Farm.{Setting, Farm, stands, has_claim, without, is_best, best_place, place_at, consumed}
 use Rattle.bf_state.specs.Runs.{is_open}
-use Rattle.bf_guesses.proofs.Legal.{place_without_claims}
-use Rattle.bf_guesses.proofs.Used.{told}
+use Rattle.bf_state.proofs.Legal.{place_without_claims}
+use Rattle.bf_state.proofs.Used.{told}
 use Rattle.bf_core.specs.declared.answers.Pick.{Pick}
 use Rattle.bf_core.specs.declared.answers.Pick.TheVariants.{Work, NotYet, Ended}
 use Rattle.bf_farm.specs.Cores.{CoreView, run_of, IsSameStart}

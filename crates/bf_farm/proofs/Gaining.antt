@@ -14,7 +14,7 @@ use Rattle.bf_search.specs.Farm.{Setting, Farm, consumed, stands}
 use Rattle.bf_search.specs.Outcomes.{Outcomes, outcomes_of_table}
 use Rattle.bf_search.specs.Run.{Open, Run, leg_of}
 use Rattle.bf_state.specs.Runs.{IsPartOf}
-use Rattle.bf_guesses.proofs.Used.{told, used_differ}
+use Rattle.bf_state.proofs.Used.{told, used_differ}
 use Rattle.bf_core.specs.Machine.{IsOverGraph}
 use Rattle.bf_core.proofs.Standing.{part_put, put_elsewhere}
 use Rattle.bf_tester.specs.declared.answer.Answer.{Answer}

@@ -11,7 +11,7 @@ use Rattle.bf_search.specs.declared.farm.Event.TheVariants as events
 use Rattle.bf_search.specs.declared.outcomes.Outcome.{Outcome}
 use Rattle.bf_search.specs.Farm.{Setting, Farm, after_events, best_place, consumed, end_of, is_best, without}
 use Rattle.bf_search.specs.Run.{End, Answered, Leg, Open, Aborted}
-use Rattle.bf_guesses.proofs.Legal.{place_without_claims}
+use Rattle.bf_state.proofs.Legal.{place_without_claims}
 use Rattle.bf_tester.specs.declared.answer.Answer.{Answer}
 use Rattle.bf_tester.specs.Replies.{answer_of}
 use Rattle.bf_farm.specs.declared.report.Report.{Report}

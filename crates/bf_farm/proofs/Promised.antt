@@ -12,8 +12,8 @@ use Rattle.bf_search.specs.OpenPaths.{left_of}
 use Rattle.bf_search.specs.Outcomes.{outcomes_of_pairs, outcomes_of_table}
 use Rattle.bf_search.specs.Run.{Run, leg_of}
 use Rattle.bf_state.specs.Session.{Session}
-use Rattle.bf_guesses.specs.Halving.{IsGoodOrBad}
-use Rattle.bf_guesses.proofs.Halves.{run_halves}
+use Rattle.bf_state.specs.Halving.{IsGoodOrBad}
+use Rattle.bf_state.proofs.Halves.{run_halves}
 use Rattle.bf_core.specs.Machine.{IsOverGraph}
 use Rattle.bf_tester.specs.declared.answer.Answer.{Answer}
 use Rattle.bf_tester.specs.Replies.{answer_of}

@@ -16,9 +16,9 @@ use Rattle.bf_search.specs.Run.{End, Answered, Leg, Open, Aborted, Run, leg_of, 
 use Rattle.bf_spec.specs.Walks.{Tells}
 use Rattle.bf_state.specs.Runs.{is_open}
 use Rattle.bf_state.specs.Session.{Session, with_search}
-use Rattle.bf_guesses.specs.Ends.{marks_of}
-use Rattle.bf_guesses.proofs.Causes.{leg_ends, leg_made}
-use Rattle.bf_guesses.proofs.Used.{told, pairs_tell, used_differ}
+use Rattle.bf_state.specs.Ends.{marks_of}
+use Rattle.bf_state.proofs.Causes.{leg_ends, leg_made}
+use Rattle.bf_state.proofs.Used.{told, pairs_tell, used_differ}
 use Rattle.bf_core.specs.Machine.{IsOverGraph}
 use Rattle.bf_tester.specs.declared.answer.Answer.{Answer}
 use Rattle.bf_farm.specs.Answering.{pair_of, run_on, IsLegOver, IsReport}

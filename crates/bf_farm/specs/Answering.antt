@@ -12,8 +12,8 @@ use Rattle.bf_search.specs.Farm.{Setting, consumed, end_of}
 use Rattle.bf_search.specs.Outcomes.{outcomes_of_pairs, outcomes_of_plan, outcomes_of_table}
 use Rattle.bf_search.specs.OpenPaths.{left_of}
 use Rattle.bf_search.specs.Run.{Run, one_at_a_time}
-use Rattle.bf_guesses.specs.Ends.{marks_of}
-use Rattle.bf_guesses.specs.Halving.{IsLine, NoneSkipped, IsGoodOrBad}
+use Rattle.bf_state.specs.Ends.{marks_of}
+use Rattle.bf_state.specs.Halving.{IsLine, NoneSkipped, IsGoodOrBad}
 use Rattle.bf_state.specs.Session.{Session, with_search}
 use Rattle.bf_tester.specs.declared.answer.Answer.{Answer}
 use Rattle.bf_farm.specs.declared.report.Report.{Report}

@@ -9,7 +9,7 @@ ghost use Rattle.bf_farm.specs.Sound.{IsSound, KeepsSound};
 ghost use Rattle.bf_farm.specs.Testers.{KeepsManner, HasAnswersOf, StaysSound, GainsBy, EndsBy, TurnEndsBy};
 ghost use Rattle.bf_farm.specs.Testers.{TestsOnBy, TurnTestsBy, TestsClaimedBy, ReportsTestsBy};
 ghost use Rattle.bf_farm.specs.Testers.{IsSoundBy, HasFaultBy, GainsLacking};
-ghost use Rattle.bf_guesses.specs.Ends.{HasEnds};
+ghost use Rattle.bf_state.specs.Ends.{HasEnds};
 
 use crate::board::Board;
 use crate::case::Case;

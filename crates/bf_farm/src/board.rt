@@ -1,6 +1,6 @@
 //! What workers share behind a lock.
 ghost use Rattle.std.specs.Prelude.{◌≡◌, ◌<◌, ◌≤◌, ◌+◌, true, false, [], ◌∷◌, ◌++◌, length, IfOk, OnOk, OnErr, IfSome, IfNone, vec_len, vec_capacity};
-ghost use Rattle.bf_guesses.specs.Ends.{HasEnds};
+ghost use Rattle.bf_state.specs.Ends.{HasEnds};
 ghost use Rattle.bf_search.specs.Farm.{stands, has_claim};
 ghost use Rattle.bf_core.specs.Machine.{IsOverGraph};
 ghost use Rattle.bf_farm.specs.Boards.{unclaimed, StartsFrom, IsLed, IsStanding, IsSameBoard, DoesIf, PicksAsClaimed, PicksNew};

@@ -6,7 +6,7 @@ ghost use Rattle.bf_farm.specs.Doers.{AreDoneBy};
 ghost use Rattle.bf_farm.specs.Reports.{TableIn, TableFollows};
 ghost use Rattle.bf_farm.specs.Testers.{KeepsManner, HasAnswersOf, IsSoundBy, HasFaultBy};
 ghost use Rattle.bf_farm.specs.Workers.{ArePartsOf};
-ghost use Rattle.bf_guesses.specs.Ends.{HasEnds};
+ghost use Rattle.bf_state.specs.Ends.{HasEnds};
 
 use crate::absorb::absorb_all;
 use crate::alone::finish;

@@ -10,7 +10,7 @@ use Rattle.bf_answers.specs.Writes.{IsWritten}
 use Rattle.bf_commands.specs.Journal.{AreImages, AreImagesOf, Continues, DiskMet, HasDiskFailed, IsJournalled, IsKeptIn, IsLeftAlone, IsOpenedAt, IsOpenedTold, IsRunKept, MayBePut, Opens, identity_of, journal_fault, journal_refused}
 use Rattle.bf_commands.specs.Journal.Opened.{Other, Failed}
 use Rattle.bf_farm.proofs.Asked.{rose_since}
-use Rattle.bf_guesses.specs.Ends.{HasEnds}
+use Rattle.bf_state.specs.Ends.{HasEnds}
 use Rattle.bf_history.specs.Meanings.{History}
 use Rattle.bf_io.proofs.Told.{Appends-trans, AppendsFront-second}
 use Rattle.bf_io.specs.Causes.{Rose}

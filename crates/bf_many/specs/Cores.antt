@@ -5,7 +5,7 @@ use Rattle.std.specs.Option.{is_some, option_map_or}
 use Rattle.bf_search.specs.declared.farm.Event.{Event}
 use Rattle.bf_search.specs.declared.farm.Event.TheVariants.{Claim}
 use Rattle.bf_search.specs.Farm.{stands}
-use Rattle.bf_guesses.specs.Ends.{HasEnds}
+use Rattle.bf_state.specs.Ends.{HasEnds}
 use Rattle.bf_core.specs.Machine.{Machine, IsConsumed, IsStep, IsSameButNodes, AreWithdrawn, KeepsGuesses, StaysBeside, setting_of, farm_of}
 use Rattle.bf_many.specs.declared.answers.ManyEvent.{ManyEvent}
 use Rattle.bf_many.specs.declared.answers.ManyPick.{ManyPick}

@@ -8,7 +8,7 @@ use Rattle.bf_answers.specs.Tellings.{begun_of, told_of}
 use Rattle.bf_answers.specs.declared.answer.Answer.{Answer}
 use Rattle.bf_answers.specs.declared.started.Beginning.{Beginning}
 use Rattle.bf_commands.specs.Many.{searched, searched_for}
-use Rattle.bf_guesses.specs.Ends.{HasEnds}
+use Rattle.bf_state.specs.Ends.{HasEnds}
 use Rattle.bf_history.specs.Meanings.{History}
 use Rattle.bf_log.specs.Written.{known_after_all}
 use Rattle.bf_log.proofs.JoinedLogs.{log_joined}

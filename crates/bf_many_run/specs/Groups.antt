@@ -7,7 +7,7 @@ use Rattle.bf_answers.specs.declared.answer.Answer.{Answer}
 use Rattle.bf_answers.specs.declared.started.Beginning.{Beginning}
 use Rattle.bf_commands.specs.Many.{searched}
 use Rattle.bf_farm.specs.declared.report.Report.{Report}
-use Rattle.bf_guesses.specs.Ends.{HasEnds}
+use Rattle.bf_state.specs.Ends.{HasEnds}
 use Rattle.bf_history.specs.Meanings.{History}
 use Rattle.bf_log.specs.Trace.{event_lines}
 use Rattle.bf_log.specs.Written.{known_after_all}

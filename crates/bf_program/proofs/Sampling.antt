@@ -8,7 +8,7 @@ use Rattle.std.specs.List.{All}
 use Rattle.bf_farm.specs.Answering.{HasFault}
 use Rattle.bf_farm.specs.Reports.{TableFollows}
 use Rattle.bf_farm.specs.declared.report.Report.{Report}
-use Rattle.bf_guesses.specs.Ends.{HasEnds}
+use Rattle.bf_state.specs.Ends.{HasEnds}
 use Rattle.bf_history.specs.Meanings.{History}
 use Rattle.bf_output.proofs.Runs.{closed, front_if_told}
 use Rattle.bf_output.specs.Beginning.{Begun, between_ends, commits_of}

@@ -1,7 +1,7 @@
 //! The command `sample`.
 ghost use Rattle.std.specs.Prelude.{◌≡◌, ◌<◌, ◌≤◌, ◌++◌, false, [], length, count_by, All, IfOk, OnOk};
 ghost use Rattle.std.specs.Option.{ForSome};
-ghost use Rattle.bf_guesses.specs.Ends.{HasEnds};
+ghost use Rattle.bf_state.specs.Ends.{HasEnds};
 ghost use Rattle.bf_output.specs.Sample as sample;
 ghost use Rattle.bf_output.specs.Tested.{status_at_end};
 ghost use Rattle.bf_answers.specs.Answers.{IsWholeAnswer};

@@ -19,11 +19,11 @@ use Rattle.bf_farm.specs.declared.report.Report.{Report}
 use Rattle.bf_farm.specs.Reports.{TableIn}
 use Rattle.bf_oid.specs.declared.object.Oid.{Oid}
 use Rattle.bf_graph.specs.Graph.{IsGraph}
-use Rattle.bf_guesses.specs.Ends.{HasEnds}
-use Rattle.bf_guesses.specs.Tidy.{IsTidy}
-use Rattle.bf_guesses.proofs.Causes.{ends_kept}
-use Rattle.bf_guesses.proofs.Legal.{events_keep_tidy, untold_at}
-use Rattle.bf_guesses.proofs.Used.{used_differ}
+use Rattle.bf_state.specs.Ends.{HasEnds}
+use Rattle.bf_state.specs.Tidy.{IsTidy}
+use Rattle.bf_state.proofs.Causes.{ends_kept}
+use Rattle.bf_state.proofs.Legal.{events_keep_tidy, untold_at}
+use Rattle.bf_state.proofs.Used.{used_differ}
 use Rattle.bf_search.specs.declared.asks.Ask.{Ask}
 use Rattle.bf_search.specs.declared.asks.Ask.TheVariants.{WaitBoth, WaitBad, WaitGood, Test, MergeBaseBad, GoodNotAncestor, BothSides, FirstBad, OnlySkipped}
 use Rattle.bf_search.specs.declared.entries.Entry.{Entry}

@@ -9,7 +9,7 @@ use Rattle.bf_farm.specs.Ends.{awaited, failed_test, test_at}
 use Rattle.bf_farm.specs.Reports.{TableIn, TableFollows}
 use Rattle.bf_farm.specs.declared.report.Report.{Report}
 use Rattle.bf_oid.specs.declared.object.Oid.{Oid}
-use Rattle.bf_guesses.specs.Ends.{HasEnds}
+use Rattle.bf_state.specs.Ends.{HasEnds}
 use Rattle.bf_search.specs.declared.farm.Event.{Event}
 use Rattle.bf_search.specs.declared.farm.Ending.TheVariants as ending
 use Rattle.bf_search.specs.declared.outcomes.Outcome.{Outcome}

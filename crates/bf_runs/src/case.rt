@@ -4,7 +4,7 @@ ghost use Rattle.bf_farm.specs.Answering.{IsAlone, IsByWorkers};
 ghost use Rattle.bf_farm.specs.Cases.{IsReportOn, HasHistoryOn};
 ghost use Rattle.bf_farm.specs.Reports.{TableIn, TableFollows};
 ghost use Rattle.bf_farm.specs.Testers.{KeepsManner, HasAnswersOf, IsSoundBy, HasFaultBy, GainsLacking};
-ghost use Rattle.bf_guesses.specs.Ends.{HasEnds};
+ghost use Rattle.bf_state.specs.Ends.{HasEnds};
 
 use bf_farm::{Case, Report, run_alone, run_farm};
 use bf_import::History;

@@ -1,7 +1,7 @@
 //! The legs of a search: after each the lines so far go out.
 ghost use Rattle.std.specs.Prelude.{◌≡◌, ◌≤◌, false, true, [], length, IfOk};
 ghost use Rattle.bf_farm.specs.Testers.{HasAnswersOf};
-ghost use Rattle.bf_guesses.specs.Ends.{HasEnds};
+ghost use Rattle.bf_state.specs.Ends.{HasEnds};
 ghost use Rattle.bf_io.specs.Causes.{FailsOnlyAt};
 ghost use Rattle.bf_output.specs.Tested.{tested_by};
 ghost use Rattle.bf_answers.specs.Answers.{IsCaused};

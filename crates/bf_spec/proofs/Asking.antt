@@ -15,12 +15,12 @@ use Rattle.bf_search.specs.OpenPaths.{left_of, Allows, Leads}
 use Rattle.bf_search.specs.Outcomes.{Outcomes, verdict_of}
 use Rattle.bf_search.specs.Reach.{reaches}
 use Rattle.bf_search.specs.State.{Search, Asked, ask, mark}
-use Rattle.bf_guesses.proofs.Way.{goes_the_way}
+use Rattle.bf_state.proofs.Way.{goes_the_way}
 use Rattle.bf_spec.specs.declared.asked.Way.TheVariants.{Here, Nowhere, Goes}
 use Rattle.bf_spec.specs.declared.node.Node.{Node}
 use Rattle.bf_spec.specs.Guessed.{next_asked}
 use Rattle.bf_spec.specs.Nodes.{path_of, asked_of, AreNodes, Extends, left_at}
-use Rattle.bf_guesses.specs.Way.{way}
+use Rattle.bf_state.specs.Way.{way}
 use Rattle.bf_spec.specs.Ways.{IsAsked, way_by_verdict, way_by_outcome, way_of}
 use Rattle.bf_spec.proofs.Growing.{asked_within, extends_nodes, extends_has, read_as}
 use Rattle.bf_spec.proofs.Walking.{NodeFacts, node_facts, child_asks, IsChildAt, child_at_left}

@@ -25,10 +25,10 @@ use Rattle.bf_state.proofs.Asks.{known_ends}
 use Rattle.bf_spec.specs.declared.follow.Next.{Next}
 use Rattle.bf_spec.specs.declared.follow.Next.TheVariants as nexts
 use Rattle.bf_spec.specs.declared.node.Node.{Node}
-use Rattle.bf_guesses.specs.Ends.{HasEnds}
+use Rattle.bf_state.specs.Ends.{HasEnds}
 use Rattle.bf_spec.specs.Guessed.{next_asked}
 use Rattle.bf_spec.specs.Nodes.{path_of, asked_of, IsNode, AreNodes, Extends, left_at}
-use Rattle.bf_guesses.specs.Ends.{marks_of}
+use Rattle.bf_state.specs.Ends.{marks_of}
 use Rattle.bf_spec.specs.Walks.{next_by_verdict, next_by_outcome, next_of, IsAnswer, answer_entries, is_over, run_below, behind}
 use Rattle.bf_spec.proofs.Growing.{extends_nodes, extends_has, extends_at, read_as}
 use Rattle.bf_spec.proofs.Walking.{NodeFacts, node_facts, marked_over, child_asks, IsChildAt, child_at_left}

@@ -15,7 +15,7 @@ use Rattle.bf_search.proofs.Turns.{asking}
 use Rattle.bf_state.specs.Session.{Session, with_search}
 use Rattle.bf_state.proofs.AskAgain.{ask_again}
 use Rattle.bf_spec.specs.declared.node.Node.{Node}
-use Rattle.bf_guesses.specs.Ends.{HasEnds}
+use Rattle.bf_state.specs.Ends.{HasEnds}
 use Rattle.bf_spec.specs.Guessed.{marked_by, next_asked, asked_at, IsSettled}
 use Rattle.bf_spec.specs.Sights.{IsSight}
 use Rattle.bf_spec.specs.Nodes.{path_of, asked_of, HasPath, IsNode, IsChild, AreNodes, StaysTree, Grows, Extends}

@@ -20,7 +20,7 @@ use Rattle.bf_spec.specs.declared.follow.Walked.{Walked}
 use Rattle.bf_spec.specs.declared.node.Node.{Node}
 use Rattle.bf_spec.specs.Guessed.{asked_at}
 use Rattle.bf_spec.specs.Nodes.{path_of, asked_of, IsNode, IsTree, AreNodes}
-use Rattle.bf_guesses.specs.Ends.{marks_of}
+use Rattle.bf_state.specs.Ends.{marks_of}
 use Rattle.bf_spec.specs.Walks.{answer_entries, is_over, run_below, behind, Tells, HaltsAt, IsEndedAt, IsOverAt, IsWalked}
 use Rattle.bf_spec.proofs.Growing.{asked_within, read_as}
 use Rattle.bf_spec.proofs.Walking.{NodeFacts, node_facts}

@@ -14,7 +14,7 @@ use Rattle.bf_search.specs.State.{Search, ask}
 use Rattle.bf_state.specs.Session.{Session, with_search, IsSearchBelow}
 use Rattle.bf_state.proofs.AskAgain.{ask_again}
 use Rattle.bf_spec.specs.declared.node.Node.{Node}
-use Rattle.bf_guesses.specs.Ends.{HasEnds}
+use Rattle.bf_state.specs.Ends.{HasEnds}
 use Rattle.bf_spec.specs.Guessed.{next_asked, asked_at, IsSettled}
 use Rattle.bf_spec.specs.Sights.{IsSight}
 use Rattle.bf_spec.specs.declared.node.Sight.{Sight}

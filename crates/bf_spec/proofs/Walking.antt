@@ -29,7 +29,7 @@ use Rattle.bf_search.specs.Candidates.{is_candidate, candidate_row}
 use Rattle.bf_search.specs.Guesses.{is_candidate_below}
 use Rattle.bf_search.specs.OpenPaths.{OpenPath, left_of, is_claimed, is_better, better, followed_by, after_verdict, after_look, after_step, path_turn}
 use Rattle.bf_search.specs.OpenPaths.{best_open}
-use Rattle.bf_guesses.proofs.Turns.{best_open-is}
+use Rattle.bf_state.proofs.Turns.{best_open-is}
 use Rattle.bf_spec.specs.declared.node.Node.{Node}
 use Rattle.bf_spec.specs.declared.walk.Found.{Found}
 use Rattle.bf_spec.specs.declared.walk.Look.{Look}

@@ -18,7 +18,7 @@ use Rattle.bf_spec.specs.declared.walk.Found.{Found}
 use Rattle.bf_spec.specs.declared.walk.Stop.{Stop}
 use Rattle.bf_spec.specs.declared.walk.Stop.TheVariants.{Ended, Free, Guess}
 use Rattle.bf_spec.specs.declared.walk.Look.TheVariants.{Guess as LookGuess}
-use Rattle.bf_guesses.specs.Ends.{HasEnds}
+use Rattle.bf_state.specs.Ends.{HasEnds}
 use Rattle.bf_spec.specs.Guessed.{next_asked, asked_at, IsSettled, prefixed, look_of}
 use Rattle.bf_spec.specs.Sights.{IsSight}
 

@@ -24,7 +24,7 @@ use Rattle.bf_spec.specs.declared.follow.Next.TheVariants as nexts
 use Rattle.bf_spec.specs.declared.follow.Trail.{Trail}
 use Rattle.bf_spec.specs.declared.follow.Walked.{Walked}
 use Rattle.bf_spec.specs.declared.node.Node.{Node}
-use Rattle.bf_guesses.specs.Ends.{marks_of}
+use Rattle.bf_state.specs.Ends.{marks_of}
 use Rattle.bf_spec.specs.Guessed.{asked_at}
 use Rattle.bf_spec.specs.Nodes.{path_of, HasPath, IsTree}
 

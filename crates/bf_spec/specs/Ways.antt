@@ -10,7 +10,7 @@ use Rattle.bf_search.specs.declared.outcomes.Verdict.TheVariants.{Mark as MarkOf
 use Rattle.bf_search.specs.OpenPaths.{Leads}
 use Rattle.bf_search.specs.Outcomes.{Outcomes, outcomes_of_table, verdict_of}
 use Rattle.bf_search.specs.State.{Search}
-use Rattle.bf_guesses.specs.Way.{way}
+use Rattle.bf_state.specs.Way.{way}
 use Rattle.bf_spec.specs.declared.asked.Way.{Way}
 use Rattle.bf_spec.specs.declared.asked.Way.TheVariants.{Here, Nowhere, Goes}
 use Rattle.bf_spec.specs.declared.node.Node.{Node}

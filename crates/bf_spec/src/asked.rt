@@ -2,7 +2,7 @@
 ghost use Rattle.std.specs.Prelude.{◌≡◌, ℕ, ◌<◌, length, IfOk};
 ghost use Rattle.bf_search.specs.declared.asks.Ask.TheVariants.{Test};
 ghost use Rattle.bf_spec.specs.Nodes as nodes_;
-ghost use Rattle.bf_guesses.specs.Way.{way};
+ghost use Rattle.bf_state.specs.Way.{way};
 ghost use Rattle.bf_spec.specs.Ways.{way_from, TellsIfAskedFrom};
 
 use crate::node::Node;

@@ -1,7 +1,7 @@
 //! How nodes are made.
 ghost use Rattle.std.specs.Prelude.{◌≡◌, ◌<◌, ◌++◌, ◌∷◌, [], length, IfOk, Some};
 ghost use Rattle.bf_search.specs.declared.asks.Ask.TheVariants.{Test};
-ghost use Rattle.bf_guesses.specs.Ends.{HasEnds};
+ghost use Rattle.bf_state.specs.Ends.{HasEnds};
 ghost use Rattle.bf_spec.specs.Nodes as nodes_;
 ghost use Rattle.bf_spec.specs.Sights.{IsSight, IsOrder, IsFresh};
 

@@ -4,7 +4,7 @@ ghost use Rattle.bf_search.specs.declared.asks.Ask.TheVariants.{Test};
 ghost use Rattle.bf_search.specs.declared.outcomes.Mark.{Mark as MarkValue};
 ghost use Rattle.bf_search.specs.declared.outcomes.Mark.TheVariants.{Skip};
 ghost use Rattle.bf_search.specs.State.{ask};
-ghost use Rattle.bf_guesses.specs.Ends.{HasEnds};
+ghost use Rattle.bf_state.specs.Ends.{HasEnds};
 ghost use Rattle.bf_spec.specs.Guessed.{next_asked, asked_at};
 ghost use Rattle.bf_state.specs.Session.{with_search};
 ghost use Rattle.bf_spec.specs.Nodes.{path_of, HasPath, AreNodes, Extends, IsBest, known_by, RootAsks};

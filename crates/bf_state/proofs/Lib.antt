@@ -1,3 +1,17 @@
+pub mod Turns
+pub mod Shrinking
+pub mod AskedOnce
+pub mod OnePath
+pub mod Best
+pub mod Way
+pub mod Legs
+pub mod Used
+pub mod Causes
+pub mod Plans
+pub mod Rows
+pub mod Legal
+pub mod Lines
+pub mod Halves
 pub mod Once
 pub mod Asks
 pub mod Firsts

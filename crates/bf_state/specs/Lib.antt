@@ -1,3 +1,8 @@
+pub mod Way
+pub mod Ends
+pub mod Used
+pub mod Tidy
+pub mod Halving
 pub mod Session
 pub mod FirstBad
 pub mod Steps

@@ -1,6 +1,6 @@
 //! A core on the line of eight.
 ghost use Rattle.std.specs.Prelude.{◌≡◌, ◌<◌, length, IfOk};
-ghost use Rattle.bf_guesses.specs.Ends.{HasEnds};
+ghost use Rattle.bf_state.specs.Ends.{HasEnds};
 
 use crate::line::{line, search};
 use bf_core::{ApplyFault, Core, Pick};

@@ -1,6 +1,6 @@
 //! Runs on a line of eight commits, of the calling thread alone and of several workers.
 ghost use Rattle.std.specs.Prelude.{◌≡◌, ◌≤◌, false, length, replicate, None, IfOk};
-ghost use Rattle.bf_guesses.specs.Ends.{HasEnds};
+ghost use Rattle.bf_state.specs.Ends.{HasEnds};
 
 use crate::line::{line, search};
 use bf_farm::{Case, Report, run_alone, run_farm};

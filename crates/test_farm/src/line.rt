@@ -1,6 +1,6 @@
 //! A search on a line of eight commits.
 ghost use Rattle.std.specs.Prelude.{◌≡◌, length, IfOk};
-ghost use Rattle.bf_guesses.specs.Ends.{HasEnds};
+ghost use Rattle.bf_state.specs.Ends.{HasEnds};
 
 use bf_graph::Graph;
 use bf_reach::Reach;

@@ -1,6 +1,6 @@
 //! Cores under random schedules, beside the open paths as states alone tell them.
 ghost use Rattle.std.specs.Prelude.{◌≡◌, ◌<◌, length, IfOk, IfSome};
-ghost use Rattle.bf_guesses.specs.Ends.{HasEnds};
+ghost use Rattle.bf_state.specs.Ends.{HasEnds};
 
 use bf_core::{Core, Pick};
 use bf_graph::Graph;

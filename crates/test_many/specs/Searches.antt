@@ -1,6 +1,6 @@
 -- Searches over eight commits.
 use Rattle.std.specs.Prelude.{◌≡◌, List, length, replicate, All, Option, None}
-use Rattle.bf_guesses.specs.Ends.{HasEnds}
+use Rattle.bf_state.specs.Ends.{HasEnds}
 use Rattle.bf_many.specs.declared.search.Search.{Search}
 use Rattle.bf_search.specs.declared.outcomes.Outcome.{Outcome}
 

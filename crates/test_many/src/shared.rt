@@ -1,6 +1,6 @@
 //! Two searches over a line of eight commits.
 ghost use Rattle.std.specs.Prelude.{◌≡◌, ◌≤◌, length, All, IfOk};
-ghost use Rattle.bf_guesses.specs.Ends.{HasEnds};
+ghost use Rattle.bf_state.specs.Ends.{HasEnds};
 ghost use Rattle.bf_many.specs.Teams.{AreWhole};
 ghost use Rattle.test_many.specs.Searches.{AreFresh, IsFresh, IsOfEight};
 

@@ -1,5 +1,5 @@
 use Rattle.std.proofs.Common.{◌-◌, refl, sym, subst}
-use Rattle.bf_guesses.specs.Ends.{HasEnds}
+use Rattle.bf_state.specs.Ends.{HasEnds}
 use Rattle.bf_state.specs.Session.{Session}
 use Rattle.bench.proofs.farm.search.Goals as goal
 

@@ -7,7 +7,7 @@ use Rattle.bf_search.specs.Outcomes.{outcomes_of_table}
 use Rattle.bf_search.specs.Run.{Aborted, Leg, Run, ended, marked_one}
 use Rattle.bf_search.specs.State.{mark}
 use Rattle.bf_spec.specs.declared.node.Node.{Node}
-use Rattle.bf_guesses.specs.Ends.{marks_of}
+use Rattle.bf_state.specs.Ends.{marks_of}
 use Rattle.bf_spec.specs.Walks.{is_over, run_below, behind}
 use Rattle.bf_spec.proofs.Growing.{extends_trans, extends_nodes, extends_length, extends_at, extends_same}
 use Rattle.bf_spec.proofs.Following.{behind_same, behind_used, marks_marked, marks_after, same_at, halt_answered, halt_waits, halt_aborted, marked_asks}

@@ -2,7 +2,7 @@ use Rattle.std.proofs.Common.{◌≡◌, ◌<◌, false, length}
 use Rattle.std.specs.List.{slice_index_or}
 use Rattle.bf_search.specs.Outcomes.{outcomes_of_table}
 use Rattle.bf_spec.specs.Nodes.{path_of, AreNodes, Extends, left_at}
-use Rattle.bf_guesses.specs.Ends.{marks_of}
+use Rattle.bf_state.specs.Ends.{marks_of}
 use Rattle.bf_spec.specs.Walks.{is_over, run_below, behind}
 use Rattle.bf_spec.specs.declared.node.Node.{Node}
 use Rattle.bf_spec.proofs.follow.follow.Given as goal

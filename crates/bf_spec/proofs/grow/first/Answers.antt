@@ -2,7 +2,7 @@ use Rattle.std.proofs.Common.{◌≡◌, ℕ, ◌∷◌, [], length, sym, ap, �
 use Rattle.std.proofs.lemmas.Result.{IfOk-weaker}
 use Rattle.bf_search.specs.State.{ask}
 use Rattle.bf_state.specs.Session.{Session, IsSearchBelow}
-use Rattle.bf_guesses.specs.Ends.{HasEnds}
+use Rattle.bf_state.specs.Ends.{HasEnds}
 use Rattle.bf_spec.specs.Nodes.{path_of, IsTree}
 use Rattle.bf_spec.specs.Sights.{IsFresh}
 use Rattle.bf_spec.proofs.Growing.{ends_asked}

@@ -1,6 +1,6 @@
 use Rattle.std.proofs.Common.{refl, sym, subst}
 use Rattle.bf_state.specs.Session.{Session}
-use Rattle.bf_guesses.specs.Ends.{HasEnds}
+use Rattle.bf_state.specs.Ends.{HasEnds}
 use Rattle.bf_spec.proofs.Halting.{if_ok}
 use Rattle.test_many.proofs.shared.state.Goals as goal
 

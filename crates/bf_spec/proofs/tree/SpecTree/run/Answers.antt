@@ -4,7 +4,7 @@ use Rattle.bf_search.specs.Run.{Leg, Open}
 use Rattle.bf_state.specs.Session.{with_search}
 use Rattle.bf_spec.specs.Guessed.{asked_at}
 use Rattle.bf_spec.specs.Tree.{Guesses, HasNode, run_of, session_of, root_of}
-use Rattle.bf_guesses.specs.Ends.{marks_of}
+use Rattle.bf_state.specs.Ends.{marks_of}
 use Rattle.bf_spec.specs.Walks.{Tells}
 use Rattle.bf_spec.proofs.Halting.{if_ok}
 use Rattle.bf_spec.proofs.Rerooting.{root_kept, session_kept, rooted_after, path_kept, path_to}

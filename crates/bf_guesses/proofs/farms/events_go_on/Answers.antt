@@ -1,5 +1,0 @@
-use Rattle.bf_guesses.proofs.Legal.{events_append}
-use Rattle.bf_guesses.proofs.farms.events_go_on.Goals as goal
-
-pub returns : goal.returns
-returns c = λ setting farm first second. events_append setting farm first second

@@ -1,5 +1,0 @@
-use Rattle.bf_guesses.proofs.Legal.{place_without_claims}
-use Rattle.bf_guesses.proofs.farms.no_claim_leaves_a_place.Goals as goal
-
-pub returns : goal.returns
-returns c = λ setting table p e. place_without_claims setting table p e

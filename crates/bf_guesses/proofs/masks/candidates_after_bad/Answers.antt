@@ -1,5 +1,0 @@
-use Rattle.bf_guesses.proofs.Rows.{mask-bad}
-use Rattle.bf_guesses.proofs.masks.candidates_after_bad.Goals as goal
-
-pub returns : goal.returns
-returns c = λ graph s q g h. mask-bad graph s q g h

@@ -1,5 +1,0 @@
-use Rattle.bf_guesses.proofs.Shrinking.{left-along}
-use Rattle.bf_guesses.proofs.paths.candidates_never_grow.Goals as goal
-
-pub returns : goal.returns
-returns c = λ graph known s ms p left g h. left-along graph known s ms p left g h

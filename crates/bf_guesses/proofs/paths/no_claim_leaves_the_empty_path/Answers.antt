@@ -1,5 +1,0 @@
-use Rattle.bf_guesses.proofs.Turns.{unclaimed_is_open}
-use Rattle.bf_guesses.proofs.paths.no_claim_leaves_the_empty_path.Goals as goal
-
-pub returns : goal.returns
-returns c = λ graph known s p h k. unclaimed_is_open graph known s p h k

@@ -1,5 +1,0 @@
-use Rattle.bf_guesses.proofs.OnePath.{one_path}
-use Rattle.bf_guesses.proofs.paths.one_path_a_place.Goals as goal
-
-pub returns : goal.returns
-returns c = λ graph known s ms ns p one two g over h k. one_path graph known s ms ns p one two g over h k

@@ -1,5 +1,0 @@
-use Rattle.bf_guesses.proofs.Turns.{best_open-is}
-use Rattle.bf_guesses.proofs.paths.turns_are_never_spent.Goals as goal
-
-pub returns : goal.returns
-returns c = λ graph known claims s g over. best_open-is graph known claims s g over

@@ -1,5 +1,0 @@
-use Rattle.bf_guesses.proofs.Legs.{asked_over}
-use Rattle.bf_guesses.proofs.runs.asks_stay_within_the_graph.Goals as goal
-
-pub returns : goal.returns
-returns c = λ graph s g over. asked_over graph s g over

@@ -1,5 +1,0 @@
-use Rattle.bf_guesses.proofs.Causes.{bad_base_is_told}
-use Rattle.bf_guesses.proofs.runs.bad_bases_are_told.Goals as goal
-
-pub returns : goal.returns
-returns c = λ graph s q g h unpassed. bad_base_is_told graph s q g h unpassed

@@ -1,5 +1,0 @@
-use Rattle.bf_guesses.proofs.Halves.{run_halves}
-use Rattle.bf_guesses.proofs.runs.halving.Goals as goal
-
-pub returns : goal.returns
-returns c = λ graph known left s g over passed unskipped line all some. run_halves graph known g left s over passed unskipped line all some

@@ -1,5 +1,0 @@
-use Rattle.bf_guesses.proofs.Legs.{run_follows}
-use Rattle.bf_guesses.proofs.runs.open_runs_go_on.Goals as goal
-
-pub returns : goal.returns
-returns c = λ graph s known more left g over part e. run_follows graph known more g part left s over e

@@ -1,5 +1,0 @@
-use Rattle.bf_guesses.proofs.Used.{off_the_path}
-use Rattle.bf_guesses.proofs.runs.outcomes_off_the_path.Goals as goal
-
-pub returns : goal.returns
-returns c = λ graph known more left s p part h none. off_the_path graph known more left s p part h none

@@ -1,5 +1,0 @@
-use Rattle.bf_guesses.proofs.Causes.{ends_well}
-use Rattle.bf_guesses.proofs.runs.runs_end_as_endings_tell.Goals as goal
-
-pub returns : goal.returns
-returns c = λ graph known left s ends. ends_well graph known left s ends

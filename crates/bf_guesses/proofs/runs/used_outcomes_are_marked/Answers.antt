@@ -1,5 +1,0 @@
-use Rattle.bf_guesses.proofs.Causes.{used_are_marked}
-use Rattle.bf_guesses.proofs.runs.used_outcomes_are_marked.Goals as goal
-
-pub returns : goal.returns
-returns c = λ graph known left s e. used_are_marked known graph left s e

@@ -1,5 +1,0 @@
-use Rattle.bf_guesses.proofs.Used.{pairs_tell}
-use Rattle.bf_guesses.proofs.runs.used_pairs_tell_the_run.Goals as goal
-
-pub returns : goal.returns
-returns c = λ graph known left s. pairs_tell graph known left s

@@ -1,5 +1,0 @@
-pub mod Way
-pub mod Ends
-pub mod Used
-pub mod Tidy
-pub mod Halving
