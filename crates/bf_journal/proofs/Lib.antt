@@ -1,3 +1,6 @@
+pub mod Keeping
+pub mod Remembering
+mod Worked
 mod Filled
 mod Fitting
 mod Images

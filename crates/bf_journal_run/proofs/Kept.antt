@@ -2,8 +2,8 @@
 use Rattle.std.proofs.Common.{◌≡◌, ℕ, zero, suc, ◌+◌, ◌<◌, ◌≤◌, List, [], ◌∷◌, ◌++◌, length, drop, get_or, Option, Some, None, refl, sym, ap, ◌∙◌, subst, arith, add-one, drop-cons, append_assoc, append-nil}
 use Rattle.std.proofs.lemmas.Bool.Decides.{nat_tests}
 use Rattle.bf_oid.specs.declared.object.Oid.{Oid}
-use Rattle.bf_recall.specs.Remembered.{AreNew, outcome_at}
-use Rattle.bf_recall.proofs.Remembering.{outcome_at-push}
+use Rattle.bf_journal.specs.Remembered.{AreNew, outcome_at}
+use Rattle.bf_journal.proofs.Remembering.{outcome_at-push}
 use Rattle.bf_search.specs.declared.outcomes.Outcome.{Outcome}
 use Rattle.bf_search.specs.Outcomes.{outcomes_of_table}
 use Rattle.bf_tester.specs.declared.answer.Answer.{Answer}

@@ -16,7 +16,7 @@ use Rattle.bf_output.proofs.Runs.{front_if_told}
 use Rattle.bf_output.specs.Beginning.{Begun}
 use Rattle.bf_output.specs.Tested.{Tested}
 use Rattle.bf_output.specs.Traces.{course_of}
-use Rattle.bf_recall.specs.Recalling.{KeepsRemembered}
+use Rattle.bf_journal.specs.Recalling.{KeepsRemembered}
 use Rattle.bf_runs.proofs.Sequences.{Keeps}
 use Rattle.bf_runs.specs.Courses.{course_from, stand_of}
 use Rattle.bf_runs.specs.declared.case.Search.{Search as Searched}

@@ -23,8 +23,8 @@ use Rattle.bf_output.specs.Output.{IsUsedFor, IsUsedIf, asks_file, given_to, is_
 use Rattle.bf_output.specs.Refusals.{usage}
 use Rattle.bf_output.specs.Tested.{Tested, IsUsed}
 use Rattle.bf_output.specs.Told.{Told}
-use Rattle.bf_recall.specs.Recalling.{IsPassedOn, Recalling, remembering}
-use Rattle.bf_recall.specs.Remembered.{outcome_at}
+use Rattle.bf_journal.specs.Recalling.{IsPassedOn, Recalling, remembering}
+use Rattle.bf_journal.specs.Remembered.{outcome_at}
 use Rattle.bf_shelf.specs.declared.shelf.ShelfFile.{ShelfFile}
 use Rattle.bf_tester.specs.declared.answer.Answer.{Answer as Answered}
 use Rattle.bf_words.specs.declared.request.Request.{Request}

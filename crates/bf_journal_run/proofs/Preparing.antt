@@ -1,7 +1,7 @@
 -- A tester that remembers what a journal kept, and takes its command.
 use Rattle.std.proofs.Common.{◌≡◌, ◌||◌, inl, inr, ℕ, List, [], ◌++◌, Option, sym, ap, ◌∙◌, subst}
 use Rattle.bf_output.specs.Tested.{Tested, IsUsed, command_of, tested_by}
-use Rattle.bf_recall.specs.Recalling.{Recalling, remembering}
+use Rattle.bf_journal.specs.Recalling.{Recalling, remembering}
 use Rattle.bf_search.specs.declared.outcomes.Outcome.{Outcome}
 use Rattle.bf_tester.specs.declared.answer.Answer.{Answer as Answered}
 use Rattle.bf_tester.specs.declared.tester.Tester.{Ghosts}

@@ -1,6 +1,6 @@
 -- A tester that remembers, by the ghost members of the one below it.
-use Rattle.bf_recall.specs.Recalling.{Recalling}
-use Rattle.bf_recall.specs.Remembered.{told_over}
+use Rattle.bf_journal.specs.Recalling.{Recalling}
+use Rattle.bf_journal.specs.Remembered.{told_over}
 use Rattle.bf_tester.specs.declared.tester.Tester.{Ghosts}
 
 abbrev pub recall_by : {T : Type 0} → Ghosts T → Ghosts (Recalling T)

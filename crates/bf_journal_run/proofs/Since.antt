@@ -4,8 +4,8 @@ use Rattle.std.proofs.lemmas.List.Elements.{All-contains}
 use Rattle.bf_commands.specs.Journal.{IsKeptAs, KeepsAll}
 use Rattle.bf_farm.specs.Reports.{TableIn}
 use Rattle.bf_oid.specs.declared.object.Oid.{Oid}
-use Rattle.bf_recall.specs.Recalling.{IsAsRemembered, KeepsRemembered}
-use Rattle.bf_recall.specs.Remembered.{outcome_at}
+use Rattle.bf_journal.specs.Recalling.{IsAsRemembered, KeepsRemembered}
+use Rattle.bf_journal.specs.Remembered.{outcome_at}
 use Rattle.bf_search.specs.declared.outcomes.Outcome.{Outcome}
 use Rattle.bf_search.specs.declared.outcomes.Verdict.{Verdict}
 use Rattle.bf_search.specs.declared.outcomes.Verdict.TheVariants.{Mark, Abort}

@@ -17,7 +17,7 @@ use Rattle.bf_output.specs.Output.{asks_file, reads, tests}
 use Rattle.bf_output.specs.Tested.{Tested}
 use Rattle.bf_output.specs.Told.{Told}
 use Rattle.bf_output.specs.declared.status.Status.{Status}
-use Rattle.bf_recall.specs.Remembered.{outcome_at}
+use Rattle.bf_journal.specs.Remembered.{outcome_at}
 use Rattle.bf_search.specs.declared.outcomes.Outcome.{Outcome}
 use Rattle.bf_tester.specs.declared.answer.Answer.{Answer as Answered}
 use Rattle.bf_words.specs.declared.request.Request.{Request}

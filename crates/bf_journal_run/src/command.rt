@@ -10,7 +10,7 @@ ghost use Rattle.bf_journal_run.specs.Legs.{met_disk};
 ghost use Rattle.bf_journal_run.specs.Searching.{IsUnopenedIfRefused};
 ghost use Rattle.bf_output.specs.Output.{IsUsedFor, asks_file, reads, tests};
 ghost use Rattle.bf_output.specs.Tested.{IsUsed, tested_by};
-ghost use Rattle.bf_recall.specs.Recalling.{remembering};
+ghost use Rattle.bf_journal.specs.Recalling.{remembering};
 ghost use Rattle.bf_words.specs.declared.verb.Verb.TheVariants.{Run};
 
 use crate::prepare::prepare;
@@ -20,7 +20,7 @@ use bf_answers::{Fault, Line, Ready, say, say_answer, usage};
 use bf_io::{Sink, Source, Word};
 use bf_journal::Disk;
 use bf_output::Status;
-use bf_recall::Recall;
+use bf_journal::Recall;
 use bf_shelf::Shelf;
 use bf_tester::{Host, Tester};
 use bf_words::WordFault;

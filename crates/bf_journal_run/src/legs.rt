@@ -18,7 +18,7 @@ use bf_farm::Report;
 use bf_import::History;
 use bf_io::Sink;
 use bf_journal::{Disk, Journal};
-use bf_recall::Recall;
+use bf_journal::Recall;
 use bf_runs::{Search, run_leg};
 use bf_searches::{Gone, Running, Telling, gone_with};
 use bf_tester::{Host, Tester};

@@ -14,7 +14,7 @@ ghost use Rattle.bf_journal_run.specs.Kept.{AreLasting, answers_of};
 ghost use Rattle.bf_journal_run.specs.Legs.{IsEndedKept, met_disk};
 ghost use Rattle.bf_journal_run.specs.Searching.{ConcludesKept, IsRecalledIn, IsRefusedOnly, SaysKept};
 ghost use Rattle.bf_output.specs.Tested.{IsUsed, tested_by};
-ghost use Rattle.bf_recall.specs.Recalling.{remembering};
+ghost use Rattle.bf_journal.specs.Recalling.{remembering};
 
 use crate::cut::Cut;
 use crate::keep::kept_answers;
@@ -24,7 +24,7 @@ use bf_import::History;
 use bf_io::Sink;
 use bf_journal::{Disk, Journal, JournalFault, run_identity};
 use bf_output::Status;
-use bf_recall::Recall;
+use bf_journal::Recall;
 use bf_runs::Search;
 use bf_searches::{begin_running, command_of};
 use bf_tester::{Host, Tester};

@@ -15,7 +15,7 @@ use bf_import::Content;
 use bf_io::{Sink, Source, StdSink, StdSource, Word};
 use bf_journal::{Disk, DiskFile};
 use bf_program::{Status, say};
-use bf_recall::Recall;
+use bf_journal::Recall;
 use bf_shelf::{DirShelf, Shelf};
 use bf_tester::{ProcessTester, Tester};
 use help::{HELP, VERSION};

@@ -8,7 +8,7 @@ use bf_io::{Bytes, PlainSink, PlainSource, Sink, Word};
 use bf_journal::MemDisk;
 use bf_output::Status;
 use bf_paths::read_path;
-use bf_recall::Recall;
+use bf_journal::Recall;
 use bf_shelf::{PlainShelf, ShelfFile};
 use bf_tester::{FailRule, ScriptTester, Tester};
 use std::alloc::{AllocError, Global};

@@ -2,7 +2,7 @@
 ghost use Rattle.std.specs.Prelude.{◌≡◌};
 
 use bf_oid::Oid;
-use bf_recall::Recall;
+use bf_journal::Recall;
 use bf_search::Outcome;
 use bf_tester::{Answer, PlanTester, StopView, TestReply, Tester};
 use std::alloc::AllocError;

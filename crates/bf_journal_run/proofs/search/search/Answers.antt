@@ -13,7 +13,7 @@ use Rattle.bf_journal_run.proofs.Concluding.{another_refused, caused_no_write, f
 use Rattle.bf_journal_run.proofs.Recalled.{recall_by}
 use Rattle.bf_oid.specs.declared.object.Oid.{Oid}
 use Rattle.bf_output.specs.Tested.{tested_by}
-use Rattle.bf_recall.specs.Recalling.{Recalling}
+use Rattle.bf_journal.specs.Recalling.{Recalling}
 use Rattle.bf_journal_run.proofs.search.search.Given.{Over}
 use Rattle.bf_journal_run.proofs.search.search.Goals as goal
 

@@ -11,8 +11,8 @@ use Rattle.bf_journal_run.proofs.Recalled.{recall_by}
 use Rattle.bf_journal_run.proofs.Starting.{nothing_kept}
 use Rattle.bf_journal_run.specs.Kept.{AreLasting, answers_of}
 use Rattle.bf_oid.specs.declared.object.Oid.{Oid}
-use Rattle.bf_recall.specs.Recalling.{Recalling, remembering}
-use Rattle.bf_recall.specs.Remembered.{AreNew}
+use Rattle.bf_journal.specs.Recalling.{Recalling, remembering}
+use Rattle.bf_journal.specs.Remembered.{AreNew}
 use Rattle.bf_tester.specs.declared.answer.Answer.{Answer as Answered}
 use Rattle.bf_output.specs.Tested.{tested_by}
 use Rattle.bf_journal_run.proofs.search.search_kept.Goals as goal

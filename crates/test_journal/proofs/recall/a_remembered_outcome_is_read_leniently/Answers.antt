@@ -1,6 +1,6 @@
 use Rattle.std.proofs.Common.{rules, ◌≡◌, List, [], ◌∷◌, refl, sym, subst}
 use Rattle.bf_tester.specs.declared.answer.Answer.{Answer}
-use Rattle.bf_recall.specs.Remembered.{AreNew}
+use Rattle.bf_journal.specs.Remembered.{AreNew}
 use Rattle.test_journal.proofs.recall.a_remembered_outcome_is_read_leniently.Goals as goal
 
 both_new : (remembered : List Answer) (a b : Answer) → remembered ≡ [] → a.place ≡ 4 → b.place ≡ 3 → AreNew remembered (a ∷ b ∷ [])
