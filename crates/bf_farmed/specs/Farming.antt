@@ -10,7 +10,7 @@ use Rattle.bf_answers.specs.Answers.{Command, IsUntested}
 use Rattle.bf_answers.specs.Devices.{Met, TesterMet}
 use Rattle.bf_program.specs.Answers.{asked_in}
 use Rattle.bf_program.specs.Printing as printing
-use Rattle.bf_check.specs.Checking.{to_check}
+use Rattle.bf_certify.specs.Checking.{to_check}
 use Rattle.bf_certify.specs.Certifying.{to_certify}
 use Rattle.bf_checkout_run.specs.CheckingOut.{asked_by, to_checkout}
 use Rattle.bf_journal_run.specs.Journalling.{IsRecalledBy, to_journal}

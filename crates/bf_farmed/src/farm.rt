@@ -17,7 +17,7 @@ ghost use Rattle.bf_farmed.specs.Ordered.{IsCarriedOut};
 
 use bf_answers::word_at;
 use bf_certify::certify;
-use bf_check::check;
+use bf_certify::check;
 use bf_checkout::{Folder, FolderTester, Workshop};
 use bf_checkout_run::checkout;
 use bf_commands::{Order, order_of};

@@ -2,7 +2,7 @@
 ghost use Rattle.std.specs.Prelude.{◌≡◌, [], false};
 
 use bf_certify::certify;
-use bf_check::check;
+use bf_certify::check;
 use bf_io::{Bytes, MemSource, PlainSink, Word};
 use bf_output::Status;
 use bf_shelf::{PlainShelf, ShelfFile};

@@ -9,8 +9,8 @@ ghost use Rattle.bf_answers.specs.Tellings.{Says};
 ghost use Rattle.bf_begin.specs.Files.{given_of};
 ghost use Rattle.bf_commands.specs.Check as checks;
 ghost use Rattle.bf_commands.specs.Orders as orders;
-ghost use Rattle.bf_check.specs.Checking.{checks_file, met_checking, to_check};
-ghost use Rattle.bf_check.specs.Tells.{TellsChecked, TellsFile, TellsOutput, TellsStreamed, TellsText};
+ghost use Rattle.bf_certify.specs.Checking.{checks_file, met_checking, to_check};
+ghost use Rattle.bf_certify.specs.TellsChecked.{TellsChecked, TellsFile, TellsOutput, TellsStreamed, TellsText};
 
 use bf_answers::{Answer, Fault, Stop, refusal, say_answer, usage};
 use bf_begin::{LogFile, load_word, text_of};
