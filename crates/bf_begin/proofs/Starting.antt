@@ -16,8 +16,8 @@ use Rattle.bf_output.specs.declared.status.Status.TheVariants as status
 use Rattle.bf_output.specs.Told.{told_by}
 use Rattle.bf_output.specs.Beginning.{Begun}
 use Rattle.bf_output.specs.Output.{IsOver, IsOverFile, IsOverLog, IsSearched, IsSearchedFrom, given_to}
-use Rattle.bf_shelf.specs.declared.shelf.LoadFault.{LoadFault}
-use Rattle.bf_shelf.specs.declared.shelf.ShelfFile.{ShelfFile}
+use Rattle.bf_io.specs.declared.shelf.LoadFault.{LoadFault}
+use Rattle.bf_io.specs.declared.shelf.ShelfFile.{ShelfFile}
 use Rattle.bf_begin.specs.declared.file.LogFile.{LogFile}
 use Rattle.bf_begin.specs.Files.{given_of, IsFileOf}
 use Rattle.bf_answers.specs.declared.started.Beginning.{Beginning}

@@ -17,7 +17,7 @@ use bf_io::{Bytes, Word};
 use bf_reach::Reach;
 use bf_reading::{LogFault, LogLine, LogLines, read_log};
 use bf_replay::{ReplayFault, Replayed, replay};
-use bf_shelf::{LoadFault, Shelf};
+use bf_io::{LoadFault, Shelf};
 use std::alloc::Global;
 use std::marker::Model;
 

@@ -10,8 +10,8 @@ use Rattle.bf_output.specs.Beginning.{Begun}
 use Rattle.bf_output.specs.Output.{given_to}
 use Rattle.bf_output.specs.Tested.{Tested}
 use Rattle.bf_output.specs.Told.{Told}
-use Rattle.bf_shelf.specs.declared.shelf.LoadFault.{LoadFault}
-use Rattle.bf_shelf.specs.declared.shelf.ShelfFile.{ShelfFile}
+use Rattle.bf_io.specs.declared.shelf.LoadFault.{LoadFault}
+use Rattle.bf_io.specs.declared.shelf.ShelfFile.{ShelfFile}
 use Rattle.bf_words.specs.declared.request.Request.{Request}
 use Rattle.bf_words.specs.declared.verb.Verb.{Verb}
 

@@ -16,7 +16,7 @@ use Rattle.bf_history.specs.Meanings.{History}
 use Rattle.bf_output.specs.Inputs.{IsStreamed}
 use Rattle.bf_output.specs.Output.{given_to}
 use Rattle.bf_output.specs.Tested.{Tested}
-use Rattle.bf_shelf.specs.declared.shelf.ShelfFile.{ShelfFile}
+use Rattle.bf_io.specs.declared.shelf.ShelfFile.{ShelfFile}
 
 -- of a search, by what the tester of its run shows
 abbrev pub TellsRun : Line → Started → Tested → Answer → Type 0

@@ -20,7 +20,7 @@ use bf_import::{History, import};
 use bf_io::{Bytes, Sink, Source, Word, put_decimal};
 use bf_oid::oid_hex;
 use bf_output::Status;
-use bf_shelf::Shelf;
+use bf_io::Shelf;
 use std::alloc::{AllocError, Global};
 
 /// The number of words that a line of `check` has: the command and its file.

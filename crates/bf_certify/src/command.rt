@@ -21,7 +21,7 @@ use bf_import::{History, import};
 use bf_io::{Sink, Source, Word};
 use bf_output::Status;
 use bf_reach::Reach;
-use bf_shelf::Shelf;
+use bf_io::Shelf;
 use bf_tester::{Host, Tester};
 use bf_words::{Request, Verb, WordFault};
 use std::alloc::Global;

@@ -6,7 +6,7 @@ use Rattle.bf_history.specs.Contents.{Content, MayFurnish}
 use Rattle.bf_history.specs.declared.fault.ImportFault.{ImportFault}
 use Rattle.bf_history.specs.declared.fault.ImportFault.TheVariants as faults
 use Rattle.bf_history.specs.Meanings.{History}
-use Rattle.bf_shelf.specs.declared.shelf.ShelfFile.{ShelfFile}
+use Rattle.bf_io.specs.declared.shelf.ShelfFile.{ShelfFile}
 use Rattle.bf_tester.specs.declared.tester.Tester.{Ghosts}
 use Rattle.bf_tester.specs.Grounds.{Ground}
 use Rattle.bf_words.specs.declared.request.Request.{Request}

@@ -19,7 +19,7 @@ use bf_checkout::{Folder, FolderTester, Workshop};
 use bf_io::{Sink, Source, Word};
 use bf_output::Status;
 use bf_searches::search;
-use bf_shelf::Shelf;
+use bf_io::Shelf;
 use bf_tester::{Host, Tester};
 use std::alloc::Global;
 

@@ -14,7 +14,7 @@ use bf_checkout::{Folder, FolderTester, Workshop};
 use bf_grammar::Limits;
 use bf_import::{History, import_with_blobs};
 use bf_io::Source;
-use bf_shelf::Shelf;
+use bf_io::Shelf;
 use std::sync::Arc;
 
 /// What a line is answered before any commit is tested, or the search that is to be tested. The workshop gets the

@@ -8,7 +8,7 @@ use Rattle.bf_history.specs.Meanings.{History}
 use Rattle.bf_search.specs.declared.asks.Ask.TheVariants.{FirstBad}
 use Rattle.bf_search.specs.Run.{End, Answered, Run}
 use Rattle.bf_search.specs.State.{Search}
-use Rattle.bf_shelf.specs.declared.shelf.LoadFault.{LoadFault}
+use Rattle.bf_io.specs.declared.shelf.LoadFault.{LoadFault}
 use Rattle.bf_words.specs.declared.request.Request.{Request}
 use Rattle.bf_words.specs.declared.verb.Verb.{Verb}
 use Rattle.bf_words.specs.declared.verb.Verb.TheVariants.{Simulate, Run as RunVerb}

@@ -6,7 +6,7 @@ use Rattle.bf_cert.specs.Certificates.{Holds, IsWithin}
 use Rattle.bf_cert.specs.Faults.{IsFirstFault}
 use Rattle.bf_cert.specs.Lines.{cert_text, digits_of, lines_of}
 use Rattle.bf_history.specs.Meanings.{History}
-use Rattle.bf_shelf.specs.declared.shelf.ShelfFile.{ShelfFile}
+use Rattle.bf_io.specs.declared.shelf.ShelfFile.{ShelfFile}
 use Rattle.bf_terms.specs.Texts.{text_line}
 use Rattle.bf_output.specs.declared.status.Status.TheVariants as status
 use Rattle.bf_output.specs.Inputs.{IsFiled, IsStreamed}

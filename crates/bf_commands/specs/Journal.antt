@@ -14,7 +14,7 @@ use Rattle.bf_search.specs.declared.outcomes.Outcome.{Outcome}
 use Rattle.bf_search.specs.declared.outcomes.Verdict.TheVariants.{Abort}
 use Rattle.bf_search.specs.Outcomes.{outcomes_of_table, verdict_of}
 use Rattle.bf_search.specs.Run.{Run}
-use Rattle.bf_shelf.specs.declared.shelf.LoadFault.{LoadFault}
+use Rattle.bf_io.specs.declared.shelf.LoadFault.{LoadFault}
 use Rattle.bf_state.specs.Runs.{GoesOn, IsPartOf}
 use Rattle.bf_tester.specs.declared.answer.Answer.{Answer}
 use Rattle.bf_tester.specs.Plans.{read_as}

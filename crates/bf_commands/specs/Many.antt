@@ -3,8 +3,8 @@ use Rattle.std.specs.Prelude.{◌≡◌, ℕ, ◌+◌, Bool, true, ◌==◌, ◌
 use Rattle.std.specs.Fmt.{decimal}
 use Rattle.bf_history.specs.Meanings.{History}
 use Rattle.bf_reading.specs.Reading.{lines_of}
-use Rattle.bf_shelf.specs.declared.shelf.LoadFault.{LoadFault}
-use Rattle.bf_shelf.specs.declared.shelf.ShelfFile.{ShelfFile}
+use Rattle.bf_io.specs.declared.shelf.LoadFault.{LoadFault}
+use Rattle.bf_io.specs.declared.shelf.ShelfFile.{ShelfFile}
 use Rattle.bf_terms.specs.Texts.{text_line}
 use Rattle.bf_words.specs.declared.options.Choice.{Choice}
 use Rattle.bf_words.specs.declared.options.Choice.TheVariants.{Workers, Leg, Trace, Replay as ReplayOption}

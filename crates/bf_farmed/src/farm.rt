@@ -28,7 +28,7 @@ use bf_many_run::many;
 use bf_output::Status;
 use bf_program::bisect_main;
 use bf_journal::Recall;
-use bf_shelf::Shelf;
+use bf_io::Shelf;
 use bf_tester::{Host, Tester};
 use std::alloc::Global;
 

@@ -1,3 +1,5 @@
+pub mod Files
+pub mod ScriptedFiles
 pub mod Causes
 pub mod Decimal
 pub mod Scripted

@@ -19,8 +19,8 @@ use Rattle.bf_history.specs.Meanings.{History}
 use Rattle.bf_output.specs.Beginning.{begun_with_skips}
 use Rattle.bf_output.specs.Refusals.{refusal}
 use Rattle.bf_output.specs.Told.{Told}
-use Rattle.bf_shelf.specs.declared.shelf.LoadFault.{LoadFault}
-use Rattle.bf_shelf.specs.declared.shelf.ShelfFile.{ShelfFile}
+use Rattle.bf_io.specs.declared.shelf.LoadFault.{LoadFault}
+use Rattle.bf_io.specs.declared.shelf.ShelfFile.{ShelfFile}
 use Rattle.bf_journal_run.specs.Preparing.{IsBegunAs, IsBegunBehind, IsBegunFile, IsBegunOver, IsBegunStream, IsOf, IsReadFrom}
 
 -- from the file that the shelf gave

@@ -25,7 +25,7 @@ use Rattle.bf_output.specs.Tested.{Tested, IsUsed}
 use Rattle.bf_output.specs.Told.{Told}
 use Rattle.bf_journal.specs.Recalling.{IsPassedOn, Recalling, remembering}
 use Rattle.bf_journal.specs.Remembered.{outcome_at}
-use Rattle.bf_shelf.specs.declared.shelf.ShelfFile.{ShelfFile}
+use Rattle.bf_io.specs.declared.shelf.ShelfFile.{ShelfFile}
 use Rattle.bf_tester.specs.declared.answer.Answer.{Answer as Answered}
 use Rattle.bf_words.specs.declared.request.Request.{Request}
 use Rattle.bf_words.specs.declared.request.WordFault.{WordFault}

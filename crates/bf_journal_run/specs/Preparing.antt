@@ -15,7 +15,7 @@ use Rattle.bf_output.specs.Beginning.{Begun, begun_with_skips}
 use Rattle.bf_output.specs.Inputs.{file_of}
 use Rattle.bf_output.specs.Refusals.{refusal}
 use Rattle.bf_output.specs.Told.{Told}
-use Rattle.bf_shelf.specs.declared.shelf.ShelfFile.{ShelfFile}
+use Rattle.bf_io.specs.declared.shelf.ShelfFile.{ShelfFile}
 
 -- a search that has begun so over this history, or its refusal
 abbrev pub IsBegunAs : Result Begun Told → History → Ready → Type 0

@@ -21,7 +21,7 @@ use bf_io::{Sink, Source, Word};
 use bf_journal::Disk;
 use bf_output::Status;
 use bf_journal::Recall;
-use bf_shelf::Shelf;
+use bf_io::Shelf;
 use bf_tester::{Host, Tester};
 use bf_words::WordFault;
 use std::alloc::Global;

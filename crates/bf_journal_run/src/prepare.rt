@@ -12,7 +12,7 @@ use bf_grammar::Limits;
 use bf_import::{History, import};
 use bf_io::Source;
 use bf_reach::Reach;
-use bf_shelf::Shelf;
+use bf_io::Shelf;
 
 /// What a line is answered before its journal is opened, or the search that is to be kept. The stream is read to its
 /// end first.

@@ -1,7 +1,7 @@
 -- Answers that tell what is to be told.
 use Rattle.std.specs.Prelude.{ℕ, List, Option, Result}
 use Rattle.bf_history.specs.Meanings.{History}
-use Rattle.bf_shelf.specs.declared.shelf.ShelfFile.{ShelfFile}
+use Rattle.bf_io.specs.declared.shelf.ShelfFile.{ShelfFile}
 use Rattle.bf_output.specs.Inputs.{IsStreamed}
 use Rattle.bf_output.specs.Told.{Told}
 use Rattle.bf_answers.specs.declared.answer.Answer.{Answer}

@@ -19,7 +19,7 @@ use bf_grammar::Limits;
 use bf_import::{History, import};
 use bf_io::{Sink, Source, Word, decimal};
 use bf_output::Status;
-use bf_shelf::Shelf;
+use bf_io::Shelf;
 use bf_tester::Host;
 use std::alloc::Global;
 

@@ -7,8 +7,8 @@ use Rattle.bf_names.specs.declared.fault.NameFault.{NameFault}
 use Rattle.bf_reading.specs.declared.line.LogLine.{LogLine}
 use Rattle.bf_reading.specs.Reading.{read_log}
 use Rattle.bf_replay.specs.Meaning.{setting_of, replay_in}
-use Rattle.bf_shelf.specs.declared.shelf.LoadFault.{LoadFault}
-use Rattle.bf_shelf.specs.declared.shelf.LoadFault.TheVariants.{Missing, TooLong, Failed, NoMemory}
+use Rattle.bf_io.specs.declared.shelf.LoadFault.{LoadFault}
+use Rattle.bf_io.specs.declared.shelf.LoadFault.TheVariants.{Missing, TooLong, Failed, NoMemory}
 use Rattle.bf_terms.specs.Words.{term_fault}
 use Rattle.bf_output.specs.Beginning.{Begun, begun_behind, begun_by_log, has_ends}
 use Rattle.bf_output.specs.Logs.{lines_or_refusal, replayed_or_refusal, replayed_log}

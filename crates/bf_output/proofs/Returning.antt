@@ -17,7 +17,7 @@ use Rattle.bf_replay.specs.Meaning.{setting_of}
 use Rattle.bf_search.specs.declared.entries.Entry.{Entry}
 use Rattle.bf_search.specs.Outcomes.{Outcomes}
 use Rattle.bf_search.specs.Run.{Run, run}
-use Rattle.bf_shelf.specs.declared.shelf.LoadFault.{LoadFault}
+use Rattle.bf_io.specs.declared.shelf.LoadFault.{LoadFault}
 use Rattle.bf_terms.specs.Texts.{Sides, Known, nothing_known, log_from, log}
 use Rattle.bf_words.specs.declared.request.Request.{Request}
 use Rattle.bf_words.specs.Words as asked

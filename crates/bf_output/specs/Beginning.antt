@@ -12,7 +12,7 @@ use Rattle.bf_search.specs.State.{Search, ask, mark}
 use Rattle.bf_state.specs.Session.{begun}
 use Rattle.bf_log.specs.Replay.{Replayed}
 use Rattle.bf_log.specs.Written.{known_after_all}
-use Rattle.bf_shelf.specs.declared.shelf.LoadFault.{LoadFault}
+use Rattle.bf_io.specs.declared.shelf.LoadFault.{LoadFault}
 use Rattle.bf_terms.specs.Texts.{Commits, Sides, Known, nothing_known, standard_sides, log_from, with_goods}
 use Rattle.bf_words.specs.declared.request.Request.{Request}
 use Rattle.bf_words.specs.Words.{word_at}

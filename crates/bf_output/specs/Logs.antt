@@ -7,8 +7,8 @@ use Rattle.bf_names.specs.declared.fault.NameFault.{NameFault}
 use Rattle.bf_reading.specs.declared.line.LogLine.{LogLine}
 use Rattle.bf_reading.specs.Reading.{read_log}
 use Rattle.bf_replay.specs.Meaning.{replay_in}
-use Rattle.bf_shelf.specs.declared.shelf.LoadFault.{LoadFault}
-use Rattle.bf_shelf.specs.declared.shelf.LoadFault.TheVariants.{Missing, TooLong, Failed, NoMemory}
+use Rattle.bf_io.specs.declared.shelf.LoadFault.{LoadFault}
+use Rattle.bf_io.specs.declared.shelf.LoadFault.TheVariants.{Missing, TooLong, Failed, NoMemory}
 use Rattle.bf_output.specs.Refusals.{too_large, log_refused, no_file, file_fault, no_memory}
 use Rattle.bf_output.specs.Told.{Told, ◌>>=◌}
 

@@ -6,7 +6,7 @@ use Rattle.bf_search.specs.declared.asks.Step.{Step}
 use Rattle.bf_search.specs.declared.entries.Entry.{Entry}
 use Rattle.bf_search.specs.declared.entries.Entry.TheVariants.{SkippedBase}
 use Rattle.bf_search.specs.State as searches
-use Rattle.bf_shelf.specs.declared.shelf.LoadFault.{LoadFault}
+use Rattle.bf_io.specs.declared.shelf.LoadFault.{LoadFault}
 use Rattle.bf_terms.specs.Texts.{ask_lines}
 use Rattle.bf_words.specs.declared.request.Request.{Request}
 use Rattle.bf_output.specs.Beginning.{Begun, commits_of, log_on, begun_with_skips}

@@ -4,7 +4,7 @@ use Rattle.bf_history.specs.Meanings.{History}
 use Rattle.bf_log.specs.StateLines.{state_lines}
 use Rattle.bf_log.specs.Replay.{Replayed}
 use Rattle.bf_search.specs.Candidates.{places_of}
-use Rattle.bf_shelf.specs.declared.shelf.LoadFault.{LoadFault}
+use Rattle.bf_io.specs.declared.shelf.LoadFault.{LoadFault}
 use Rattle.bf_terms.specs.Texts.{log}
 use Rattle.bf_output.specs.declared.status.Status.TheVariants as status
 use Rattle.bf_output.specs.Beginning.{commits_of}

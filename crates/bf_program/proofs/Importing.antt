@@ -9,8 +9,8 @@ use Rattle.bf_output.specs.Output.{given_to, IsOver, IsOverFile, IsOverLog, IsOv
 use Rattle.bf_output.specs.Refusals.{refusal}
 use Rattle.bf_output.specs.Tested.{Tested}
 use Rattle.bf_output.specs.Told.{Told}
-use Rattle.bf_shelf.specs.declared.shelf.LoadFault.{LoadFault}
-use Rattle.bf_shelf.specs.declared.shelf.ShelfFile.{ShelfFile}
+use Rattle.bf_io.specs.declared.shelf.LoadFault.{LoadFault}
+use Rattle.bf_io.specs.declared.shelf.ShelfFile.{ShelfFile}
 use Rattle.std.specs.Option.{option_map}
 use Rattle.bf_begin.specs.declared.file.LogFile.{LogFile}
 use Rattle.bf_begin.specs.Files.{given_of, IsFileOf}

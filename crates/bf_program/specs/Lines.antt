@@ -8,7 +8,7 @@ use Rattle.bf_output.specs.Next.{asked_once, next_told}
 use Rattle.bf_output.specs.Output.{IsOutputOf, IsOver, IsOverBytes, IsOverFile, IsOverStream, given_to}
 use Rattle.bf_output.specs.Told.{Told}
 use Rattle.bf_search.specs.State.{ask}
-use Rattle.bf_shelf.specs.declared.shelf.ShelfFile.{ShelfFile}
+use Rattle.bf_io.specs.declared.shelf.ShelfFile.{ShelfFile}
 use Rattle.bf_begin.specs.Files.{file_given}
 use Rattle.bf_answers.specs.Ready.{AllTold}
 use Rattle.bf_begin.specs.declared.file.LogFile.{LogFile}

@@ -16,7 +16,7 @@ use bf_answers::{Fault, Line, Ready, say, say_answer, usage};
 use bf_io::{Sink, Source, Word};
 use bf_output::Status;
 use bf_searches::search;
-use bf_shelf::Shelf;
+use bf_io::Shelf;
 use bf_tester::{Host, Tester};
 use bf_words::{WordFault, read_words};
 use std::alloc::Global;

@@ -16,7 +16,7 @@ use bf_io::{Sink, Source, StdSink, StdSource, Word};
 use bf_journal::{Disk, DiskFile};
 use bf_program::{Status, say};
 use bf_journal::Recall;
-use bf_shelf::{DirShelf, Shelf};
+use bf_io::{DirShelf, Shelf};
 use bf_tester::{ProcessTester, Tester};
 use help::{HELP, VERSION};
 use std::alloc::{AllocError, Global};

@@ -5,7 +5,7 @@ use bf_certify::certify;
 use bf_certify::check;
 use bf_io::{Bytes, MemSource, PlainSink, Word};
 use bf_output::Status;
-use bf_shelf::{PlainShelf, ShelfFile};
+use bf_io::{PlainShelf, ShelfFile};
 use bf_tester::{PlanTester, Tester};
 use std::alloc::{AllocError, Global};
 use std::process::{Processes, SystemProcess};

@@ -9,7 +9,7 @@ use bf_journal::MemDisk;
 use bf_output::Status;
 use bf_paths::read_path;
 use bf_journal::Recall;
-use bf_shelf::{PlainShelf, ShelfFile};
+use bf_io::{PlainShelf, ShelfFile};
 use bf_tester::{FailRule, ScriptTester, Tester};
 use std::alloc::{AllocError, Global};
 use std::process::{Processes, SystemProcess};

@@ -3,7 +3,7 @@ use crate::line::EIGHT;
 use crate::program::words_of;
 use bf_io::{Bytes, PlainSink, PlainSource};
 use bf_program::{Status, bisect_main};
-use bf_shelf::{MemShelf, PlainShelf, Shelf, ShelfFile};
+use bf_io::{MemShelf, PlainShelf, Shelf, ShelfFile};
 use bf_tester::PlanTester;
 use std::alloc::{AllocError, Global};
 use std::process::{Processes, SystemProcess};

@@ -3,7 +3,7 @@ ghost use Rattle.std.specs.Prelude.{◌≡◌, [], false};
 
 use bf_io::{Bytes, MemSource, Sink, Source, Word};
 use bf_program::{Status, bisect_main};
-use bf_shelf::PlainShelf;
+use bf_io::PlainShelf;
 use bf_tester::{PlanTester, Tester};
 use std::alloc::{AllocError, Global};
 use std::process::{Processes, SystemProcess};

@@ -4,7 +4,7 @@ use Rattle.bf_begin.proofs.Starting.{all_over_file}
 use Rattle.bf_begin.specs.Files.{given_of}
 use Rattle.bf_output.specs.Beginning.{begun_with_skips}
 use Rattle.bf_output.specs.Output.{IsOverFile, IsSearchedFrom}
-use Rattle.bf_shelf.specs.declared.shelf.LoadFault.{LoadFault}
+use Rattle.bf_io.specs.declared.shelf.LoadFault.{LoadFault}
 use Rattle.bf_words.specs.declared.verb.Verb.{Verb}
 use Rattle.bf_words.specs.declared.verb.Verb.TheVariants.{Run}
 use Rattle.bf_checkout_run.proofs.prepare.prepare_over.Goals as goal

@@ -1,6 +1,6 @@
 use Rattle.std.proofs.Common.{ℕ, List, Option, Result, IfOk, subst}
 use Rattle.bf_output.specs.Output.{IsOverFile}
-use Rattle.bf_shelf.specs.declared.shelf.LoadFault.{LoadFault}
+use Rattle.bf_io.specs.declared.shelf.LoadFault.{LoadFault}
 use Rattle.bf_answers.specs.Ready.{AllTold}
 use Rattle.bf_begin.proofs.Starting.{all_over_file}
 use Rattle.bf_program.proofs.prepare.prepare_over.Goals as goal

@@ -1,9 +1,9 @@
 -- The files of a shelf, and what is due of a load.
 use Rattle.std.specs.Prelude.{◌≡◌, ℕ, ◌==◌, nat_lt, Bool, List, length, find, Option, Some, None, Result, Ok, Err, if◌then◌else◌}
 use Rattle.std.specs.Cmp.Lexicographic.{pointwise}
-use Rattle.bf_shelf.specs.declared.shelf.ShelfFile.{ShelfFile}
-use Rattle.bf_shelf.specs.declared.shelf.LoadFault.{LoadFault}
-use Rattle.bf_shelf.specs.declared.shelf.LoadFault.TheVariants.{Missing, TooLong, Failed, NoMemory}
+use Rattle.bf_io.specs.declared.shelf.ShelfFile.{ShelfFile}
+use Rattle.bf_io.specs.declared.shelf.LoadFault.{LoadFault}
+use Rattle.bf_io.specs.declared.shelf.LoadFault.TheVariants.{Missing, TooLong, Failed, NoMemory}
 
 abbrev pub has_name : List ℕ → ShelfFile → Bool
 has_name name file = pointwise ◌==◌ file.name name

@@ -2,7 +2,7 @@
 use Rattle.std.specs.Prelude.{ℕ, Bool, List}
 use Rattle.bf_io.specs.Causes.{raised}
 use Rattle.bf_io.specs.Scripted.{is_among}
-use Rattle.bf_shelf.specs.declared.shelf.ShelfFile.{ShelfFile}
+use Rattle.bf_io.specs.declared.shelf.ShelfFile.{ShelfFile}
 
 pub record ScriptedShelf : Type 0 where
   pub files : List ShelfFile

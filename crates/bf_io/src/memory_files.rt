@@ -3,12 +3,12 @@ ghost use Rattle.std.specs.Prelude.{◌≡◌, ◌≢◌, ℕ, ◌≤◌, ◌↔
 ghost use Rattle.std.specs.Option.{option_map};
 ghost use Rattle.bf_io.specs.Causes.{FailsOnlyAt, raised};
 ghost use Rattle.bf_io.specs.Scripted.{is_among};
-ghost use Rattle.bf_shelf.specs.declared.shelf.LoadFault.{LoadFault};
-ghost use Rattle.bf_shelf.specs.Files.{IsAnswered, LoadGives, file_named};
-ghost use Rattle.bf_shelf.specs.Scripted.{scripted_shelf, fails_next, after_load, after_fault};
+ghost use Rattle.bf_io.specs.declared.shelf.LoadFault.{LoadFault};
+ghost use Rattle.bf_io.specs.Files.{IsAnswered, LoadGives, file_named};
+ghost use Rattle.bf_io.specs.ScriptedFiles.{scripted_shelf, fails_next, after_load, after_fault};
 
 use crate::{LoadFault, Shelf, ShelfFile};
-use bf_io::Bytes;
+use crate::Bytes;
 use std::marker::Model;
 
 // The first file of this name.
@@ -45,7 +45,7 @@ pub struct PlainShelf {
 
 impl Model for PlainShelf {
     ghost use Rattle.std.specs.Prelude.{List};
-    ghost use Rattle.bf_shelf.specs.declared.shelf.ShelfFile.{ShelfFile};
+    ghost use Rattle.bf_io.specs.declared.shelf.ShelfFile.{ShelfFile};
 
     ghost Value = { List ShelfFile };
 
@@ -88,7 +88,7 @@ pub struct MemShelf {
 }
 
 impl Model for MemShelf {
-    ghost use Rattle.bf_shelf.specs.Scripted.{ScriptedShelf, scripted_shelf};
+    ghost use Rattle.bf_io.specs.ScriptedFiles.{ScriptedShelf, scripted_shelf};
 
     ghost Value = { ScriptedShelf };
 

@@ -1,11 +1,11 @@
 //! The trait through which whole files come in.
 ghost use Rattle.std.specs.Prelude.{◌≡◌, ℕ, ◌≤◌, List, length, Option, IfOk, IsErrOf};
 ghost use Rattle.bf_io.specs.Causes.{FailsOnlyAt};
-ghost use Rattle.bf_shelf.specs.declared.shelf.ShelfFile.{ShelfFile};
-ghost use Rattle.bf_shelf.specs.declared.shelf.LoadFault.TheVariants.{NoMemory};
-ghost use Rattle.bf_shelf.specs.Files.{LoadGives};
+ghost use Rattle.bf_io.specs.declared.shelf.ShelfFile.{ShelfFile};
+ghost use Rattle.bf_io.specs.declared.shelf.LoadFault.TheVariants.{NoMemory};
+ghost use Rattle.bf_io.specs.Files.{LoadGives};
 
-use bf_io::Bytes;
+use crate::Bytes;
 use std::alloc::AllocError;
 use thiserror::Error;
 

@@ -4,7 +4,7 @@ ghost use Rattle.std.specs.Prelude.{◌≡◌, ℕ, ◌≤◌, length, None, IfO
 ghost use Rattle.bf_io.specs.Causes.{FailsOnlyAt};
 
 use crate::{LoadFault, Shelf};
-use bf_io::Bytes;
+use crate::Bytes;
 use std::alloc::Global;
 use std::fs;
 use std::io::{self, ErrorKind, Read};
