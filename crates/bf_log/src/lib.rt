@@ -1,11 +1,15 @@
 //! The texts of a search: the lines of a log and of an answer (git-bisect(1), "Bisect log and bisect
 //! replay").
+//!
+//! What such a text tells, the state that its entries lead to, and what reading and replaying it gives, is defined in
+//! specs/, and the laws that tie it to searches are the contracts of [`laws`].
 #![tactic(auto)]
 
 mod answer;
 mod entries;
 mod known;
 mod label;
+pub mod laws;
 mod state;
 mod trace;
 mod write;

@@ -1,4 +1,5 @@
-//! The words of a search for its two sides, and what the outcome of a test says of its commit.
+//! The words of a search for its two sides, and what the outcome of a test says of its commit; in specs/ the lines of
+//! a log and of an answer. The crates that write and read these stand on this one.
 #![tactic(auto)]
 
 mod outcomes;
