@@ -1,9 +1,8 @@
 //! All weights of a history.
 use crate::history::{Shape, history};
-use bf_choice::candidates;
+use bf_choice::{candidates, weights};
 use bf_graph::Graph;
 use bf_reach::Reach;
-use bf_choice::weights;
 use std::alloc::{AllocError, Global};
 
 /// How many candidates stand between the first commit and the last of a generated history, and the sum of

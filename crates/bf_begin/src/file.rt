@@ -13,11 +13,10 @@ ghost use Rattle.bf_answers.specs.Steps.{IsStep};
 use bf_answers::{Fault, Stop, log_refusal, no_file, too_large, word_at};
 use bf_grammar::Limit;
 use bf_import::History;
-use bf_io::{Bytes, Word};
+use bf_io::{Bytes, LoadFault, Shelf, Word};
 use bf_reach::Reach;
 use bf_reading::{LogFault, LogLine, LogLines, read_log};
 use bf_replay::{ReplayFault, Replayed, replay};
-use bf_io::{LoadFault, Shelf};
 use std::alloc::Global;
 use std::marker::Model;
 

@@ -10,8 +10,7 @@ use bf_graph::Places;
 use bf_import::History;
 use bf_io::Word;
 use bf_names::{NameFault, resolve, resolve_range};
-use bf_reach::Reach;
-use bf_reach::Row;
+use bf_reach::{Reach, Row};
 use std::alloc::Global;
 
 /// What a name means, or the refusal of the word that it stands in.

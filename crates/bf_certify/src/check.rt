@@ -17,10 +17,9 @@ use bf_begin::{LogFile, load_word, text_of};
 use bf_cert::{CertFault, read_cert};
 use bf_grammar::Limits;
 use bf_import::{History, import};
-use bf_io::{Bytes, Sink, Source, Word, put_decimal};
+use bf_io::{Bytes, Shelf, Sink, Source, Word, put_decimal};
 use bf_oid::oid_hex;
 use bf_output::Status;
-use bf_io::Shelf;
 use std::alloc::{AllocError, Global};
 
 /// The number of words that a line of `check` has: the command and its file.

@@ -18,10 +18,9 @@ use bf_answers::{Answer, Fault, Line, Means, Started, Stop, refusal, say, usage}
 use bf_begin::{LogFile, begin, lent, load_file};
 use bf_grammar::Limits;
 use bf_import::{History, import};
-use bf_io::{Sink, Source, Word};
+use bf_io::{Shelf, Sink, Source, Word};
 use bf_output::Status;
 use bf_reach::Reach;
-use bf_io::Shelf;
 use bf_tester::{Host, Tester};
 use bf_words::{Request, Verb, WordFault};
 use std::alloc::Global;

@@ -16,10 +16,9 @@ use crate::asked;
 use crate::prepare::prepare;
 use bf_answers::{Line, Ready, say_answer};
 use bf_checkout::{Folder, FolderTester, Workshop};
-use bf_io::{Sink, Source, Word};
+use bf_io::{Shelf, Sink, Source, Word};
 use bf_output::Status;
 use bf_searches::search;
-use bf_io::Shelf;
 use bf_tester::{Host, Tester};
 use std::alloc::Global;
 

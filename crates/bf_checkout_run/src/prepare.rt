@@ -13,8 +13,7 @@ use bf_begin::{lent, load_file, start};
 use bf_checkout::{Folder, FolderTester, Workshop};
 use bf_grammar::Limits;
 use bf_import::{History, import_with_blobs};
-use bf_io::Source;
-use bf_io::Shelf;
+use bf_io::{Shelf, Source};
 use std::sync::Arc;
 
 /// What a line is answered before any commit is tested, or the search that is to be tested. The workshop gets the

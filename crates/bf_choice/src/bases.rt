@@ -5,8 +5,7 @@ ghost use Rattle.bf_search.specs.Candidates.{places_of};
 ghost use Rattle.bf_search.specs.Bases.{merge_bases};
 
 use crate::marks::fill_parents;
-use bf_reach::{Reach, true_places};
-use bf_reach::Row;
+use bf_reach::{Reach, Row, true_places};
 use std::alloc::{AllocError, Global};
 
 /// The merge bases of the bad place with the good ones, by place: the places that `bad` and some

@@ -2,8 +2,7 @@
 ghost use Rattle.std.specs.Prelude.{◌≡◌, ◌<◌, length, All, IfOk};
 ghost use Rattle.bf_search.specs.Candidates.{candidate_row, IsCandidateRow};
 
-use bf_reach::Reach;
-use bf_reach::Row;
+use bf_reach::{Reach, Row};
 use std::alloc::{AllocError, Global};
 
 /// The candidates for the first bad commit: the places that `bad` reaches and that no good place reaches

@@ -6,8 +6,7 @@ ghost use Rattle.bf_search.specs.Bases.{check_bases, check};
 use crate::bases::keep_bases;
 use crate::marks::has_all;
 use bf_graph::Places;
-use bf_reach::{Reach, mark_all, true_places};
-use bf_reach::Row;
+use bf_reach::{Reach, Row, mark_all, true_places};
 use bf_search::Check;
 use std::alloc::{AllocError, Global};
 

@@ -6,8 +6,7 @@ ghost use Rattle.bf_search.specs.Candidates.{is_in};
 ghost use Rattle.bf_choice.specs.Parents.{IsParentsBelow};
 
 use bf_graph::Graph;
-use bf_reach::mark_all;
-use bf_reach::Row;
+use bf_reach::{Row, mark_all};
 
 /// Whether each of these places is true in the row.
 pub(crate) fn has_all(row: &Row, places: &[u32]) -> bool

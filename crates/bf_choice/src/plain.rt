@@ -3,8 +3,7 @@ ghost use Rattle.std.specs.Prelude.{◌≡◌, ◌<◌, length, IfOk};
 ghost use Rattle.bf_search.specs.Candidates.{weights};
 ghost use Rattle.bf_choice.specs.Plain.{weight_in};
 
-use bf_reach::Reach;
-use bf_reach::Row;
+use bf_reach::{Reach, Row};
 use std::alloc::{AllocError, Global};
 
 /// The weights of any row, which has as many places as the graph. It takes a walk for each of them, so

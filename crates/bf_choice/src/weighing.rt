@@ -5,8 +5,7 @@ ghost use Rattle.bf_choice.specs.Numbering.{number_of, candidate_numbers, size_o
 
 use crate::numbering::{candidate_graph, candidate_numbers};
 use crate::pieces::sizes_by_pieces;
-use bf_reach::Reach;
-use bf_reach::Row;
+use bf_reach::{Reach, Row};
 use std::alloc::{AllocError, Global};
 
 /// By place, how many candidates each candidate reaches in the mode, itself included, and 0 for a place

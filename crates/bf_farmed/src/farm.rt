@@ -16,19 +16,16 @@ ghost use Rattle.bf_farmed.specs.Farming.{Answers, HasTestCause, IsComplete, IsR
 ghost use Rattle.bf_farmed.specs.Ordered.{IsCarriedOut};
 
 use bf_answers::word_at;
-use bf_certify::certify;
-use bf_certify::check;
+use bf_certify::{certify, check};
 use bf_checkout::{Folder, FolderTester, Workshop};
 use bf_checkout_run::checkout;
 use bf_commands::{Order, order_of};
-use bf_io::{Sink, Source, Word};
-use bf_journal::Disk;
+use bf_io::{Shelf, Sink, Source, Word};
+use bf_journal::{Disk, Recall};
 use bf_journal_run::journal;
 use bf_many_run::many;
 use bf_output::Status;
 use bf_program::bisect_main;
-use bf_journal::Recall;
-use bf_io::Shelf;
 use bf_tester::{Host, Tester};
 use std::alloc::Global;
 

@@ -7,8 +7,7 @@ ghost use Rattle.bf_io.specs.declared.shelf.LoadFault.{LoadFault};
 ghost use Rattle.bf_io.specs.Files.{IsAnswered, LoadGives, file_named};
 ghost use Rattle.bf_io.specs.ScriptedFiles.{scripted_shelf, fails_next, after_load, after_fault};
 
-use crate::{LoadFault, Shelf, ShelfFile};
-use crate::Bytes;
+use crate::{Bytes, LoadFault, Shelf, ShelfFile};
 use std::marker::Model;
 
 // The first file of this name.

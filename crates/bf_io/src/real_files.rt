@@ -3,8 +3,7 @@
 ghost use Rattle.std.specs.Prelude.{◌≡◌, ℕ, ◌≤◌, length, None, IfOk, IsErrOf};
 ghost use Rattle.bf_io.specs.Causes.{FailsOnlyAt};
 
-use crate::{LoadFault, Shelf};
-use crate::Bytes;
+use crate::{Bytes, LoadFault, Shelf};
 use std::alloc::Global;
 use std::fs;
 use std::io::{self, ErrorKind, Read};

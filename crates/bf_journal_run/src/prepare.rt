@@ -10,9 +10,8 @@ use bf_answers::{Fault, Line, Means, Ready, Started, Stop, refusal};
 use bf_begin::{LogFile, begin, lent, load_file};
 use bf_grammar::Limits;
 use bf_import::{History, import};
-use bf_io::Source;
+use bf_io::{Shelf, Source};
 use bf_reach::Reach;
-use bf_io::Shelf;
 
 /// What a line is answered before its journal is opened, or the search that is to be kept. The stream is read to its
 /// end first.

@@ -17,9 +17,8 @@ use bf_answers::{Answer, Fault, Stop, refusal, say_answer, usage, word_at};
 use bf_begin::{LogFile, load_word, text_of};
 use bf_grammar::Limits;
 use bf_import::{History, import};
-use bf_io::{Sink, Source, Word, decimal};
+use bf_io::{Shelf, Sink, Source, Word, decimal};
 use bf_output::Status;
-use bf_io::Shelf;
 use bf_tester::Host;
 use std::alloc::Global;
 

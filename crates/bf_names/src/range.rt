@@ -8,8 +8,7 @@ use crate::form::{find, has, rest_of, steps_of};
 use crate::name::{place_of, resolve};
 use crate::step::Step;
 use bf_import::History;
-use bf_reach::Reach;
-use bf_reach::Row;
+use bf_reach::{Reach, Row};
 use std::alloc::{AllocError, Global};
 
 /// By place, whether a text means it: a range `A..B` means the commits that B reaches and A doesn't, and

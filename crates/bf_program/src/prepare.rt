@@ -14,8 +14,7 @@ use bf_answers::{Fault, Line, Means, Ready, refusal};
 use bf_begin::{LogFile, lent, load_file, start, told};
 use bf_grammar::Limits;
 use bf_import::{History, import};
-use bf_io::{PlainSource, Source};
-use bf_io::Shelf;
+use bf_io::{PlainSource, Shelf, Source};
 use bf_tester::Host;
 use bf_words::Verb;
 

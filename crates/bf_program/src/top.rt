@@ -13,10 +13,9 @@ ghost use Rattle.bf_answers.specs.Steps.{HasPlan};
 
 use crate::prepare::prepare;
 use bf_answers::{Fault, Line, Ready, say, say_answer, usage};
-use bf_io::{Sink, Source, Word};
+use bf_io::{Shelf, Sink, Source, Word};
 use bf_output::Status;
 use bf_searches::search;
-use bf_io::Shelf;
 use bf_tester::{Host, Tester};
 use bf_words::{WordFault, read_words};
 use std::alloc::Global;

@@ -3,8 +3,8 @@ ghost use Rattle.std.specs.Prelude.{◌≡◌, ◌<◌, length, All, IfOk};
 ghost use Rattle.bf_reach.specs.Marks.{marked};
 ghost use Rattle.bf_search.specs.Candidates.{places_of};
 
-use bf_graph::Places;
 use crate::Row;
+use bf_graph::Places;
 use std::alloc::{AllocError, Global};
 
 /// Makes these places true, and leaves the others.

@@ -5,9 +5,9 @@ ghost use Rattle.bf_search.specs.Reach.{in_mode, reaches, reach_row, reach_row_o
 ghost use Rattle.bf_search.specs.Candidates.{is_in};
 ghost use Rattle.bf_reach.specs.Marks.{Marks};
 
+use crate::Row;
 use crate::marks::mark_all;
 use bf_graph::Graph;
-use crate::Row;
 use std::alloc::{AllocError, Global};
 use std::marker::Model;
 

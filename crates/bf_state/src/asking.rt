@@ -10,14 +10,10 @@ ghost use Rattle.bf_state.specs.Steps as steps;
 ghost use Rattle.bf_state.specs.Weighed.{row_below};
 
 use crate::state::State;
-use bf_choice::check;
-use bf_choice::candidates;
-use bf_choice::choose;
+use bf_choice::{candidates, check, choose, weights};
 use bf_graph::Places;
-use bf_reach::{Reach, true_places};
-use bf_reach::Row;
+use bf_reach::{Reach, Row, true_places};
 use bf_search::{Ask, Check, Step};
-use bf_choice::weights;
 use std::alloc::AllocError;
 
 /// What an ask leaves: its step, and whether the check of the merge bases has passed.

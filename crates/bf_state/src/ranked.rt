@@ -10,8 +10,7 @@ use crate::asking::{Decision, Passage, ending, pass};
 use crate::state::State;
 use crate::weighed::weights_of;
 use bf_choice::Ranking;
-use bf_reach::{Reach, true_places};
-use bf_reach::Row;
+use bf_reach::{Reach, Row, true_places};
 use bf_search::{Ask, Step};
 use std::alloc::AllocError;
 

@@ -7,11 +7,9 @@ ghost use Rattle.bf_state.specs.Weighed.{mask_of, weights_of, AreNeeded};
 
 use crate::asking::{Decision, Passage, ask_over, pass};
 use crate::state::State;
-use bf_choice::candidates;
-use bf_reach::Reach;
-use bf_reach::Row;
+use bf_choice::{candidates, weights};
+use bf_reach::{Reach, Row};
 use bf_search::Step;
-use bf_choice::weights;
 use std::alloc::AllocError;
 
 /// One step of a search, with the candidates and the weights that its ask had in hand.

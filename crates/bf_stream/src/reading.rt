@@ -6,10 +6,9 @@ ghost use Rattle.bf_stream.specs.Held.{nothing_held};
 ghost use Rattle.bf_stream.specs.Standing as standing;
 ghost use Rattle.bf_stream.specs.Standing.{Opens, Reads, IsOverBy, TakesIfSome};
 
-use crate::{Reader, Window};
+use crate::{Cursor, Reader, Window};
 use bf_grammar::{Command, Limits, StreamFault};
 use bf_io::Source;
-use crate::Cursor;
 use std::alloc::{AllocError, Global};
 
 impl<'a, S: Source> Reader<'a, S> {

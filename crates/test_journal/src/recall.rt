@@ -1,8 +1,8 @@
 //! Remembered outcomes are not tested again.
 ghost use Rattle.std.specs.Prelude.{◌≡◌};
 
-use bf_oid::Oid;
 use bf_journal::Recall;
+use bf_oid::Oid;
 use bf_search::Outcome;
 use bf_tester::{Answer, PlanTester, StopView, TestReply, Tester};
 use std::alloc::AllocError;

@@ -1,9 +1,8 @@
 //! Runs that go on from a log, and logs that are told again or refused, all over a line of eight commits.
 use crate::line::EIGHT;
 use crate::program::words_of;
-use bf_io::{Bytes, PlainSink, PlainSource};
+use bf_io::{Bytes, MemShelf, PlainShelf, PlainSink, PlainSource, Shelf, ShelfFile};
 use bf_program::{Status, bisect_main};
-use bf_io::{MemShelf, PlainShelf, Shelf, ShelfFile};
 use bf_tester::PlanTester;
 use std::alloc::{AllocError, Global};
 use std::process::{Processes, SystemProcess};

@@ -1,9 +1,8 @@
 //! Calls of the program over streams in memory.
 ghost use Rattle.std.specs.Prelude.{◌≡◌, [], false};
 
-use bf_io::{Bytes, MemSource, Sink, Source, Word};
+use bf_io::{Bytes, MemSource, PlainShelf, Sink, Source, Word};
 use bf_program::{Status, bisect_main};
-use bf_io::PlainShelf;
 use bf_tester::{PlanTester, Tester};
 use std::alloc::{AllocError, Global};
 use std::process::{Processes, SystemProcess};

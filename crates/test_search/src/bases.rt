@@ -3,8 +3,7 @@ ghost use Rattle.std.specs.Prelude.{◌≡◌, ◌<◌, [], length, All, IfOk, O
 
 use bf_choice::{check, merge_bases};
 use bf_graph::Graph;
-use bf_reach::Reach;
-use bf_reach::Row;
+use bf_reach::{Reach, Row};
 use bf_search::Check;
 use std::alloc::{AllocError, Global};
 use std::process::Abort;

@@ -3,8 +3,7 @@ ghost use Rattle.std.specs.Prelude.{◌≡◌, length, IfOk};
 
 use bf_choice::candidates;
 use bf_graph::Graph;
-use bf_reach::Reach;
-use bf_reach::Row;
+use bf_reach::{Reach, Row};
 use std::alloc::{AllocError, Global};
 use std::test::Fail;
 

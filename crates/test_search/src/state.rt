@@ -3,8 +3,7 @@ ghost use Rattle.std.specs.Prelude.{◌≡◌, ◌<◌, [], length, All, IfOk, O
 ghost use Rattle.bf_state.specs.Weighed.{mask_of, AreNeeded};
 
 use bf_graph::{Graph, Places};
-use bf_reach::Reach;
-use bf_reach::Row;
+use bf_reach::{Reach, Row};
 use bf_search::{Ask, Mark, Step};
 use bf_state::{State, Weighed};
 use bf_terms::Terms;

@@ -1,10 +1,9 @@
 //! Both bodies over a few graphs.
 ghost use Rattle.std.specs.Prelude.{◌<◌, ◌↔◌, All, IsTrue};
 
-use bf_choice::candidates;
+use bf_choice::{candidates, weights, weights_plain};
 use bf_graph::Graph;
 use bf_reach::Reach;
-use bf_choice::{weights, weights_plain};
 use std::alloc::{AllocError, Global};
 use std::process::Abort;
 use std::test::Fail;

@@ -1,6 +1,5 @@
 //! Shelves, each over the same files.
-use bf_io::Bytes;
-use bf_io::{DirShelf, LoadFault, MemShelf, PlainShelf, Shelf, ShelfFile};
+use bf_io::{Bytes, DirShelf, LoadFault, MemShelf, PlainShelf, Shelf, ShelfFile};
 use std::alloc::{AllocError, Global};
 use std::fs;
 use std::process::Abort;

@@ -1,8 +1,8 @@
 use Rattle.std.proofs.Common.{◌≡◌, List, [], ◌∷◌, ◌++◌, refl, sym, subst}
 use Rattle.std.proofs.lemmas.List.Elements.{All-nil, All-cons}
 use Rattle.bf_many.specs.declared.search.Search.{Search}
-use Rattle.test_many.specs.Searches.{AreFresh, IsFresh}
-use Rattle.test_many.proofs.shared.two.Goals as goal
+use Rattle.test_farm.specs.Searches.{AreFresh, IsFresh}
+use Rattle.test_farm.proofs.shared.two.Goals as goal
 
 pushed : (a b : Search) (none one two : List Search) → none ≡ [] → one ≡ none ++ a ∷ [] → two ≡ one ++ b ∷ [] → two ≡ a ∷ b ∷ []
 pushed a b none one two e f g = cc

@@ -1,11 +1,9 @@
 //! Calls of the two commands over streams and files in memory.
 ghost use Rattle.std.specs.Prelude.{◌≡◌, [], false};
 
-use bf_certify::certify;
-use bf_certify::check;
-use bf_io::{Bytes, MemSource, PlainSink, Word};
+use bf_certify::{certify, check};
+use bf_io::{Bytes, MemSource, PlainShelf, PlainSink, ShelfFile, Word};
 use bf_output::Status;
-use bf_io::{PlainShelf, ShelfFile};
 use bf_tester::{PlanTester, Tester};
 use std::alloc::{AllocError, Global};
 use std::process::{Processes, SystemProcess};

@@ -2,7 +2,7 @@
 ghost use Rattle.std.specs.Prelude.{◌≡◌, ◌≤◌, length, All, IfOk};
 ghost use Rattle.bf_state.specs.Ends.{HasEnds};
 ghost use Rattle.bf_many.specs.Teams.{AreWhole};
-ghost use Rattle.test_many.specs.Searches.{AreFresh, IsFresh, IsOfEight};
+ghost use Rattle.test_farm.specs.Searches.{AreFresh, IsFresh, IsOfEight};
 
 use bf_core::Core;
 use bf_graph::Graph;

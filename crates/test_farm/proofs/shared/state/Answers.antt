@@ -2,7 +2,7 @@ use Rattle.std.proofs.Common.{refl, sym, subst}
 use Rattle.bf_state.specs.Session.{Session}
 use Rattle.bf_state.specs.Ends.{HasEnds}
 use Rattle.bf_spec.proofs.Halting.{if_ok}
-use Rattle.test_many.proofs.shared.state.Goals as goal
+use Rattle.test_farm.proofs.shared.state.Goals as goal
 
 pub returns-clause-ends : goal.returns-clause-ends
 returns-clause-ends c =
