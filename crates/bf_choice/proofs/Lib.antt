@@ -1,6 +1,6 @@
 pub mod Listed
 pub mod BaseRows
-pub mod Parents
+pub mod ParentRows
 pub mod Tops
 pub mod Checked
 pub mod Counting

@@ -16,7 +16,7 @@ use Rattle.bf_search.specs.Outcomes.{Outcomes}
 use Rattle.bf_search.specs.State.{Search}
 use Rattle.bf_search.specs.Run.{run}
 use Rattle.bf_log.proofs.Back.{log_read_back}
-use Rattle.bf_log.proofs.Entries.{run_tells}
+use Rattle.bf_log.proofs.EntryWalks.{run_tells}
 use Rattle.bf_log.proofs.Whole.{retold_append}
 use Rattle.bf_log.proofs.Plain.{said_lines, said_read}
 use Rattle.bf_log.proofs.Replaying.{replay_retold}

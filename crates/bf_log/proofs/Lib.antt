@@ -1,4 +1,4 @@
-pub mod Entries
+pub mod EntryWalks
 pub mod Replaying
 pub mod Onward
 pub mod Plain

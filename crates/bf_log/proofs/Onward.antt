@@ -17,7 +17,7 @@ use Rattle.bf_search.specs.LeftToAsk.{left_to_ask}
 use Rattle.bf_search.proofs.Turns.{left_to_ask-falls, left_to_ask-le, IsSearchOver-marked, run-is}
 use Rattle.bf_log.specs.LogState.{LogState, warnings, marked_on, retold}
 use Rattle.bf_search.specs.Ends.{end_entries}
-use Rattle.bf_log.proofs.Entries.{retold_mark}
+use Rattle.bf_log.proofs.EntryWalks.{retold_mark}
 
 has_mark : List Entry → Bool
 has_mark [] = false

@@ -26,7 +26,7 @@ use Rattle.bf_log.specs.Written.{AreNamed, words_of_entries}
 use Rattle.bf_log.specs.Replay.{Setting}
 use Rattle.bf_log.specs.Resolved.{ArePlaced, AreResolved, AreRunEntries}
 use Rattle.bf_log.specs.Back.{Begin, start_of, told_of, IsReplayable, LeadsTo, GivesBack, GoesOnFrom}
-use Rattle.bf_log.proofs.Entries.{run_tells}
+use Rattle.bf_log.proofs.EntryWalks.{run_tells}
 use Rattle.bf_log.proofs.Onward.{GoesOnAt, run_goes_on}
 use Rattle.bf_log.proofs.Replaying.{replay_started}
 use Rattle.bf_log.proofs.Back.{log_read_back}

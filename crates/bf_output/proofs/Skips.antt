@@ -11,7 +11,7 @@ use Rattle.bf_terms.specs.Texts.{Known}
 use Rattle.bf_log.specs.Resolved.{AreRunEntries}
 use Rattle.bf_log.specs.LogState.{LogState, retold}
 use Rattle.bf_log.specs.Written.{known_after_all}
-use Rattle.bf_log.proofs.Entries.{retold_mark}
+use Rattle.bf_log.proofs.EntryWalks.{retold_mark}
 use Rattle.bf_log.proofs.Whole.{are_append, retold_append}
 use Rattle.bf_output.specs.Beginning.{Begun, skip_entries, with_skip, with_skips}
 

@@ -1,6 +1,6 @@
 use Rattle.std.proofs.Common.{◌<◌, length, get_or, sym, ◌∙◌, arith}
 use Rattle.std.specs.List.{All}
-use Rattle.bf_choice.proofs.Parents.{IsParentsBelow-skip, IsParentsBelow-more}
+use Rattle.bf_choice.proofs.ParentRows.{IsParentsBelow-skip, IsParentsBelow-more}
 use Rattle.bf_choice.proofs.marks.fill_parents.Goals as goal
 use Rattle.bf_choice.proofs.marks.fill_parents.Goals.{then-get, else-get}
 

@@ -1,4 +1,4 @@
-use Rattle.bf_log.proofs.Entries.{run_tells}
+use Rattle.bf_log.proofs.EntryWalks.{run_tells}
 use Rattle.bf_log.proofs.laws.entries_tell_the_state.Goals as goal
 
 pub returns : goal.returns
