@@ -10,7 +10,7 @@ use bf_answers::{Beginning, Stop};
 use bf_import::History;
 use bf_io::Word;
 use bf_reach::{Reach, Row};
-use bf_search::{Entry, Mark};
+use bf_search::{Entry, Mark, push_warnings};
 use bf_state::true_places;
 use std::alloc::{AllocError, Global};
 
@@ -47,9 +47,7 @@ pub fn all_meant(
 fn push_skip(entries: &mut Vec<Entry>, warned: &[u32], place: u32) -> Result<(), AllocError>
     ensures { OnOk result (entries.new.items ≡ entries.old.items ++ skip_entries warned.now place) }
 {
-    for base in warned {
-        entries.push(Entry::SkippedBase { place: *base })?;
-    }
+    push_warnings(entries, warned)?;
     entries.push(Entry::Marked {
         mark: Mark::Skip,
         place,

@@ -1,9 +1,9 @@
 //! What a core has consumed.
-ghost use Rattle.std.specs.Prelude.{◌≡◌, ◌↔◌, ◌++◌, ℕ, List, [], Option, Some, None, length, map, All, Contains, IfOk, OnOk, OnErr, IsSome};
+ghost use Rattle.std.specs.Prelude.{◌≡◌, ◌↔◌, ◌++◌, ℕ, List, [], Option, Some, None, length, All, Contains, IfOk, OnOk, OnErr, IsSome};
 ghost use Rattle.std.specs.List.Sorted.{IsStrictlyIncreasing};
 ghost use Rattle.bf_graph.specs.Graph.{IsGraph};
 ghost use Rattle.bf_search.specs.State.{ask, IsSearchOver};
-ghost use Rattle.bf_search.specs.Run.{leg_of, left_after};
+ghost use Rattle.bf_search.specs.Run.{leg_of, left_after, warnings};
 ghost use Rattle.bf_search.specs.Outcomes.{outcomes_of_table};
 ghost use Rattle.bf_search.specs.OpenPaths.{OpenPath, best_open};
 ghost use Rattle.bf_state.specs.Session.{Session};
@@ -13,7 +13,7 @@ ghost use Rattle.bf_core.specs.Consuming.{IsJoinedTo, IsSameRun, Begins, Consume
 ghost use Rattle.bf_core.specs.Consuming.{AreUnwanted, KeepsNodesAhead, HasNodeOfBest};
 
 use crate::claims::withdrawn;
-use bf_search::{Claim, Ending, Entry};
+use bf_search::{Claim, Ending, Entry, push_warnings};
 use bf_spec::{SpecTree, Table, Walked};
 use bf_state::State;
 use std::alloc::{AllocError, Global};
@@ -149,12 +149,11 @@ impl<'r> Consumed<'r> {
 
 /// The warnings of these skipped merge bases.
 fn warnings(alloc: Global, warned: &[u32]) -> Result<Vec<Entry>, AllocError>
-    ensures { IfOk result (λ entries. entries.items ≡ map (λ p. Entry.SkippedBase p) warned.now) }
+    ensures { IfOk result (λ entries. entries.items ≡ warnings warned.now) }
 {
-    warned
-        .iter()
-        .map(|place| Entry::SkippedBase { place: *place })
-        .collect(alloc)
+    let mut entries = Vec::new(alloc);
+    push_warnings(&mut entries, warned)?;
+    Ok(entries)
 }
 
 /// The marks of a leg; a leg of 0 marks has no end.

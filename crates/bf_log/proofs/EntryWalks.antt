@@ -10,8 +10,8 @@ use Rattle.bf_search.specs.declared.outcomes.Verdict.{Verdict}
 use Rattle.bf_search.specs.declared.outcomes.Verdict.TheVariants.{Mark as MarkOf, Abort}
 use Rattle.bf_search.specs.Outcomes.{Outcomes, verdict_of}
 use Rattle.bf_search.specs.State.{Search, ask, mark}
-use Rattle.bf_search.specs.Run.{Answered, Leg, Run, ended, with_entries, with_used, marked_one, after_verdict, after_look, after_step, turn, run_within, run}
-use Rattle.bf_log.specs.LogState.{LogState, warnings, marked_on, retold, asked_on, closed, told_by}
+use Rattle.bf_search.specs.Run.{Answered, Leg, Run, ended, with_entries, with_used, marked_one, after_verdict, after_look, after_step, turn, run_within, run, warnings}
+use Rattle.bf_log.specs.LogState.{LogState, marked_on, retold, asked_on, closed, told_by}
 use Rattle.bf_search.specs.Ends.{end_entries}
 
 abbrev Go : Type 0

@@ -12,10 +12,10 @@ use Rattle.bf_search.specs.declared.outcomes.Verdict.{Verdict}
 use Rattle.bf_search.specs.declared.outcomes.Verdict.TheVariants.{Mark as MarkOf, Abort}
 use Rattle.bf_search.specs.Outcomes.{Outcomes, verdict_of}
 use Rattle.bf_search.specs.State.{Search, IsSearchOver, ask, mark}
-use Rattle.bf_search.specs.Run.{End, Answered, Open, Aborted, Run, ended, with_entries, with_used, after_verdict, after_look, after_step, after_ask, run}
+use Rattle.bf_search.specs.Run.{End, Answered, Open, Aborted, Run, ended, with_entries, with_used, after_verdict, after_look, after_step, after_ask, run, warnings}
 use Rattle.bf_search.specs.LeftToAsk.{left_to_ask}
 use Rattle.bf_search.proofs.Turns.{left_to_ask-falls, left_to_ask-le, IsSearchOver-marked, run-is}
-use Rattle.bf_log.specs.LogState.{LogState, warnings, marked_on, retold}
+use Rattle.bf_log.specs.LogState.{LogState, marked_on, retold}
 use Rattle.bf_search.specs.Ends.{end_entries}
 use Rattle.bf_log.proofs.EntryWalks.{retold_mark}
 

@@ -14,10 +14,10 @@ use Rattle.bf_search.specs.declared.outcomes.Verdict.{Verdict}
 use Rattle.bf_search.specs.declared.outcomes.Verdict.TheVariants.{Mark as MarkOf, Abort}
 use Rattle.bf_search.specs.Outcomes.{Outcomes, verdict_of}
 use Rattle.bf_search.specs.State.{Search, IsSearchOver, ask, mark}
-use Rattle.bf_search.specs.Run.{Run, marked_one, after_verdict, after_look, after_step, turn, run_within, run}
+use Rattle.bf_search.specs.Run.{Run, marked_one, after_verdict, after_look, after_step, turn, run_within, run, warnings}
 use Rattle.bf_search.proofs.Turns.{asking}
 use Rattle.bf_terms.specs.Texts.{Commits, Sides, nothing_known, log}
-use Rattle.bf_log.specs.LogState.{LogState, warnings, retold, take_entry}
+use Rattle.bf_log.specs.LogState.{LogState, retold, take_entry}
 use Rattle.bf_search.specs.Ends.{end_entries}
 use Rattle.bf_reading.specs.Reading.{read_log, said}
 use Rattle.bf_reading.specs.declared.line.LogWord.{LogWord}

@@ -1,11 +1,11 @@
 -- What the entries of a log tell: the state that they lead to, with the warnings that came on the way.
-use Rattle.std.specs.Prelude.{ℕ, Bool, false, List, [], ◌∷◌, ◌++◌, length, map, replicate, Option, None}
+use Rattle.std.specs.Prelude.{ℕ, Bool, false, List, [], ◌∷◌, ◌++◌, length, replicate, Option, None}
 use Rattle.bf_search.specs.Ends.{end_entries}
 use Rattle.bf_search.specs.declared.entries.Entry.{Entry}
-use Rattle.bf_search.specs.declared.entries.Entry.TheVariants.{Start, Marked, SkippedBase}
+use Rattle.bf_search.specs.declared.entries.Entry.TheVariants.{Start, Marked}
 use Rattle.bf_search.specs.declared.outcomes.Mark.{Mark}
 use Rattle.bf_search.specs.State.{Search, ask, mark}
-use Rattle.bf_search.specs.Run.{Run, End, Answered, Leg, Open, Aborted}
+use Rattle.bf_search.specs.Run.{Run, End, Answered, Leg, Open, Aborted, warnings}
 use Rattle.bf_terms.specs.Texts.{with_goods}
 
 -- a search, and the entries that led to it
@@ -24,9 +24,6 @@ begun len first_parent bad goods = record {
   expected = None;
   bad_asked = false;
 }
-
-abbrev pub warnings : List ℕ → List Entry
-warnings ps = map (λ p. SkippedBase p) ps
 
 -- a start begins anew
 abbrev pub started : List (List ℕ) → Bool → Bool → Option ℕ → List ℕ → LogState

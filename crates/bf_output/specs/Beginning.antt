@@ -5,10 +5,11 @@ use Rattle.bf_history.specs.Meanings.{History}
 use Rattle.bf_names.specs.declared.fault.NameFault.{NameFault}
 use Rattle.bf_names.specs.Names.{name, range}
 use Rattle.bf_search.specs.declared.entries.Entry.{Entry}
-use Rattle.bf_search.specs.declared.entries.Entry.TheVariants.{Start, Marked, SkippedBase}
+use Rattle.bf_search.specs.declared.entries.Entry.TheVariants.{Start, Marked}
 use Rattle.bf_search.specs.declared.outcomes.Mark.TheVariants.{Skip}
 use Rattle.bf_search.specs.Candidates.{places_of}
 use Rattle.bf_search.specs.State.{Search, ask, mark}
+use Rattle.bf_search.specs.Run.{warnings}
 use Rattle.bf_state.specs.Session.{begun}
 use Rattle.bf_log.specs.Replay.{Replayed}
 use Rattle.bf_log.specs.Written.{known_after_all}
@@ -114,7 +115,7 @@ begun_by request words (Some file) history = begun_by_log history file
 
 -- the entries of a skip: the skipped merge bases that are passed over come before its own
 abbrev pub skip_entries : List ℕ → ℕ → List Entry
-skip_entries warned p = map SkippedBase warned ++ Marked Skip p ∷ []
+skip_entries warned p = warnings warned ++ Marked Skip p ∷ []
 
 -- A place is skipped, whatever is asked.
 abbrev pub with_skip : List (List ℕ) → Begun → ℕ → Begun

@@ -1,11 +1,11 @@
 -- The command `next`: what a search would test next.
-use Rattle.std.specs.Prelude.{ℕ, List, ◌++◌, map, Option, Result, Ok}
+use Rattle.std.specs.Prelude.{ℕ, List, ◌++◌, Option, Result, Ok}
 use Rattle.bf_search.specs.Ends.{end_entries}
 use Rattle.bf_history.specs.Meanings.{History}
 use Rattle.bf_search.specs.declared.asks.Step.{Step}
 use Rattle.bf_search.specs.declared.entries.Entry.{Entry}
-use Rattle.bf_search.specs.declared.entries.Entry.TheVariants.{SkippedBase}
 use Rattle.bf_search.specs.State as searches
+use Rattle.bf_search.specs.Run.{warnings}
 use Rattle.bf_io.specs.declared.shelf.LoadFault.{LoadFault}
 use Rattle.bf_terms.specs.Texts.{ask_lines}
 use Rattle.bf_words.specs.declared.request.Request.{Request}
@@ -15,7 +15,7 @@ use Rattle.bf_output.specs.Told.{Told, ◌>>=◌}
 
 -- the entries that one ask writes: the skipped merge bases that it passes over, and its end
 abbrev pub asked_entries : Step → List Entry
-asked_entries step = map SkippedBase step.warned ++ end_entries step.ask
+asked_entries step = warnings step.warned ++ end_entries step.ask
 
 abbrev pub asked_once : History → Begun → Step → Told
 asked_once history first step = record {

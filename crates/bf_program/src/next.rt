@@ -13,7 +13,7 @@ use bf_import::History;
 use bf_io::Bytes;
 use bf_log::{write_ask, write_more};
 use bf_reach::Reach;
-use bf_search::{Ask, Entry, Step};
+use bf_search::{Ask, Entry, Step, push_warnings};
 use std::alloc::{AllocError, Global};
 
 /// The answer of one ask.
@@ -36,9 +36,7 @@ pub(crate) fn next(
 fn push_asked(entries: &mut Vec<Entry>, step: &Step) -> Result<(), AllocError>
     ensures { OnOk result (entries.new.items ≡ entries.old.items ++ asked_entries step.now) }
 {
-    for base in step.warned.as_slice() {
-        entries.push(Entry::SkippedBase { place: *base })?;
-    }
+    push_warnings(entries, step.warned.as_slice())?;
     push_end(entries, &step.ask)
 }
 

@@ -7,13 +7,13 @@ use Rattle.std.proofs.lemmas.List.Elements.{All-append, All-head, All-map, All-p
 use Rattle.std.specs.List.{All}
 use Rattle.bf_reading.specs.declared.line.LogLine.{LogLine}
 use Rattle.bf_search.specs.Within.{IsEntryWithin}
-use Rattle.bf_log.specs.LogState.{warnings}
 use Rattle.bf_log.specs.Replay as replay
 use Rattle.bf_log.specs.Replay.{Setting, Replayed, if_ok, named, places_of, take_line, replay_from, bad_of, goods_of, tried, leaves_open, names_terms}
 use Rattle.bf_log.specs.Replay.{begun_at}
 use Rattle.bf_search.specs.declared.entries.Entry.{Entry}
 use Rattle.bf_search.specs.declared.entries.Entry.TheVariants.{Start, Marked, SkippedBase}
 use Rattle.bf_search.specs.declared.outcomes.Mark.{Mark}
+use Rattle.bf_search.specs.Run.{warnings}
 use Rattle.bf_state.specs.Session.{Session, begun}
 use Rattle.bf_terms.specs.declared.terms.TermFault.{TermFault}
 use Rattle.bf_terms.specs.declared.terms.TermFault.TheVariants as terms

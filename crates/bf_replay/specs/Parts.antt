@@ -1,7 +1,6 @@
 -- What the lines of a log and their parts mean over a history.
 use Rattle.std.specs.Prelude.{◌≡◌, ℕ, ◌<◌, Bool, List, length, ◌++◌, [], ◌∷◌, Option, Some, Result, Ok, Vec, All, IfSome}
 use Rattle.bf_history.specs.Meanings.{History}
-use Rattle.bf_log.specs.LogState.{warnings}
 use Rattle.bf_names.specs.Names.{name}
 use Rattle.bf_names.specs.Order.{IsOrderOf}
 use Rattle.bf_names.specs.declared.fault.NameFault.{NameFault}
@@ -9,6 +8,7 @@ use Rattle.bf_reading.specs.declared.line.LogLine.{LogLine}
 use Rattle.bf_search.specs.declared.entries.Entry.{Entry}
 use Rattle.bf_search.specs.declared.entries.Entry.TheVariants.{Marked}
 use Rattle.bf_search.specs.declared.outcomes.Mark.{Mark}
+use Rattle.bf_search.specs.Run.{warnings}
 use Rattle.bf_state.specs.Session.{Session}
 use Rattle.bf_terms.specs.Texts.{Sides}
 use Rattle.bf_log.specs.Replay as replay

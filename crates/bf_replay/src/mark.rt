@@ -7,7 +7,7 @@ ghost use Rattle.bf_replay.specs.Refusals.{Refuses};
 
 use crate::fault::ReplayFault;
 use crate::fold::{Replayed, Setting, place_named};
-use bf_search::{Entry, Mark};
+use bf_search::{Entry, Mark, push_warnings};
 use bf_state::State;
 use bf_terms::Terms;
 use std::alloc::{AllocError, Global};
@@ -106,9 +106,7 @@ fn push_marked(
 ) -> Result<(), AllocError>
     ensures { OnOk result (AddsMark entries.old.items entries.new.items warned.now mark place) }
 {
-    for base in warned {
-        entries.push(Entry::SkippedBase { place: *base })?;
-    }
+    push_warnings(entries, warned)?;
     entries.push(Entry::Marked { mark, place })?;
     Ok(())
 }

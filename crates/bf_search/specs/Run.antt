@@ -64,8 +64,12 @@ after_step known go left s (FirstBad p) = ended (FirstBadFound p ∷ []) s (Answ
 after_step known go left s (OnlySkipped ps) = ended (OnlySkippedLeft ps ∷ []) s (Answered (OnlySkipped ps))
 after_step known go left s other = ended [] s (Answered other)
 
+-- an entry for each skipped merge base that an ask passes over
+abbrev pub warnings : List ℕ → List Entry
+warnings warned = map (λ p. SkippedBase p) warned
+
 abbrev pub after_ask : Outcomes → (Option ℕ → Search → Run) → Option ℕ → Asked → Run
-after_ask known go left asked = with_entries (map (λ p. SkippedBase p) asked.step.warned) (after_step known go left asked.search asked.step.ask)
+after_ask known go left asked = with_entries (warnings asked.step.warned) (after_step known go left asked.search asked.step.ask)
 
 -- One turn: where the leg is over the run ends. Otherwise the search asks, and warns of the skipped bases.
 abbrev pub turn : List (List ℕ) → Outcomes → (Option ℕ → Search → Run) → Option ℕ → Search → Run

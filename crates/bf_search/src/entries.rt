@@ -1,6 +1,10 @@
 //! The entries of a log.
+ghost use Rattle.std.specs.Prelude.{◌≡◌, ◌++◌, OnOk};
+ghost use Rattle.bf_search.specs.Run.{warnings};
+
 use crate::Mark;
 use bf_graph::Places;
+use std::alloc::AllocError;
 
 /// One entry of a log (git-bisect(1), "Bisect log and bisect replay").
 #[derive(PartialEq, Eq, Debug, Drop)]
@@ -29,4 +33,14 @@ pub enum Entry {
     OnlySkippedLeft {
         places: Places,
     },
+}
+
+/// Adds an entry for each skipped merge base that an ask passes over.
+pub fn push_warnings(entries: &mut Vec<Entry>, warned: &[u32]) -> Result<(), AllocError>
+    ensures { OnOk result (entries.new.items ≡ entries.old.items ++ warnings warned.now) }
+{
+    for place in warned {
+        entries.push(Entry::SkippedBase { place: *place })?;
+    }
+    Ok(())
 }

@@ -9,6 +9,6 @@ pub mod laws;
 mod outcomes;
 
 pub use asks::{Ask, Check, Step};
-pub use entries::Entry;
+pub use entries::{Entry, push_warnings};
 pub use farm::{Claim, Ending, Event};
 pub use outcomes::{Mark, Outcome, Verdict};

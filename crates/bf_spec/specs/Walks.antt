@@ -4,7 +4,7 @@ use Rattle.std.specs.List.{slice_index_or}
 use Rattle.bf_search.specs.declared.asks.Ask.{Ask}
 use Rattle.bf_search.specs.declared.asks.Ask.TheVariants.{Test, FirstBad, OnlySkipped, WaitBoth, WaitBad, WaitGood}
 use Rattle.bf_search.specs.declared.entries.Entry.{Entry}
-use Rattle.bf_search.specs.declared.entries.Entry.TheVariants.{FirstBadFound, OnlySkippedLeft, SkippedBase}
+use Rattle.bf_search.specs.declared.entries.Entry.TheVariants.{FirstBadFound, OnlySkippedLeft}
 use Rattle.bf_search.specs.declared.farm.Ending.{Ending}
 use Rattle.bf_search.specs.declared.farm.Ending.TheVariants as endings
 use Rattle.bf_search.specs.declared.outcomes.Mark.{Mark}
@@ -83,10 +83,6 @@ abbrev pub run_at : List (List ℕ) → List (Option Outcome) → Option ℕ →
 run_at graph table left nodes i d = run_below graph (outcomes_of_table table) left (slice_index_or nodes i d)
 
 -- ---- what a run makes on its way
-
--- an entry for each skipped merge base
-abbrev pub warnings : List ℕ → List Entry
-warnings warned = map {A = ℕ} {B = Entry} (λ p. SkippedBase p) warned
 
 -- a trail logs some entries more
 abbrev pub Logs : Trail → List Entry → Trail → Type 0

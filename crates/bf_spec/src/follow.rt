@@ -4,8 +4,9 @@ ghost use Rattle.std.specs.List.{slice_index_or};
 ghost use Rattle.bf_search.specs.Farm.{end_of};
 ghost use Rattle.bf_search.specs.Outcomes.{outcomes_of_table};
 ghost use Rattle.bf_search.specs.Run as runs;
+ghost use Rattle.bf_search.specs.Run.{warnings};
 ghost use Rattle.bf_spec.specs.Nodes as nodes_;
-ghost use Rattle.bf_spec.specs.Walks.{IsAnswer, answer_entries, next_of, is_over, run_at, warnings, Logs, Uses};
+ghost use Rattle.bf_spec.specs.Walks.{IsAnswer, answer_entries, next_of, is_over, run_at, Logs, Uses};
 ghost use Rattle.bf_spec.specs.Walks.{IsEmptyTrail, HaltsWith, IsEndedAt, IsOverAt, WalksHalted, WalksRun};
 ghost use Rattle.bf_spec.specs.declared.node.Node.{Node as NodeValue};
 
@@ -14,7 +15,7 @@ use crate::nodes::Nodes;
 use crate::table::Table;
 use crate::walk::child;
 use bf_reach::Reach;
-use bf_search::{Ask, Ending, Entry, Mark, Outcome, Verdict};
+use bf_search::{Ask, Ending, Entry, Mark, Outcome, Verdict, push_warnings};
 use bf_state::State;
 use bf_terms::verdict_of;
 use std::alloc::{AllocError, Global};
@@ -97,23 +98,13 @@ fn one_less(left: Option<u32>) -> Option<u32>
     }
 }
 
-/// Adds an entry for each skipped merge base.
-fn warn(entries: &mut Vec<Entry>, warned: &[u32]) -> Result<(), AllocError>
-    ensures { OnOk result (entries.new.items ≡ entries.old.items ++ warnings warned.now) }
-{
-    for place in warned {
-        entries.push(Entry::SkippedBase { place: *place })?;
-    }
-    Ok(())
-}
-
 impl Trail {
     /// Adds an entry for each skipped merge base.
     fn warn(&mut self, warned: &[u32]) -> Result<(), AllocError>
         ensures entries { OnOk result (Logs self.old (warnings warned.now) self.new) }
         ensures used { self.new.used ≡ self.old.used }
     {
-        warn(&mut self.entries, warned)
+        push_warnings(&mut self.entries, warned)
     }
 
     /// Adds an outcome that is used.
