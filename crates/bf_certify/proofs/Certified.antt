@@ -5,7 +5,7 @@ use Rattle.bf_answers.specs.declared.answer.Answer.{Answer}
 use Rattle.bf_answers.specs.Answers.{HasCause, IsBeforeSearch, IsWhole}
 use Rattle.bf_answers.specs.Tellings.{told_of}
 use Rattle.bf_cert.specs.Made.{AsksFirstBad}
-use Rattle.bf_certify.specs.Ended.{AnswersOther, IsCertFound, IsLogOf}
+use Rattle.bf_certify.specs.Ended.{AnswersOther, IsCertFound}
 use Rattle.bf_certify.proofs.Runs.{finds, no_leg}
 use Rattle.bf_commands.specs.Certify.{IsCertOf, IsCertTold, IsPlanCertified, IsRunCertified, IsTestCertified}
 use Rattle.bf_farm.specs.Answering.{HasFault}
@@ -39,7 +39,7 @@ use Rattle.bf_searches.specs.declared.legs.Gone.TheVariants.{Over}
 use Rattle.bf_searches.specs.declared.legs.Running.{Running}
 use Rattle.bf_searches.specs.declared.telling.Telling.{Telling}
 use Rattle.bf_searches.specs.Searching.{IsRunning}
-use Rattle.bf_searches.specs.Telling.{trace_with}
+use Rattle.bf_searches.specs.Telling.{trace_with, IsLogOf}
 use Rattle.bf_state.specs.Runs.{in_sequence, is_open}
 use Rattle.bf_state.specs.Session.{Session, IsSearchBelow}
 use Rattle.bf_terms.specs.Texts.{log_from}

@@ -4,12 +4,12 @@ ghost use Rattle.bf_io.specs.Causes.{FailsOnlyAt, Rose};
 ghost use Rattle.bf_output.specs.Logs.{file_or_refusal};
 ghost use Rattle.bf_output.specs.Tested.{Tested};
 ghost use Rattle.bf_answers.specs.Answers.{Answers, IsComplete, IsWholeAnswer};
-ghost use Rattle.bf_answers.specs.Devices.{IsLeftUnless, met_shelf, met_sink, met_source};
+ghost use Rattle.bf_answers.specs.Devices.{IsLeftUnless, met_shelf, met_sink, met_source, met_untested};
 ghost use Rattle.bf_answers.specs.Tellings.{Says};
 ghost use Rattle.bf_begin.specs.Files.{given_of};
 ghost use Rattle.bf_commands.specs.Check as checks;
 ghost use Rattle.bf_commands.specs.Orders as orders;
-ghost use Rattle.bf_certify.specs.Checking.{checks_file, met_checking, to_check};
+ghost use Rattle.bf_certify.specs.Checking.{checks_file, to_check};
 ghost use Rattle.bf_certify.specs.TellsChecked.{TellsChecked, TellsFile, TellsOutput, TellsStreamed, TellsText};
 
 use bf_answers::{Answer, Fault, Stop, refusal, say_answer, usage};
@@ -39,11 +39,11 @@ pub fn check<S: Source, F: Shelf, K: Sink>(
     out: &mut K,
 ) -> Status
     ensures answers { (tested : Tested) →
-        let met = met_checking words.now (met_source S.Source stream.old stream.new)
+        let met = met_untested words.now (met_source S.Source stream.old stream.new)
         (met_shelf F.Shelf shelf.old shelf.new) tested (met_sink K.Sink out.old out.new) in
         Answers (to_check met) met result }
     ensures complete { (tested : Tested) →
-        let met = met_checking words.now (met_source S.Source stream.old stream.new)
+        let met = met_untested words.now (met_source S.Source stream.old stream.new)
         (met_shelf F.Shelf shelf.old shelf.new) tested (met_sink K.Sink out.old out.new) in
         IsComplete (to_check met) met result }
     ensures read { result ≡ Status.ReadFault → Rose (S.faults stream.old) (S.faults stream.new) }

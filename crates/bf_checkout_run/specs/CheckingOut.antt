@@ -2,7 +2,6 @@
 use Rattle.std.specs.Prelude.{◌≡◌, ◌≢◌, ℕ, List, [], Option, Some, None, Result, Ok}
 use Rattle.bf_grammar.specs.Limits.{standard_limits}
 use Rattle.bf_history.specs.Contents.{Content, Furnishes}
-use Rattle.bf_history.specs.Meanings.{History}
 use Rattle.bf_io.specs.declared.shelf.ShelfFile.{ShelfFile}
 use Rattle.bf_tester.specs.declared.answer.Answer.{Answer as Answered}
 use Rattle.bf_tester.specs.Grounds.{Ground}
@@ -12,7 +11,7 @@ use Rattle.bf_words.specs.declared.request.WordFault.TheVariants.{At, NoMemory}
 use Rattle.bf_output.specs.Refusals.{usage}
 use Rattle.bf_answers.specs.declared.answer.Answer.{Answer}
 use Rattle.bf_answers.specs.Tellings.{Says}
-use Rattle.bf_output.specs.Output.{IsOver, asks_file, given_to, reads, tests}
+use Rattle.bf_output.specs.Output.{asks_file, given_to, reads, tests}
 use Rattle.bf_answers.specs.declared.line.Line.{Line}
 use Rattle.bf_answers.specs.declared.started.Ready.{Ready}
 use Rattle.bf_answers.specs.declared.started.Ready.TheVariants.{Search, Told}
@@ -46,12 +45,6 @@ abbrev pub TellsCheckout : Line → Option (List ShelfFile) → Option (List ℕ
 TellsCheckout line files left ready =
     AllTold line.request.now line.words.now ready (λ tested told.
     IsCheckedOut line.request.now (given_to line.words.now files tested) left told)
-
--- the same over a history
-abbrev pub TellsHistory : Line → Option (List ShelfFile) → History → Ready → Type 0
-TellsHistory line files history ready =
-    AllTold line.request.now line.words.now ready (λ tested told.
-    IsOver line.request.now (given_to line.words.now files tested) history told)
 
 -- the answer says which word is at fault
 abbrev pub TellsUsage : WordFault → Answer → Type 0

@@ -2,10 +2,10 @@
 ghost use Rattle.std.specs.Prelude.{◌≡◌, [], is_some, IfOk, IsErrOf, IsTrue};
 ghost use Rattle.bf_io.specs.Causes.{FailsOnlyAt};
 ghost use Rattle.bf_answers.specs.Devices.{IsLeftUnless};
-ghost use Rattle.bf_answers.specs.Ready.{IsSound};
+ghost use Rattle.bf_answers.specs.Ready.{IsSound, TellsHistory};
 ghost use Rattle.bf_checkout.specs.Checkouts.{grounds_of};
 ghost use Rattle.bf_checkout.specs.Shops.{furnished};
-ghost use Rattle.bf_checkout_run.specs.CheckingOut.{IsFurnishedFor, TellsCheckout, TellsHistory};
+ghost use Rattle.bf_checkout_run.specs.CheckingOut.{IsFurnishedFor, TellsCheckout};
 ghost use Rattle.bf_words.specs.declared.verb.Verb.TheVariants as Verb;
 
 use bf_answers::{Fault, Line, Means, Ready, refusal};

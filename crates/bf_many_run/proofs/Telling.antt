@@ -22,13 +22,13 @@ use Rattle.bf_search.specs.declared.outcomes.Outcome.{Outcome}
 use Rattle.bf_search.specs.Farm.{end_of}
 use Rattle.bf_search.specs.Outcomes.{outcomes_of_table}
 use Rattle.bf_search.specs.Run.{End, Run, one_at_a_time}
-use Rattle.bf_searches.specs.Telling.{trace_with}
+use Rattle.bf_searches.specs.Telling.{trace_with, IsLogOf, log_with, trace_of}
 use Rattle.bf_state.specs.Runs.{is_open}
 use Rattle.bf_state.specs.Session.{Session}
 use Rattle.bf_searches.specs.declared.telling.Telling.{Telling}
 use Rattle.bf_terms.specs.Texts.{Commits, Sides, answer_lines, log_from}
 use Rattle.bf_many_run.specs.declared.begun.Begun.{Begun}
-use Rattle.bf_many_run.specs.Groups.{IsLogOf, log_with, told_from, told_over, trace_of}
+use Rattle.bf_many_run.specs.Groups.{told_from, told_over}
 
 -- an end that no failed test made is told as that of a run over a plan
 record IsClosed (history : History) (sides : Sides) (end : End) : Type 0 where

@@ -1,8 +1,7 @@
 -- What a call of `many` asks for and meets.
 use Rattle.std.specs.Prelude.{◌≡◌, ℕ, ◌≤◌, Bool, false, is_none, List, None}
-use Rattle.bf_output.specs.Tested.{Tested}
 use Rattle.bf_answers.specs.Answers.{Command}
-use Rattle.bf_answers.specs.Devices.{Met, ShelfMet, SinkMet, SourceMet, met, left_alone}
+use Rattle.bf_answers.specs.Devices.{Met, met}
 use Rattle.bf_commands.specs.Many.{IsManyOutput, wrong_word}
 
 -- whether the words ask for a list of searches
@@ -17,10 +16,6 @@ to_many met = record {
   loads = loads_list met.words;
   tests = false;
 }
-
--- a call that leaves the tester alone, whatever it shows
-abbrev pub met_many : List (List ℕ) → SourceMet → ShelfMet → Tested → SinkMet → Met
-met_many words source shelf tested sink = met words source shelf (left_alone tested) sink
 
 -- a number of workers
 pub record IsCount (workers : ℕ) : Type 0 where

@@ -6,23 +6,17 @@ use Rattle.bf_answers.specs.Tellings.{Says, told_of}
 use Rattle.bf_answers.specs.declared.answer.Answer.{Answer}
 use Rattle.bf_answers.specs.declared.started.Beginning.{Beginning}
 use Rattle.bf_commands.specs.Many.{searched}
-use Rattle.bf_farm.specs.declared.report.Report.{Report}
 use Rattle.bf_state.specs.Ends.{HasEnds}
 use Rattle.bf_history.specs.Meanings.{History}
-use Rattle.bf_log.specs.Trace.{event_lines}
 use Rattle.bf_log.specs.Written.{known_after_all}
 use Rattle.bf_many.specs.declared.search.Search.{Search}
 use Rattle.bf_output.specs.Beginning.{commits_of}
 use Rattle.bf_output.specs.Simulate.{status_of_end}
-use Rattle.bf_output.specs.Tested.{lines_at_end, status_at_end}
 use Rattle.bf_output.specs.Told.{Told}
 use Rattle.bf_runs.specs.Legs.{IsKnown}
 use Rattle.bf_search.specs.declared.outcomes.Outcome.{Outcome}
-use Rattle.bf_search.specs.Farm.{end_of}
 use Rattle.bf_search.specs.Outcomes.{outcomes_of_plan}
 use Rattle.bf_search.specs.Run.{Run, one_at_a_time}
-use Rattle.bf_searches.specs.Telling.{trace_with}
-use Rattle.bf_searches.specs.declared.telling.Telling.{Telling}
 use Rattle.bf_tester.specs.declared.tester.Tester.{Ghosts}
 use Rattle.bf_terms.specs.Texts.{answer_lines, log_from}
 use Rattle.bf_many_run.specs.declared.begun.Begun.{Begun}
@@ -30,16 +24,6 @@ use Rattle.bf_many_run.specs.declared.begun.Slot.{Slot}
 use Rattle.bf_many_run.specs.declared.begun.Slot.TheVariants.{Refused, Begun as BegunSlot}
 
 -- ---- what a search tells that has begun
-
--- the text so far with the entries of a run behind it
-abbrev pub log_with : History → Telling → Report → List ℕ
-log_with history telling report =
-    telling.text ++ log_from (commits_of history) report.state.terms telling.known report.entries.items
-
--- the trace so far with the events of a run behind it, where there is one
-abbrev pub trace_of : History → Telling → Report → List ℕ
-trace_of history telling report =
-    unwrap_or (trace_with (event_lines (commits_of history) report.events.items) telling.trace) []
 
 -- where this is the run from where it stands
 abbrev pub told_from : History → Begun → Run → Told
@@ -53,12 +37,6 @@ told_from history begun run = record {
 abbrev pub told_over : History → Begun → List Outcome → Told
 told_over history begun plan =
     told_from history begun (one_at_a_time history.parents begun.state.search (outcomes_of_plan plan) 0)
-
--- the answer is the log of a search with the entries of a run behind it, and how the run ended
-pub record IsLogOf (history : History) (telling : Telling) (report : Report) (answer : Answer) : Type 0 where
-  pub status : answer.status ≡ status_at_end (end_of report.ending)
-  pub text : answer.text ≡ (log_with history telling report
-      ++ lines_at_end (commits_of history) report.state.terms (end_of report.ending)) ++ trace_of history telling report
 
 -- the first lines of its log are its text so far
 pub record IsBegunAs (history : History) (first : Beginning) (begun : Begun) : Type 0 where

@@ -4,10 +4,10 @@ ghost use Rattle.bf_io.specs.Causes.{FailsOnlyAt, Rose};
 ghost use Rattle.bf_output.specs.Logs.{file_or_refusal};
 ghost use Rattle.bf_output.specs.Tested.{Tested};
 ghost use Rattle.bf_answers.specs.Answers.{Answers, IsComplete, IsWholeAnswer};
-ghost use Rattle.bf_answers.specs.Devices.{IsLeftUnless, met_shelf, met_sink, met_source};
+ghost use Rattle.bf_answers.specs.Devices.{IsLeftUnless, met_shelf, met_sink, met_source, met_untested};
 ghost use Rattle.bf_begin.specs.Files.{given_of};
 ghost use Rattle.bf_commands.specs.Many as many;
-ghost use Rattle.bf_many_run.specs.Command.{IsAsked, IsCount, loads_list, met_many, to_many};
+ghost use Rattle.bf_many_run.specs.Command.{IsAsked, IsCount, loads_list, to_many};
 ghost use Rattle.bf_many_run.specs.Tells.{TellsFile, TellsListed, TellsOutput, TellsStreamed, TellsText};
 
 use crate::group::search_all;
@@ -44,11 +44,11 @@ pub fn many<R: Host, S: Source, F: Shelf, K: Sink>(
     out: &mut K,
 ) -> Status
     ensures answers { (tested : Tested) →
-        let met = met_many words.now (met_source S.Source stream.old stream.new)
+        let met = met_untested words.now (met_source S.Source stream.old stream.new)
         (met_shelf F.Shelf shelf.old shelf.new) tested (met_sink K.Sink out.old out.new) in
         Answers (to_many met) met result }
     ensures complete { (tested : Tested) →
-        let met = met_many words.now (met_source S.Source stream.old stream.new)
+        let met = met_untested words.now (met_source S.Source stream.old stream.new)
         (met_shelf F.Shelf shelf.old shelf.new) tested (met_sink K.Sink out.old out.new) in
         IsComplete (to_many met) met result }
     ensures read { result ≡ Status.ReadFault → Rose (S.faults stream.old) (S.faults stream.new) }

@@ -5,10 +5,11 @@ ghost use Rattle.bf_answers.specs.Answers.{IsWholeAnswer};
 ghost use Rattle.bf_answers.specs.Tellings.{Says};
 ghost use Rattle.bf_commands.specs.Many as many;
 ghost use Rattle.bf_many_run.specs.Command.{IsCount};
-ghost use Rattle.bf_many_run.specs.Groups.{AllCanTell, AreBegun, CanTell, CanTellSlot, IsLogOf, TellsSlot};
+ghost use Rattle.bf_many_run.specs.Groups.{AllCanTell, AreBegun, CanTell, CanTellSlot, TellsSlot};
 ghost use Rattle.bf_many_run.specs.Groups.{all_told, behind, plan_in, searches_in, told_over};
 ghost use Rattle.bf_many_run.specs.Lists.{IsAskedBy, words_in};
 ghost use Rattle.bf_search.specs.Within.{IsEndingWithin, IsEntryWithin};
+ghost use Rattle.bf_searches.specs.Telling.{IsLogOf};
 
 use crate::begun::{Begun, Group, Slot, begin_all};
 use crate::list::ListLine;

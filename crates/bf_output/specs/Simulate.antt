@@ -14,18 +14,16 @@ use Rattle.bf_words.specs.declared.request.Request.{Request}
 use Rattle.bf_words.specs.Words.{word_or}
 use Rattle.bf_output.specs.declared.status.Status.{Status}
 use Rattle.bf_output.specs.declared.status.Status.TheVariants as status
-use Rattle.bf_output.specs.Beginning.{Begun, commits_of, log_on}
+use Rattle.bf_output.specs.Beginning.{Begun, log_on, commits_of}
 use Rattle.bf_output.specs.Told.{Told}
 use Rattle.bf_output.specs.Traces.{course_of, traced}
+use Rattle.bf_tester.specs.Plans.{read_as}
 
 -- ---- the plan
 
 -- the outcome of a letter, as --lenient-exit has it read
-abbrev pub read_outcome : Bool → Outcome → Outcome
-read_outcome is_lenient outcome = if is_lenient then lenient outcome else outcome
-
 abbrev pub outcome_by_letter : Bool → ℕ → Outcome
-outcome_by_letter is_lenient letter = read_outcome is_lenient (unwrap_or (outcome_of_letter letter) (Exit 125))
+outcome_by_letter is_lenient letter = read_as is_lenient (unwrap_or (outcome_of_letter letter) (Exit 125))
 
 -- the letter at an index gives the outcome of that place
 abbrev pub plan_of : Request → List (List ℕ) → List Outcome

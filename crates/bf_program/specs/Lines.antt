@@ -5,7 +5,7 @@ use Rattle.bf_history.specs.Meanings.{History}
 use Rattle.bf_output.specs.Beginning.{Begun}
 use Rattle.bf_output.specs.Gen.{made_stream}
 use Rattle.bf_output.specs.Next.{asked_once, next_told}
-use Rattle.bf_output.specs.Output.{IsOutputOf, IsOver, IsOverBytes, IsOverFile, IsOverStream, given_to}
+use Rattle.bf_output.specs.Output.{IsOutputOf, IsOverBytes, IsOverFile, IsOverStream, given_to}
 use Rattle.bf_output.specs.Told.{Told}
 use Rattle.bf_search.specs.State.{ask}
 use Rattle.bf_io.specs.declared.shelf.ShelfFile.{ShelfFile}
@@ -32,12 +32,6 @@ abbrev pub TellsStream : Line → Option (List ShelfFile) → Option (List ℕ) 
 TellsStream line files left ready =
     AllTold line.request.now line.words.now ready (λ tested told.
     IsOverStream line.request.now (given_to line.words.now files tested) left told)
-
--- over a history
-abbrev pub TellsHistory : Line → Option (List ShelfFile) → History → Ready → Type 0
-TellsHistory line files history ready =
-    AllTold line.request.now line.words.now ready (λ tested told.
-    IsOver line.request.now (given_to line.words.now files tested) history told)
 
 -- over a history and the file that the words name
 abbrev pub TellsFile : Line → Option (Bor LogFile) → History → Ready → Type 0

@@ -3,8 +3,8 @@ ghost use Rattle.std.specs.Prelude.{is_some, IfOk, IsErrOf, IsTrue};
 ghost use Rattle.bf_io.specs.Causes.{FailsOnlyAt};
 ghost use Rattle.bf_output.specs.Output.{reads_stream};
 ghost use Rattle.bf_answers.specs.Devices.{IsLeftUnless};
-ghost use Rattle.bf_program.specs.Lines.{TellsOutput, TellsHistory, TellsFile, TellsMade, TellsStream};
-ghost use Rattle.bf_answers.specs.Ready.{IsSound};
+ghost use Rattle.bf_program.specs.Lines.{TellsOutput, TellsFile, TellsMade, TellsStream};
+ghost use Rattle.bf_answers.specs.Ready.{IsSound, TellsHistory};
 
 use crate::made::{generate, made_stream};
 use crate::next::next;

@@ -8,9 +8,10 @@ use Rattle.std.proofs.lemmas.List.{get_or-set_same, get_or-set_other, get_or_pas
 use Rattle.std.proofs.lemmas.List.Sums.{position_or_len_is}
 use Rattle.std.proofs.lemmas.Bool.{cases_lt, cases_eq, true≢false, cond-true, cond-false, lt-ltb, le-ltb}
 use Rattle.std.proofs.lemmas.Nat.Bits.{bit_at_set_same, bit_at_set_other, bit_at_clear_same, bit_at_clear_other}
+use Rattle.bf_search.specs.Candidates.{is_in}
 use Rattle.bf_reach.specs.Bits.{has_bit, bits, words_for, Holds, NoBitFrom, IsNextBit}
 use Rattle.bf_reach.specs.Bitwise.{IsBitwise}
-use Rattle.bf_reach.specs.Row.{value_at, NoneTrueFrom, IsNextTrue}
+use Rattle.bf_reach.specs.Row.{NoneTrueFrom, IsNextTrue}
 use Rattle.bf_reach.proofs.BitRows.{length-bits, value-bits, bits_is, bits-zip2, holds-zip2, holds-zeros, bits-zeros, count_by-bits}
 
 -- the words hold this row
@@ -27,7 +28,7 @@ shown_words len other ws vs mine theirs p q same =
     let one : len ≡ other = shown_length len ws mine p ∙ same ∙ sym (shown_length other vs theirs q) in
     p.holds.whole ∙ ap words_for one ∙ sym q.holds.whole
 
-pub shown_value : (len : ℕ) (words : List ℕ) (row : List Bool) (p : ℕ) → Shows len words row → value_at row p ≡ has_bit words p
+pub shown_value : (len : ℕ) (words : List ℕ) (row : List Bool) (p : ℕ) → Shows len words row → is_in row p ≡ has_bit words p
 shown_value len words row p s = ap (λ r. get_or r p false) (sym s.view) ∙ value-bits len words p s.holds
 
 pub joined_row : (f : ℕ → ℕ → ℕ) (g : Bool → Bool → Bool) (len other : ℕ) (ws vs now : List ℕ) (mine theirs : List Bool)
@@ -123,7 +124,7 @@ pub none_past : (row : List Bool) (low : ℕ) → length row ≤ low → NoneTru
 none_past row low past p h = get_or_past row p false (omega arith)
 
 -- a true place is within the list
-pub inside : (row : List Bool) (place : ℕ) → value_at row place ≡ true → place < length row
+pub inside : (row : List Bool) (place : ℕ) → is_in row place ≡ true → place < length row
 inside row place h = ⊎_elim (λ within. within) (λ past. absurd (true≢false (sym h ∙ get_or_past row place false past))) (cases_lt place (length row))
 
 pub place_after : (row : List Bool) (low : ℕ) (found : Option ℕ) → length row < 2 ^ 32 → MatchOption found (NoneTrueFrom row low) (IsNextTrue row low)

@@ -1,7 +1,8 @@
 ghost use Rattle.std.specs.Prelude.{◌≡◌, ◌+◌, ◌^◌, ◌<◌, false, not, ◌&&◌, ◌||◌, length, slice_set, replicate, count_by, IfOk, IfSome, MatchOption};
 ghost use Rattle.std.specs.List.{position};
 ghost use Rattle.std.specs.Simd.Lanes.{zip2};
-ghost use Rattle.bf_reach.specs.Row.{value_at, NoneTrueFrom, IsNextTrue};
+ghost use Rattle.bf_search.specs.Candidates.{is_in};
+ghost use Rattle.bf_reach.specs.Row.{NoneTrueFrom, IsNextTrue};
 
 use crate::words::{self, And, AndNot, BitOp, Or, Right};
 use std::alloc::{AllocError, Global};
@@ -49,7 +50,7 @@ impl Row {
     #[inline]
     pub fn get(&self, p: u32) -> bool
         requires { p < length self.now }
-        ensures { result ≡ value_at self.now p }
+        ensures { result ≡ is_in self.now p }
     {
         words::get(self.words.as_slice(), p as usize)
     }
