@@ -21,8 +21,9 @@ use Rattle.bf_output.specs.Inputs.{IsFiled, IsStreamed}
 use Rattle.bf_output.specs.Logs.{file_or_refusal}
 use Rattle.bf_output.specs.Refusals.{usage}
 use Rattle.bf_output.specs.Simulate.{plan_of, ran, run_over}
-use Rattle.bf_output.specs.Told.{Told, ◌>>=◌, told_by}
+use Rattle.bf_output.specs.Told.{Told, told_by}
 use Rattle.bf_commands.specs.Orders.{wrong_count}
+use Rattle.bf_grammar.specs.Forms.{◌>>=◌}
 
 unfoldable pub list_refused : ℕ → Told
 list_refused line = record {

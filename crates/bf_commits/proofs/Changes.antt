@@ -6,6 +6,7 @@ use Rattle.bf_grammar.specs.declared.command.Change.{Change}
 use Rattle.bf_grammar.specs.declared.command.Change.TheVariants.{Modify, Delete, DeleteAll}
 use Rattle.bf_grammar.specs.declared.command.DataRef.{DataRef}
 use Rattle.bf_grammar.specs.declared.command.DataRef.TheVariants as dataref
+use Rattle.bf_grammar.specs.Forms.{◌>>=◌}
 use Rattle.bf_oid.specs.declared.object.Kind.TheVariants as kind
 use Rattle.bf_oid.specs.declared.object.Mode.{Mode}
 use Rattle.bf_oid.specs.declared.object.Oid.{Oid}
@@ -18,7 +19,7 @@ use Rattle.bf_history.specs.declared.marked.Marked.{Marked}
 use Rattle.bf_history.specs.Contents.{edit_over, edits_over, has_content}
 use Rattle.bf_history.specs.Imports.{Means}
 use Rattle.bf_history.specs.Keeping.{Kept, edit_meant, edits_meant, kept_behind_all, kept_behind_change, kept_with, kept_with_inline, lacks}
-use Rattle.bf_history.specs.Meanings.{◌>>=◌, each_of, edit_of, content_named, is_module, path_at}
+use Rattle.bf_history.specs.Meanings.{each_of, edit_of, content_named, is_module, path_at}
 use Rattle.bf_history.proofs.Meant.{means_at_exit, means_refused, means_same, means_passed_on, means_stopped, means_then}
 use Rattle.bf_commits.specs.Inline.{IsNameOf}
 

@@ -23,7 +23,7 @@ use Rattle.std.specs.Option.{ok_or}
 
 infixl 10 ◌>>=◌
 -- the next step, where the first gave a value
-abbrev pub ◌>>=◌ : {X Y : Type 0} → Result X StreamFault → (X → Result Y StreamFault) → Result Y StreamFault
+abbrev pub ◌>>=◌ : {X Y E : Type 0} → Result X E → (X → Result Y E) → Result Y E
 Ok x >>= next = next x
 Err fault >>= next = Err fault
 

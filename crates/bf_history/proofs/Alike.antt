@@ -7,6 +7,7 @@ use Rattle.bf_grammar.specs.declared.command.Command.TheVariants as command
 use Rattle.bf_grammar.specs.declared.command.Commit as given
 use Rattle.bf_grammar.specs.declared.fault.Limits.{Limits}
 use Rattle.bf_grammar.specs.declared.fault.StreamFault.{StreamFault}
+use Rattle.bf_grammar.specs.Forms.{◌>>=◌}
 use Rattle.bf_forest.specs.declared.edits.Edit.{Edit}
 use Rattle.bf_forest.specs.declared.edits.Edit.TheVariants.{Set}
 use Rattle.bf_history.specs.declared.fault.ImportFault.{ImportFault}
@@ -16,7 +17,7 @@ use Rattle.bf_history.specs.Contents.{Blobs, Content, after_command_over, behind
 use Rattle.bf_history.specs.Imports.{loaded}
 use Rattle.bf_history.specs.Laws.{LoadsAlike}
 use Rattle.bf_history.specs.Meanings.{Loading, nothing_loaded, after_command, after_commit, after_edits, begins_with, content_named, each_of, edit_of, path_at, place_of_target}
-use Rattle.bf_history.specs.Meanings.{◌>>=◌, within_limits}
+use Rattle.bf_history.specs.Meanings.{within_limits}
 
 -- what is meant over blobs is meant without, but where a content is lacking
 abbrev pub Agrees : {X Y : Type 0} → (X → Y) → Result X ImportFault → Result Y ImportFault → Type 0

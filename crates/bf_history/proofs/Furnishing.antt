@@ -14,6 +14,7 @@ use Rattle.bf_grammar.specs.declared.command.DataRef.TheVariants as dataref
 use Rattle.bf_grammar.specs.declared.command.Target.{Target}
 use Rattle.bf_grammar.specs.declared.fault.Limits.{Limits}
 use Rattle.bf_grammar.specs.declared.fault.StreamFault.{StreamFault}
+use Rattle.bf_grammar.specs.Forms.{◌>>=◌}
 use Rattle.bf_oid.specs.declared.object.Kind.TheVariants as kind
 use Rattle.bf_oid.specs.declared.object.Mode.{Mode}
 use Rattle.bf_oid.specs.declared.object.Oid.{Oid}
@@ -32,7 +33,7 @@ use Rattle.bf_history.specs.Furnished.{EditHas, IsFurnishedOver, MarkHas, MarksH
 use Rattle.bf_history.specs.Laws.{IsNamed, IsWhole}
 use Rattle.bf_history.specs.Meanings.{Commit, History, Loading, after_command, after_edits, after_reset, after_tag, begins_with, blob_marked, commit_on, content_named}
 use Rattle.bf_history.specs.Meanings.{each_of, edit_of, files_from, is_module, nothing_loaded, is_no_name, mark_in, path_at, place_of_target, stood}
-use Rattle.bf_history.specs.Meanings.{with_commit, with_mark, with_ref, within_limits, without_ref, ◌>>=◌}
+use Rattle.bf_history.specs.Meanings.{with_commit, with_mark, with_ref, within_limits, without_ref}
 use Rattle.bf_history.specs.Named.{value_of, with_value}
 use Rattle.bf_history.proofs.Steps.{within_same}
 

@@ -8,7 +8,8 @@ use Rattle.std.proofs.lemmas.Result.{err_from_is_err_and}
 use Rattle.bf_history.specs.declared.fault.ImportFault.{ImportFault}
 use Rattle.bf_history.specs.declared.fault.ImportFault.TheVariants as faults
 use Rattle.bf_history.specs.Imports.{Means}
-use Rattle.bf_history.specs.Meanings.{◌>>=◌, each_of}
+use Rattle.bf_history.specs.Meanings.{each_of}
+use Rattle.bf_grammar.specs.Forms.{◌>>=◌}
 
 -- what is refused so is what the call gives
 pub means_refused : {X Y : Type 0} (view : X → Y) (fault : ImportFault) (meant : Result Y ImportFault) → meant ≡ Err fault → Means view (Err fault) meant

@@ -2,8 +2,9 @@
 use Rattle.std.proofs.Common.{◌≡◌, Bool, true, false, cond, nat_lt, length, Result, Ok, Err, IfOk, refl}
 use Rattle.bf_forest.specs.Trees.{entries_of}
 use Rattle.bf_grammar.specs.declared.fault.Limits.{Limits}
+use Rattle.bf_grammar.specs.Forms.{◌>>=◌}
 use Rattle.bf_history.specs.declared.fault.ImportFault.{ImportFault}
-use Rattle.bf_history.specs.Meanings.{History, ◌>>=◌, within_limits}
+use Rattle.bf_history.specs.Meanings.{History, within_limits}
 
 pub last_step : {D Y : Type 0} (d : Result D ImportFault) (f : D → Y) (P : Y → Type 0) → ((w : D) → d ≡ Ok w → P (f w)) → IfOk (d >>= λ w. Ok (f w)) P
 last_step (Ok w) f P h = h w refl

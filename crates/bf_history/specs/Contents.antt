@@ -14,6 +14,7 @@ use Rattle.bf_grammar.specs.declared.fault.Limits.{Limits}
 use Rattle.bf_grammar.specs.declared.fault.StreamFault.{StreamFault}
 use Rattle.bf_grammar.specs.declared.fault.StreamFault.TheVariants as stream
 use Rattle.bf_grammar.specs.Stream.{IsStream}
+use Rattle.bf_grammar.specs.Forms.{◌>>=◌}
 use Rattle.bf_oid.specs.declared.object.Kind.TheVariants as kind
 use Rattle.bf_oid.specs.declared.object.Mode.{Mode}
 use Rattle.bf_oid.specs.declared.object.Oid.{Oid}
@@ -27,7 +28,7 @@ use Rattle.bf_history.specs.declared.fault.ImportFault.{ImportFault}
 use Rattle.bf_history.specs.declared.fault.ImportFault.TheVariants as faults
 use Rattle.bf_history.specs.declared.fault.ImportFault.TheVariants.{NoContent}
 use Rattle.bf_history.specs.declared.marked.Marked.{Marked}
-use Rattle.bf_history.specs.Meanings.{History, Loading, nothing_loaded, after_command, after_edits, content_named, edit_of, is_module, path_at, ◌>>=◌}
+use Rattle.bf_history.specs.Meanings.{History, Loading, nothing_loaded, after_command, after_edits, content_named, edit_of, is_module, path_at}
 use Rattle.bf_history.specs.Named.{value_of}
 
 -- ---- blobs

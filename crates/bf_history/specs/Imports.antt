@@ -6,9 +6,10 @@ use Rattle.bf_grammar.specs.declared.fault.StreamFault.{StreamFault}
 use Rattle.bf_grammar.specs.declared.fault.StreamFault.TheVariants as stream
 use Rattle.bf_grammar.specs.Place.{Place, start_of}
 use Rattle.bf_grammar.specs.Stream.{Continues}
+use Rattle.bf_grammar.specs.Forms.{◌>>=◌}
 use Rattle.bf_history.specs.declared.fault.ImportFault.{ImportFault}
 use Rattle.bf_history.specs.declared.fault.ImportFault.TheVariants as faults
-use Rattle.bf_history.specs.Meanings.{History, Loading, nothing_loaded, after_command, ◌>>=◌}
+use Rattle.bf_history.specs.Meanings.{History, Loading, nothing_loaded, after_command}
 
 -- after these commands and this end of the stream
 unfoldable pub loaded : Limits → Loading → List Command → Option StreamFault → Result History ImportFault

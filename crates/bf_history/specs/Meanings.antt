@@ -18,7 +18,7 @@ use Rattle.bf_oid.specs.declared.object.Kind.TheVariants as kind
 use Rattle.bf_oid.specs.declared.object.Mode.{Mode}
 use Rattle.bf_oid.specs.declared.object.Mode.TheVariants.{Plain, Exec, Link, Module}
 use Rattle.bf_oid.specs.declared.object.Oid.{Oid}
-use Rattle.bf_grammar.specs.Forms.{colon_number}
+use Rattle.bf_grammar.specs.Forms.{colon_number, ◌>>=◌}
 use Rattle.bf_oid.specs.Object.{name_of, oid_of_hex}
 use Rattle.bf_paths.specs.Quoting.{path_value}
 use Rattle.bf_forest.specs.declared.edits.Edit.{Edit}
@@ -53,12 +53,6 @@ nothing_loaded = record {
   history = record { refs = []; parents = []; files = []; subjects = []; names = []; directories = [] ∷ [] };
   marks = [];
 }
-
-infixl 10 ◌>>=◌
--- the next step, where the first gave a value
-abbrev pub ◌>>=◌ : {X Y : Type 0} → Result X ImportFault → (X → Result Y ImportFault) → Result Y ImportFault
-Ok x >>= next = next x
-Err fault >>= next = Err fault
 
 -- the values of all items, or the first refusal
 unfoldable pub each_of : {X Y : Type 0} → (X → Result Y ImportFault) → List X → Result (List Y) ImportFault

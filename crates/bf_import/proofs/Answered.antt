@@ -6,6 +6,7 @@ use Rattle.bf_grammar.specs.declared.command.Command.{Command}
 use Rattle.bf_grammar.specs.declared.fault.Limits.{Limits}
 use Rattle.bf_grammar.specs.declared.fault.StreamFault.{StreamFault}
 use Rattle.bf_grammar.specs.declared.fault.StreamFault.TheVariants as stream
+use Rattle.bf_grammar.specs.Forms.{◌>>=◌}
 use Rattle.bf_history.specs.declared.fault.ImportFault.{ImportFault}
 use Rattle.bf_history.specs.declared.fault.ImportFault.TheVariants as faults
 use Rattle.bf_history.specs.Contents.{Blobs, Content, Furnishes, MayFurnish, after_command_over, blobs_behind, furnished}
@@ -13,7 +14,7 @@ use Rattle.bf_history.specs.Furnished.{IsFurnishedOver}
 use Rattle.bf_history.specs.Imports as imports
 use Rattle.bf_history.specs.Imports.{MayImport, loaded}
 use Rattle.bf_history.specs.Keeping.{Kept, command_meant, kept_behind}
-use Rattle.bf_history.specs.Meanings.{History, Loading, after_command, ◌>>=◌}
+use Rattle.bf_history.specs.Meanings.{History, Loading, after_command}
 use Rattle.bf_history.proofs.Furnishing.{command_there}
 use Rattle.bf_import.specs.Loading.{IsFurnishedBy, Loaded, Loads, MayLoad, loaded_keeping}
 

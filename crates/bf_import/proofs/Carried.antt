@@ -9,7 +9,7 @@ use Rattle.bf_grammar.specs.declared.command.Commit as given
 use Rattle.bf_grammar.specs.declared.command.Target.{Target}
 use Rattle.bf_grammar.specs.declared.fault.Limits.{Limits}
 use Rattle.bf_oid.specs.declared.object.Oid.{Oid}
-use Rattle.bf_grammar.specs.Forms.{colon_number}
+use Rattle.bf_grammar.specs.Forms.{colon_number, ◌>>=◌}
 use Rattle.bf_oid.specs.Object.{oid_of_hex}
 use Rattle.bf_forest.specs.declared.edits.Edit.{Edit}
 use Rattle.bf_history.specs.declared.fault.ImportFault.{ImportFault}
@@ -19,7 +19,7 @@ use Rattle.bf_history.specs.declared.marked.Marked.TheVariants as marked
 use Rattle.bf_history.specs.Contents.{after_command_over, blobs_behind}
 use Rattle.bf_history.specs.Imports.{Means}
 use Rattle.bf_history.specs.Keeping.{Kept, command_meant, edits_meant, kept_behind, kept_behind_all, kept_with}
-use Rattle.bf_history.specs.Meanings.{History, Loading, ◌>>=◌, each_of, mark_in, ref_in, place_named, ref_of_target, commit_marked, place_by, place_of_target}
+use Rattle.bf_history.specs.Meanings.{History, Loading, each_of, mark_in, ref_in, place_named, ref_of_target, commit_marked, place_by, place_of_target}
 use Rattle.bf_history.specs.Meanings.{begins_with, place_of_commit, with_ref, without_ref, with_mark, is_no_name, after_command, after_commit, after_edits}
 use Rattle.bf_history.specs.Meanings.{after_reset}
 use Rattle.bf_history.proofs.Meant.{means_refused, means_same, means_passed_on, means_then}

@@ -10,11 +10,12 @@ use Rattle.bf_grammar.specs.declared.fault.StreamFault.TheVariants as stream
 use Rattle.bf_grammar.specs.Commands.{command_at}
 use Rattle.bf_grammar.specs.Place.{Place, Gives, start_of}
 use Rattle.bf_grammar.proofs.Laws.{some_continuation}
+use Rattle.bf_grammar.specs.Forms.{◌>>=◌}
 use Rattle.bf_history.specs.declared.fault.ImportFault.{ImportFault}
 use Rattle.bf_history.specs.declared.fault.ImportFault.TheVariants as faults
 use Rattle.bf_history.specs.Imports.{Means}
 use Rattle.bf_history.specs.Keeping.{Kept, command_meant, kept_behind}
-use Rattle.bf_history.specs.Meanings.{◌>>=◌, Loading, nothing_loaded}
+use Rattle.bf_history.specs.Meanings.{Loading, nothing_loaded}
 use Rattle.bf_import.specs.Faults.{IsFaultOf, IsOfMeaning, IsRefusal, IsSameKind, refusal_of_stream}
 use Rattle.bf_import.specs.Growing.{Importing, nothing_imported}
 use Rattle.bf_import.specs.Loading.{Loaded, Loads, LoadsFrom, LoadsOn, MayLoad, ended, loaded_keeping}

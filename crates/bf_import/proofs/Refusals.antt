@@ -13,7 +13,7 @@ use Rattle.bf_grammar.specs.declared.fault.Limit.TheVariants.{Commits, Entries}
 use Rattle.bf_grammar.specs.declared.fault.Limits.{Limits}
 use Rattle.bf_oid.specs.declared.object.Mode.{Mode}
 use Rattle.bf_oid.specs.declared.object.Oid.{Oid}
-use Rattle.bf_grammar.specs.Forms.{colon_number}
+use Rattle.bf_grammar.specs.Forms.{colon_number, ◌>>=◌}
 use Rattle.bf_oid.specs.Object.{oid_of_hex}
 use Rattle.bf_paths.specs.Quoting.{path_value}
 use Rattle.bf_forest.specs.declared.edits.Edit.{Edit}
@@ -26,7 +26,7 @@ use Rattle.bf_history.specs.declared.marked.Marked.TheVariants as marked
 use Rattle.bf_history.specs.Contents.{Blobs, after_command_over, behind_change, edit_over, edits_over, has_content}
 use Rattle.bf_history.specs.Imports.{Means}
 use Rattle.bf_history.specs.Keeping.{Kept, command_meant}
-use Rattle.bf_history.specs.Meanings.{◌>>=◌, Loading, History, each_of, mark_in, commit_marked, place_by, place_of_target, blob_marked, is_module}
+use Rattle.bf_history.specs.Meanings.{Loading, History, each_of, mark_in, commit_marked, place_by, place_of_target, blob_marked, is_module}
 use Rattle.bf_history.specs.Meanings.{content_named, path_at, edit_of, begins_with, within_limits, is_no_name, after_commit, after_edits, after_reset, after_tag}
 use Rattle.bf_history.specs.Meanings.{after_command}
 use Rattle.bf_import.specs.Faults.{IsOfFurnishing, IsOfMeaning, IsRefusal}

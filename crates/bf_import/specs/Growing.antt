@@ -8,6 +8,7 @@ use Rattle.bf_grammar.specs.declared.command.Header.{Header}
 use Rattle.bf_grammar.specs.declared.command.Target.{Target}
 use Rattle.bf_grammar.specs.declared.fault.Limit.TheVariants.{Commits, Entries}
 use Rattle.bf_grammar.specs.declared.fault.Limits.{Limits}
+use Rattle.bf_grammar.specs.Forms.{◌>>=◌}
 use Rattle.bf_oid.specs.declared.object.Kind.TheVariants as kind
 use Rattle.bf_oid.specs.declared.object.Oid.{Oid}
 use Rattle.bf_oid.specs.Object.{name_of}
@@ -23,7 +24,7 @@ use Rattle.bf_history.specs.declared.marked.Marked.TheVariants as marked
 use Rattle.bf_history.specs.Imports.{Means}
 use Rattle.bf_history.specs.Keeping.{Kept, command_meant, edits_meant}
 use Rattle.bf_history.specs.Meanings.{History, Loading, Commit, after_edits, commit_on, each_of, files_from, nothing_loaded}
-use Rattle.bf_history.specs.Meanings.{place_named, place_of_commit, place_of_target, stood, with_commit, with_mark, with_ref, within_limits, without_ref, ◌>>=◌}
+use Rattle.bf_history.specs.Meanings.{place_named, place_of_commit, place_of_target, stood, with_commit, with_mark, with_ref, within_limits, without_ref}
 
 -- a history that grows, and its limits
 pub record Growing : Type 0 where

@@ -6,11 +6,12 @@ use Rattle.bf_grammar.specs.declared.fault.StreamFault.{StreamFault}
 use Rattle.bf_grammar.specs.declared.fault.StreamFault.TheVariants as stream
 use Rattle.bf_grammar.specs.Place.{Place, start_of}
 use Rattle.bf_grammar.specs.Stream.{Continues}
+use Rattle.bf_grammar.specs.Forms.{◌>>=◌}
 use Rattle.bf_history.specs.declared.fault.ImportFault.{ImportFault}
 use Rattle.bf_history.specs.declared.fault.ImportFault.TheVariants as faults
 use Rattle.bf_history.specs.Furnished.{IsFurnishedOver}
 use Rattle.bf_history.specs.Keeping.{Kept, command_meant, kept_behind}
-use Rattle.bf_history.specs.Meanings.{History, Loading, nothing_loaded, ◌>>=◌}
+use Rattle.bf_history.specs.Meanings.{History, Loading, nothing_loaded}
 use Rattle.bf_stream.specs.declared.reader.Reader.{Reader}
 use Rattle.bf_stream.specs.Standing.{reader_place}
 use Rattle.bf_import.specs.Growing.{Importing}

@@ -14,7 +14,7 @@ use Rattle.bf_log.specs.Written.{known_after_all}
 use Rattle.bf_log.proofs.JoinedLogs.{log_joined}
 use Rattle.bf_output.specs.Beginning.{Begun as BegunOf, begun_with_skips, commits_of}
 use Rattle.bf_output.specs.Simulate.{plan_of, ran, run_over, status_of_end}
-use Rattle.bf_output.specs.Told.{Told, ◌>>=◌, told_by}
+use Rattle.bf_output.specs.Told.{Told, told_by}
 use Rattle.bf_search.specs.declared.outcomes.Outcome.{Outcome}
 use Rattle.bf_search.specs.Run.{Run}
 use Rattle.bf_state.specs.Session.{Session}
@@ -28,6 +28,7 @@ use Rattle.bf_many_run.specs.declared.begun.Slot.TheVariants.{Refused, Begun as 
 use Rattle.bf_many_run.specs.declared.list.ListLine.{ListLine}
 use Rattle.bf_many_run.specs.Lists.{IsAskedBy, words_in}
 use Rattle.bf_many_run.specs.Groups.{AreBegun, AreSearchesOf, IsBegunAs, IsBegunBy, all_told, plan_in, told_from, told_over}
+use Rattle.bf_grammar.specs.Forms.{◌>>=◌}
 
 -- ---- what a line asks for
 

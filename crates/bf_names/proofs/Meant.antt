@@ -7,9 +7,10 @@ use Rattle.bf_history.specs.Meanings.{History, place_named}
 use Rattle.bf_names.specs.declared.fault.NameFault.{NameFault}
 use Rattle.bf_names.specs.declared.fault.NameFault.TheVariants.{Unknown, Ambiguous, NoParent, BadForm, NoMemory}
 use Rattle.bf_names.specs.declared.step.Step.{Step}
-use Rattle.bf_names.specs.Names.{◌>>=◌, steps_of, all_steps, is_base, base_of, steps_written, step_texts, is_abbreviation, abbreviated, only_one, by_digits}
+use Rattle.bf_names.specs.Names.{steps_of, all_steps, is_base, base_of, steps_written, step_texts, is_abbreviation, abbreviated, only_one, by_digits}
 use Rattle.bf_names.specs.Names.{by_ref, by_name, first_set, meanings, spelled_out, place_of_base, after_step, after_steps, place_of, name, row_of}
 use Rattle.bf_names.specs.Names.{is_right_side, right_steps, between, range_at, range, first_at}
+use Rattle.bf_grammar.specs.Forms.{◌>>=◌}
 
 abbrev IsMeant : {X : Type 0} → Result X NameFault → Type 0
 IsMeant (Err NoMemory) = ⊥

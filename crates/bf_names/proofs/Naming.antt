@@ -11,7 +11,8 @@ use Rattle.bf_history.specs.Meanings.{place_named, ref_in}
 use Rattle.bf_history.specs.Named.{value_of}
 use Rattle.bf_names.specs.declared.fault.NameFault.{NameFault}
 use Rattle.bf_names.specs.declared.fault.NameFault.TheVariants.{Unknown, Ambiguous, NoParent, BadForm, NoMemory}
-use Rattle.bf_names.specs.Names.{Fails, Means, by_name, by_ref, first_set, meanings, or_else, place_of_base, place_spelled, spelled_out, ◌>>=◌}
+use Rattle.bf_names.specs.Names.{Fails, Means, by_name, by_ref, first_set, meanings, or_else, place_of_base, place_spelled, spelled_out}
+use Rattle.bf_grammar.specs.Forms.{◌>>=◌}
 
 -- ---- what is meant, and what a call gives
 

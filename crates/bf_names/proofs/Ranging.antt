@@ -14,8 +14,9 @@ use Rattle.bf_history.specs.Meanings.{History}
 use Rattle.bf_search.specs.Reach.{places, reach_row, reaches}
 use Rattle.bf_names.specs.declared.fault.NameFault.{NameFault}
 use Rattle.bf_names.specs.declared.step.Step.{Step}
-use Rattle.bf_names.specs.Names.{Fails, Means, between, first_at, name, place_of, range, range_at, right_steps, row_between, row_of, steps_of, ◌>>=◌}
+use Rattle.bf_names.specs.Names.{Fails, Means, between, first_at, name, place_of, range, range_at, right_steps, row_between, row_of, steps_of}
 use Rattle.bf_names.proofs.Naming.{means_exit, means_then}
+use Rattle.bf_grammar.specs.Forms.{◌>>=◌}
 
 -- ---- the rows
 

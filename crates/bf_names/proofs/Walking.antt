@@ -11,7 +11,8 @@ use Rattle.bf_graph.specs.Graph.{parents_of}
 use Rattle.bf_names.specs.declared.fault.NameFault.{NameFault}
 use Rattle.bf_names.specs.declared.fault.NameFault.TheVariants.{NoParent}
 use Rattle.bf_names.specs.declared.step.Step.{Step}
-use Rattle.bf_names.specs.Names.{ancestor, after_step, after_steps, ◌>>=◌}
+use Rattle.bf_names.specs.Names.{ancestor, after_step, after_steps}
+use Rattle.bf_grammar.specs.Forms.{◌>>=◌}
 
 ancestor-suc : (graph : List (List ℕ)) (n place : ℕ) (parent : Option ℕ) → slice_get (parents_of graph place) 0 ≡ parent
     → ancestor graph (suc n) place ≡ option_and_then (ancestor graph n) parent

@@ -16,12 +16,7 @@ use Rattle.bf_names.specs.declared.fault.NameFault.{NameFault}
 use Rattle.bf_names.specs.declared.fault.NameFault.TheVariants.{Unknown, Ambiguous, NoParent, BadForm, NoMemory}
 use Rattle.bf_names.specs.declared.step.Step.{Step}
 use Rattle.bf_names.specs.declared.step.Step.TheVariants.{Ancestor, Parent}
-
-infixl 10 ◌>>=◌
--- the next part of a name, where the first gave a value
-abbrev pub ◌>>=◌ : {X Y : Type 0} → Result X NameFault → (X → Result Y NameFault) → Result Y NameFault
-Ok x >>= next = next x
-Err fault >>= next = Err fault
+use Rattle.bf_grammar.specs.Forms.{◌>>=◌}
 
 -- ---- the form of a name
 

@@ -12,9 +12,10 @@ use Rattle.bf_words.specs.declared.request.Request.{Request}
 use Rattle.bf_words.specs.Words.{word_at}
 use Rattle.bf_output.specs.Beginning.{Begun, name_or_refusal, named, named_if_given, gathered, one_named, all_named, meant, places_meant, all_meant}
 use Rattle.bf_output.specs.Beginning.{between_ends, begun_by_words, begun_by, has_ends, with_ends, with_skips, begun_with_skips}
-use Rattle.bf_output.specs.Told.{Told, ◌>>=◌}
+use Rattle.bf_output.specs.Told.{Told}
 use Rattle.bf_output.proofs.Loading.{IsWhole}
 use Rattle.bf_output.proofs.Places.{name_below, range_row}
+use Rattle.bf_grammar.specs.Forms.{◌>>=◌}
 
 then_ok : {X Y : Type 0} (P : X → Type 0) (Q : Y → Type 0) (a : Result X Told) (next : X → Result Y Told) → IfOk a P
     → ((x : X) → P x → IfOk (next x) Q) → IfOk (a >>= next) Q

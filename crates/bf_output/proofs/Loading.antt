@@ -16,7 +16,7 @@ use Rattle.bf_grammar.specs.declared.command.Target.{Target}
 use Rattle.bf_grammar.specs.declared.fault.Limits.{Limits}
 use Rattle.bf_grammar.specs.declared.fault.StreamFault.{StreamFault}
 use Rattle.bf_oid.specs.declared.object.Oid.{Oid}
-use Rattle.bf_grammar.specs.Forms.{colon_number}
+use Rattle.bf_grammar.specs.Forms.{colon_number, ◌>>=◌}
 use Rattle.bf_oid.specs.Object.{oid_of_hex}
 use Rattle.bf_graph.specs.Graph.{IsGraph}
 use Rattle.bf_graph.proofs.Layouts.{IsGraph-nil, IsGraph-push}
@@ -25,7 +25,7 @@ use Rattle.bf_history.specs.declared.fault.ImportFault.TheVariants.{BadFrom, Uns
 use Rattle.bf_history.specs.declared.marked.Marked.{Marked}
 use Rattle.bf_history.specs.declared.marked.Marked.TheVariants as marked
 use Rattle.bf_history.specs.Imports.{loaded}
-use Rattle.bf_history.specs.Meanings.{History, Loading, Commit, nothing_loaded, ◌>>=◌, each_of, mark_in, ref_in, place_named, commit_marked, place_by}
+use Rattle.bf_history.specs.Meanings.{History, Loading, Commit, nothing_loaded, each_of, mark_in, ref_in, place_named, commit_marked, place_by}
 use Rattle.bf_history.specs.Meanings.{place_of_target, edit_of, begins_with, files_from, commit_on, stood, with_commit, place_of_commit, within_limits}
 use Rattle.bf_history.specs.Meanings.{with_ref, without_ref, with_mark, after_commit, after_reset, after_tag, after_command, is_no_name}
 use Rattle.bf_history.specs.Named.{value_of, with_value, without_value}

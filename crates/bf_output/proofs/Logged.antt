@@ -4,6 +4,7 @@ use Rattle.std.proofs.Common.{subst, ◌∙◌, append_assoc, if◌then◌else�
 use Rattle.bf_grammar.specs.Limits.{standard_limits}
 use Rattle.bf_grammar.specs.declared.fault.StreamFault.{StreamFault}
 use Rattle.bf_grammar.specs.declared.fault.StreamFault.TheVariants as stream
+use Rattle.bf_grammar.specs.Forms.{◌>>=◌}
 use Rattle.bf_history.specs.declared.fault.ImportFault.{ImportFault}
 use Rattle.bf_history.specs.declared.fault.ImportFault.TheVariants as faults
 use Rattle.bf_history.specs.Imports.{Loads}
@@ -38,7 +39,7 @@ use Rattle.bf_output.specs.Refusals.{name_refused, no_content, refused_at, waiti
 use Rattle.bf_output.specs.Returning.{FileGiven}
 use Rattle.bf_output.specs.Simulate.{IsRunTold, IsSimulated, plan_of, run_over}
 use Rattle.bf_output.specs.Tested.{Tested, IsTested, run_on, told_of_run}
-use Rattle.bf_output.specs.Told.{Told, ◌>>=◌}
+use Rattle.bf_output.specs.Told.{Told}
 use Rattle.bf_output.specs.Traces.{traced_if}
 use Rattle.bf_output.proofs.Returning.{log_gives_back, goes_on_from_start, goes_on_from_parts}
 

@@ -12,12 +12,13 @@ use Rattle.bf_graph.specs.Graph.{IsGraph, parents_of}
 use Rattle.bf_history.specs.Meanings.{History, place_named, ref_in}
 use Rattle.bf_names.specs.declared.fault.NameFault.{NameFault}
 use Rattle.bf_names.specs.declared.fault.NameFault.TheVariants.{Unknown, NoParent, BadForm}
-use Rattle.bf_names.specs.Names.{◌>>=◌, is_itself, is_base, number_of, step_of, steps_written, step_texts, all_steps, steps_of, right_steps, or_else, first_set}
+use Rattle.bf_names.specs.Names.{is_itself, is_base, number_of, step_of, steps_written, step_texts, all_steps, steps_of, right_steps, or_else, first_set}
 use Rattle.bf_names.specs.Names.{meanings, is_abbreviation, abbreviated, only_one, by_digits, by_ref, by_name, spelled_out, place_of_base, ancestor, parent}
 use Rattle.bf_names.specs.Names.{after_step, after_steps, place_of, name, row_of, between, first_at, range_at, range, base_of}
 use Rattle.bf_search.specs.Reach.{reaches}
 use Rattle.bf_search.proofs.Turns.{range_within}
 use Rattle.bf_output.proofs.Loading.{IsWhole, value_is, named_below}
+use Rattle.bf_grammar.specs.Forms.{◌>>=◌}
 
 -- ---- the steps of a name
 

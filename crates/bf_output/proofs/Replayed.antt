@@ -12,9 +12,10 @@ use Rattle.bf_io.specs.declared.shelf.LoadFault.TheVariants.{Missing, TooLong, F
 use Rattle.bf_terms.specs.Words.{term_fault}
 use Rattle.bf_output.specs.Beginning.{Begun, begun_behind, begun_by_log, has_ends}
 use Rattle.bf_output.specs.Logs.{lines_or_refusal, replayed_or_refusal, replayed_log}
-use Rattle.bf_output.specs.Told.{Told, ◌>>=◌}
+use Rattle.bf_output.specs.Told.{Told}
 use Rattle.bf_output.proofs.Closing.{accepted_replayed, closed_replayed}
 use Rattle.bf_output.proofs.Ended.{read_ended}
+use Rattle.bf_grammar.specs.Forms.{◌>>=◌}
 
 -- the bytes of a file lead to this
 pub record IsReplayed (history : History) (file : Result (List ℕ) LoadFault) (replayed : Replayed) : Type 0 where

@@ -19,7 +19,8 @@ use Rattle.bf_words.specs.declared.request.Request.{Request}
 use Rattle.bf_words.specs.Words.{word_at}
 use Rattle.bf_output.specs.Logs.{replayed_log}
 use Rattle.bf_output.specs.Refusals.{name_refused, waiting}
-use Rattle.bf_output.specs.Told.{Told, ◌>>=◌}
+use Rattle.bf_output.specs.Told.{Told}
+use Rattle.bf_grammar.specs.Forms.{◌>>=◌}
 
 -- what the texts say of the commits of a history
 abbrev pub commits_of : History → Commits

@@ -1,6 +1,7 @@
 -- A log that is replayed: its file is loaded, read and replayed, in this order.
 use Rattle.std.specs.Prelude.{ℕ, List, Result, Ok, Err}
 use Rattle.bf_grammar.specs.declared.fault.Limit.TheVariants.{Log}
+use Rattle.bf_grammar.specs.Forms.{◌>>=◌}
 use Rattle.bf_history.specs.Meanings.{History}
 use Rattle.bf_log.specs.Replay.{Replayed, ReplayFault, Name, NotStarted, Term}
 use Rattle.bf_names.specs.declared.fault.NameFault.{NameFault}
@@ -10,7 +11,7 @@ use Rattle.bf_replay.specs.Meaning.{replay_in}
 use Rattle.bf_io.specs.declared.shelf.LoadFault.{LoadFault}
 use Rattle.bf_io.specs.declared.shelf.LoadFault.TheVariants.{Missing, TooLong, Failed, NoMemory}
 use Rattle.bf_output.specs.Refusals.{too_large, log_refused, no_file, file_fault, no_memory}
-use Rattle.bf_output.specs.Told.{Told, ◌>>=◌}
+use Rattle.bf_output.specs.Told.{Told}
 
 -- the most bytes that a log may have
 abbrev pub longest_log : ℕ

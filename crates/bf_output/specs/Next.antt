@@ -11,7 +11,8 @@ use Rattle.bf_terms.specs.Texts.{ask_lines}
 use Rattle.bf_words.specs.declared.request.Request.{Request}
 use Rattle.bf_output.specs.Beginning.{Begun, commits_of, log_on, begun_with_skips}
 use Rattle.bf_output.specs.Simulate.{status_of_ask}
-use Rattle.bf_output.specs.Told.{Told, ◌>>=◌}
+use Rattle.bf_output.specs.Told.{Told}
+use Rattle.bf_grammar.specs.Forms.{◌>>=◌}
 
 -- the entries that one ask writes: the skipped merge bases that it passes over, and its end
 abbrev pub asked_entries : Step → List Entry

@@ -10,7 +10,8 @@ use Rattle.bf_output.specs.declared.status.Status.TheVariants as status
 use Rattle.bf_output.specs.Beginning.{commits_of}
 use Rattle.bf_output.specs.Logs.{replayed_log}
 use Rattle.bf_output.specs.Refusals.{no_file}
-use Rattle.bf_output.specs.Told.{Told, ◌>>=◌}
+use Rattle.bf_output.specs.Told.{Told}
+use Rattle.bf_grammar.specs.Forms.{◌>>=◌}
 
 abbrev pub normal_log : History → Replayed → Told
 normal_log history replayed = record {

@@ -6,12 +6,6 @@ pub record Told : Type 0 where
   pub status : Status
   pub text : List ℕ
 
-infixl 10 ◌>>=◌
--- the next step of a command, where no step before it was refused
-abbrev pub ◌>>=◌ : {X Y : Type 0} → Result X Told → (X → Result Y Told) → Result Y Told
-Ok x >>= next = next x
-Err told >>= next = Err told
-
 -- what is answered in the end: a refusal, or what the last step tells
 abbrev pub told_by : Result Told Told → Told
 told_by (Ok told) = told

@@ -13,6 +13,7 @@ use Rattle.bf_grammar.specs.declared.command.Header.{Header}
 use Rattle.bf_grammar.specs.declared.command.Target.{Target}
 use Rattle.bf_grammar.specs.declared.fault.Limits.{Limits}
 use Rattle.bf_grammar.specs.declared.fault.StreamFault.{StreamFault}
+use Rattle.bf_grammar.specs.Forms.{◌>>=◌}
 use Rattle.bf_oid.specs.declared.object.Kind.TheVariants as kind
 use Rattle.bf_oid.specs.declared.object.Oid.{Oid}
 use Rattle.bf_oid.specs.Object.{object_header}
@@ -24,7 +25,7 @@ use Rattle.bf_history.specs.declared.fault.ImportFault.TheVariants.{BadFrom, Uns
 use Rattle.bf_history.specs.declared.marked.Marked.TheVariants as marked
 use Rattle.bf_history.specs.Bodies.{commit_body, without_empty_lines}
 use Rattle.bf_history.specs.Imports.{loaded}
-use Rattle.bf_history.specs.Meanings.{History, Loading, Commit, nothing_loaded, ◌>>=◌, each_of, place_named, place_of_target, edit_of, begins_with, files_from}
+use Rattle.bf_history.specs.Meanings.{History, Loading, Commit, nothing_loaded, each_of, place_named, place_of_target, edit_of, begins_with, files_from}
 use Rattle.bf_history.specs.Meanings.{name_at, commit_on, stood, with_commit, place_of_commit, within_limits, with_ref, without_ref, with_mark, after_commit}
 use Rattle.bf_history.specs.Meanings.{after_reset, after_tag, after_command, is_no_name}
 use Rattle.bf_history.proofs.Steps.{last_step, within_same}

@@ -1,23 +1,22 @@
 -- A name in hexadecimal digits means its commit.
 use Rattle.std.proofs.Common.{◌≡◌, ℕ, zero, suc, ◌+◌, ◌/◌, ◌%◌, ◌<◌, ◌==◌, ◌&&◌, ◌||◌, Bool, true, false, not, cond, List, [], ◌∷◌, ◌++◌, length, take, drop}
-use Rattle.std.proofs.Common.{map, codes, get_or, is_some, Option, Some, None, Result, Ok, Err, refl, sym, ap, ◌∙◌, arith}
+use Rattle.std.proofs.Common.{map, codes, get_or, is_some, Option, Some, None, Ok, Err, refl, ap, ◌∙◌, arith}
 use Rattle.std.proofs.lemmas.Bool.{and_from, and_parts, not-true, cond-false, cond-true, or_from}
 use Rattle.std.specs.Cmp.Lexicographic.{pointwise}
-use Rattle.std.specs.List.{list_all, position, position_or_len, prefix_len, range_with_len, slice_index, starts_with, before_first}
+use Rattle.std.specs.List.{list_all, position, position_or_len, range_with_len, slice_index, starts_with}
 use Rattle.std.specs.Option.{ok_or, option_map}
 use Rattle.hex.proofs.HexLemmas.{length-encode_with}
-use Rattle.hex.specs.Hex.{encode_with, encode_lower, lower_digits, IsBytes}
+use Rattle.hex.specs.Hex.{encode_with, encode_lower, lower_digits}
 use Rattle.bf_oid.specs.declared.object.Oid.{Oid}
 use Rattle.bf_oid.specs.Object.{oid_of_hex}
-use Rattle.bf_history.specs.Meanings.{History, name_at, place_named}
-use Rattle.bf_names.specs.declared.fault.NameFault.{NameFault}
+use Rattle.bf_history.specs.Meanings.{History, place_named}
 use Rattle.bf_names.specs.declared.fault.NameFault.TheVariants.{Unknown, BadForm}
-use Rattle.bf_names.specs.Names.{first_at, stands_in, is_sign, base_of, is_base, step_texts, steps_written, all_steps, steps_of, spelled_out, by_name}
-use Rattle.bf_names.specs.Names.{place_spelled, place_of_base, place_of, after_steps, name, ◌>>=◌}
+use Rattle.bf_names.specs.Names.{stands_in, is_sign, base_of, is_base, step_texts, steps_written, all_steps, steps_of, spelled_out, by_name}
+use Rattle.bf_names.specs.Names.{place_spelled, place_of_base, place_of, after_steps, name}
 use Rattle.bf_tables.proofs.Positions.{position_more}
 use Rattle.bf_oid.proofs.Texts.{oid_of_hex-encode_lower}
-use Rattle.bf_terms.specs.Texts.{hex_of}
-use Rattle.bf_replay.specs.Kept.{IsWholeName, commits_of}
+use Rattle.bf_replay.specs.Kept.{IsWholeName}
+use Rattle.bf_grammar.specs.Forms.{◌>>=◌}
 
 -- ---- digits are none of the signs of a name
 

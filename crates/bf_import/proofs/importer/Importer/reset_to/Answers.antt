@@ -2,11 +2,12 @@ use Rattle.std.proofs.Common.{ℕ, Result, Ok, sym, ◌∙◌, ap}
 use Rattle.bf_history.specs.declared.fault.ImportFault.{ImportFault}
 use Rattle.bf_history.specs.declared.fault.ImportFault.TheVariants.{BadFrom, NoMemory}
 use Rattle.std.proofs.Common.{Some}
-use Rattle.bf_history.specs.Meanings.{Loading, ◌>>=◌, place_of_target, is_no_name, with_ref, after_reset}
+use Rattle.bf_history.specs.Meanings.{Loading, place_of_target, is_no_name, with_ref, after_reset}
 use Rattle.bf_history.proofs.Meant.{means_same, means_at_exit, means_passed_on}
 use Rattle.bf_import.specs.Growing.{Importing}
 use Rattle.bf_import.proofs.Carried.{reset_cleared, reset_on}
 use Rattle.bf_import.proofs.importer.Importer.reset_to.Goals as goal
+use Rattle.bf_grammar.specs.Forms.{◌>>=◌}
 
 pub returns-then-is_no_name-clause-loading : goal.returns-then-is_no_name-clause-loading
 returns-then-is_no_name-clause-loading c =

@@ -2,11 +2,12 @@ use Rattle.std.proofs.Common.{ℕ, Result, Ok, ◌++◌, codes, sym, ◌∙◌, 
 use Rattle.bf_history.specs.declared.fault.ImportFault.{ImportFault}
 use Rattle.bf_history.specs.declared.fault.ImportFault.TheVariants.{Unsupported}
 use Rattle.bf_history.specs.declared.marked.Marked.TheVariants as marked
-use Rattle.bf_history.specs.Meanings.{Loading, ◌>>=◌, place_of_target, with_ref, with_mark, after_tag}
+use Rattle.bf_history.specs.Meanings.{Loading, place_of_target, with_ref, with_mark, after_tag}
 use Rattle.bf_history.proofs.Meant.{means_passed_on}
 use Rattle.bf_import.specs.Growing.{Importing}
 use Rattle.bf_import.proofs.Carried.{tag_set}
 use Rattle.bf_import.proofs.importer.Importer.take_tag.Goals as goal
+use Rattle.bf_grammar.specs.Forms.{◌>>=◌}
 
 pub returns-in_err-place-clause-loading : goal.returns-in_err-place-clause-loading
 unfolding after_tag
