@@ -1,6 +1,6 @@
 pub mod Keeping
 pub mod Remembering
-mod Worked
+mod WorkedRecalls
 mod Filled
 mod Fitting
 mod Images
