@@ -1,4 +1,8 @@
-//! What a core has consumed.
+//! What a core has consumed: the run on the outcomes that are known, and the tree of guesses behind it.
+//!
+//! The walk and the withdrawn workers are prepared before anything is committed: the entries take the last
+//! memory, and what follows takes none. So after want of memory a core is as before, but for nodes that were
+//! made.
 ghost use Rattle.std.specs.Prelude.{◌≡◌, ◌↔◌, ◌++◌, ℕ, List, [], Option, Some, None, length, All, Contains, IfOk, OnOk, OnErr, IsSome};
 ghost use Rattle.std.specs.List.Sorted.{IsStrictlyIncreasing};
 ghost use Rattle.bf_graph.specs.Graph.{IsGraph};

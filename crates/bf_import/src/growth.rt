@@ -1,4 +1,6 @@
-//! A history that grows by its commits and refs.
+//! A history that grows by its commits and refs: its six parts, and the limits, which no history shows. A
+//! `History` is a `Growth` that grows no more. Where memory runs out between two parts, the name that was added
+//! is taken back (`Names::truncate`), so that after an error all is as before.
 ghost use Rattle.std.specs.Prelude.{◌≡◌, ◌≤◌, ◌<◌, [], ◌∷◌, ◌++◌, if◌then◌else◌, length, is_none, All, IfOk, IfSome, IsTrue, OnOk, OnErr, IsErrOf};
 ghost use Rattle.std.specs.List.{slice_index_or};
 ghost use Rattle.bf_forest.specs.declared.trees.ForestFault.TheVariants as faults;

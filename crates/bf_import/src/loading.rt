@@ -1,4 +1,8 @@
 //! From a stream to its history.
+//!
+//! The window is made before the source is lent to a reader (`Reader::with_window`): what a constructor that
+//! fails leaves of a source that was lent to it cannot be said, and a fault of `import` has its cause on the
+//! source.
 ghost use Rattle.std.specs.Prelude.{◌≡◌, false, IfErr, IfOk, IsErrOf, OnOk};
 ghost use Rattle.bf_grammar.specs.Limits.{IsWithin};
 ghost use Rattle.bf_history.specs.Contents.{MayFurnish};
