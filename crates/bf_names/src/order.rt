@@ -1,5 +1,4 @@
-//! The names of a history's commits in order, in which an abbreviation is found by binary search. They are kept
-//! as digits, since an abbreviation of an odd number of digits is the front of a text and not of bytes.
+//! The names of a history's commits in order, in which an abbreviation is found by binary search.
 ghost use Rattle.std.specs.Prelude.{◌≡◌, ◌≤◌, length, IfOk};
 ghost use Rattle.std.specs.Cmp.Lexicographic.{slice_cmp};
 ghost use Rattle.std.specs.Ordering.{nat_cmp};
