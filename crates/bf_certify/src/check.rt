@@ -38,6 +38,7 @@ pub fn check<S: Source, F: Shelf, K: Sink>(
     shelf: &mut F,
     out: &mut K,
 ) -> Status
+    // What it answers.
     ensures answers { (tested : Tested) →
         let met = met_untested words.now (met_source S.Source stream.old stream.new)
         (met_shelf F.Shelf shelf.old shelf.new) tested (met_sink K.Sink out.old out.new) in
@@ -46,11 +47,13 @@ pub fn check<S: Source, F: Shelf, K: Sink>(
         let met = met_untested words.now (met_source S.Source stream.old stream.new)
         (met_shelf F.Shelf shelf.old shelf.new) tested (met_sink K.Sink out.old out.new) in
         IsComplete (to_check met) met result }
+    // A fault of a device is answered only where its count of faults rose.
     ensures read { result ≡ Status.ReadFault → Rose (S.faults stream.old) (S.faults stream.new) }
     ensures file { result ≡ Status.ShelfFault → Rose (F.faults shelf.old) (F.faults shelf.new) }
     ensures write { result ≡ Status.WriteFault → Rose (K.faults out.old) (K.faults out.new) }
     ensures no_test { (place : ℕ) → result ≢ Status.TestFault place }
     ensures no_journal { result ≢ Status.JournalFault }
+    // What the words do not ask for is left as it was.
     ensures unread { IsLeftUnless (checks_file words.now) stream.old stream.new }
     ensures unloaded { IsLeftUnless (checks_file words.now) shelf.old shelf.new }
 {

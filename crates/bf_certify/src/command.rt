@@ -45,6 +45,7 @@ pub fn certify<R: Host, S: Source, F: Shelf, T: Tester, K: Sink>(
 ) -> Status
     requires fresh { T.answers tester.old ≡ [] }
     requires whole { T.is_split tester.old ≡ false }
+    // What it answers.
     ensures answers { let met = met words.now (met_source S.Source stream.old stream.new)
         (met_shelf F.Shelf shelf.old shelf.new) (met_tester T.Tester tester.old tester.new)
         (met_sink K.Sink out.old out.new) in
@@ -53,12 +54,14 @@ pub fn certify<R: Host, S: Source, F: Shelf, T: Tester, K: Sink>(
         (met_shelf F.Shelf shelf.old shelf.new) (met_tester T.Tester tester.old tester.new)
         (met_sink K.Sink out.old out.new) in
         IsComplete (to_certify met) met result }
+    // A fault of a device is answered only where its count of faults rose.
     ensures read { result ≡ Status.ReadFault → Rose (S.faults stream.old) (S.faults stream.new) }
     ensures file { result ≡ Status.ShelfFault → Rose (F.faults shelf.old) (F.faults shelf.new) }
     ensures write { result ≡ Status.WriteFault → Rose (K.faults out.old) (K.faults out.new) }
     ensures no_journal { result ≢ Status.JournalFault }
     ensures test { HasTestCause (tests (request_to_certify words.now))
         (met_tester T.Tester tester.old tester.new) result }
+    // What the words do not ask for is left as it was, and so is the tester by a refusal.
     ensures used { IsUsedFor (request_to_certify words.now) words.now
         (tested_by T.Tester tester.old) (tested_by T.Tester tester.new) }
     ensures unread { IsLeftUnless (reads (request_to_certify words.now)) stream.old stream.new }

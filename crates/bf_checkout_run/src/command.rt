@@ -42,6 +42,7 @@ pub fn checkout<R: Host, S: Source, F: Shelf, U: FolderTester<D>, D: Folder, K: 
 ) -> Status
     requires fresh { U.answers shop.old.tester ≡ [] }
     requires whole { U.is_split shop.old.tester ≡ false }
+    // What it answers.
     ensures answers { let met = met words.now (met_source S.Source stream.old stream.new)
         (met_shelf F.Shelf shelf.old shelf.new) (met_tester ⟦<Workshop<U, D> as Tester>⟧ shop.old shop.new)
         (met_sink K.Sink out.old out.new) in
@@ -50,12 +51,14 @@ pub fn checkout<R: Host, S: Source, F: Shelf, U: FolderTester<D>, D: Folder, K: 
         (met_shelf F.Shelf shelf.old shelf.new) (met_tester ⟦<Workshop<U, D> as Tester>⟧ shop.old shop.new)
         (met_sink K.Sink out.old out.new) in
         IsComplete (to_checkout met) met result }
+    // A fault of a device is answered only where its count of faults rose.
     ensures read { result ≡ Status.ReadFault → Rose (S.faults stream.old) (S.faults stream.new) }
     ensures file { result ≡ Status.ShelfFault → Rose (F.faults shelf.old) (F.faults shelf.new) }
     ensures write { result ≡ Status.WriteFault → Rose (K.faults out.old) (K.faults out.new) }
     ensures no_journal { result ≢ Status.JournalFault }
     ensures test { let shops = met_tester ⟦<Workshop<U, D> as Tester>⟧ shop.old shop.new in
         HasTestCause (tests (asked_by words.now)) shops result }
+    // What the words do not ask for is left as it was, and so is the workshop by a refusal.
     ensures used { let by = ⟦<Workshop<U, D> as Tester>⟧ in
         IsUsedFor (asked_by words.now) words.now (tested_by by shop.old) (tested_by by shop.new) }
     ensures unread { IsLeftUnless (reads (asked_by words.now)) stream.old stream.new }
@@ -63,6 +66,7 @@ pub fn checkout<R: Host, S: Source, F: Shelf, U: FolderTester<D>, D: Folder, K: 
     ensures unfurnished { IsLeftUnless (reads (asked_by words.now)) shop.old shop.new }
     ensures untested { let shops = met_tester ⟦<Workshop<U, D> as Tester>⟧ shop.old shop.new in
         IsUntestedIfRefused shops result }
+    // What the workshop tested in.
     ensures is_split { U.is_split shop.new.tester ≡ false }
     ensures grounds { let grounds = grounds_of shop.new.content in
         HasGroundsOf (S.left stream.old) (U.answers shop.new.tester) grounds }

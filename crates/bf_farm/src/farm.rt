@@ -135,11 +135,13 @@ pub fn run_farm<R: Host, T: Tester>(
     requires is_split { T.is_split tester.old ≡ false }
     requires some { 1 ≤ workers }
     requires most { workers ≤ 64 }
+    // On success: the report.
     ensures report { IfOk result (IsReportOn case.entry) }
     ensures history { IfOk result (HasHistoryOn case.entry) }
     ensures sound { IfOk result (IsSoundBy T.Tester tester.old tester.new case.entry.names.now) }
     ensures workers { IfOk result (IsByWorkers workers) }
     ensures fault { IfOk result (HasFaultBy T.Tester tester.old tester.new) }
+    // Whatever comes: the tester is of its manner, and keeps its answers.
     ensures later { T.faults tester.old ≤ T.faults tester.new }
     ensures manner { KeepsManner T.Tester tester.old tester.new }
     ensures own { HasAnswersOf T.Tester tester.new tester.old }

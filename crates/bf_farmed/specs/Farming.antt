@@ -1,20 +1,19 @@
--- What a call of the whole program answers, by the command that its first word gives.
+-- What a call of the whole program has to do, by the command that its first word gives.
 use Rattle.std.specs.Prelude.{ℕ, Bool, false, List, Option, Some, None}
 use Rattle.bf_output.specs.declared.status.Status.{Status}
-use Rattle.bf_output.specs.Output.{IsUsedFor, reads}
+use Rattle.bf_output.specs.Output.{IsUsedFor, asks_file, reads}
 use Rattle.bf_output.specs.Tested.{Tested}
 use Rattle.bf_tester.specs.declared.answer.Answer.{Answer}
 use Rattle.bf_words.specs.Words.{request, word_at}
-use Rattle.bf_answers.specs.Answers as any
-use Rattle.bf_answers.specs.Answers.{Command, IsUntested}
+use Rattle.bf_answers.specs.Answers.{Answers, Command, HasTestCause, IsComplete, IsUntested}
 use Rattle.bf_answers.specs.Devices.{Met, TesterMet}
 use Rattle.bf_program.specs.Answers.{asked_in}
-use Rattle.bf_program.specs.Printing as printing
-use Rattle.bf_certify.specs.Checking.{to_check}
+use Rattle.bf_program.specs.Printing.{PrintsLog}
+use Rattle.bf_certify.specs.Checking.{checks_file, to_check}
 use Rattle.bf_certify.specs.Certifying.{to_certify}
 use Rattle.bf_checkout_run.specs.CheckingOut.{asked_by, to_checkout}
 use Rattle.bf_journal_run.specs.Journalling.{IsRecalledBy, to_journal}
-use Rattle.bf_many_run.specs.Command.{to_many}
+use Rattle.bf_many_run.specs.Command.{loads_list, to_many}
 use Rattle.bf_commands.specs.declared.order.Order.{Order}
 use Rattle.bf_commands.specs.declared.order.Order.TheVariants.{Certify, Check, Checkout, Journal, Many}
 use Rattle.bf_commands.specs.Journal.{DiskMet, request_to_journal}
@@ -24,126 +23,156 @@ use Rattle.bf_commands.specs.Orders.{order_of, request_to_certify}
 abbrev pub order_in : List (List ℕ) → Option Order
 order_in words = order_of (word_at words 0)
 
+-- ---- the devices that a line asks for
+
+pub record Asks : Type 0 where
+  pub stream : Bool  -- its bytes
+  pub file : Bool    -- one of the shelf
+  pub shop : Bool    -- folders to test in
+  pub disk : Bool    -- that keeps a journal
+
+-- by its words, at each order; a line without one asks as `bisect_main` does
+abbrev pub asks_of : Option Order → List (List ℕ) → Asks
+asks_of None words = record {
+  stream = reads (request words);
+  file = asks_file (request words);
+  shop = false;
+  disk = false;
+}
+asks_of (Some Certify) words = record {
+  stream = reads (request_to_certify words);
+  file = asks_file (request_to_certify words);
+  shop = false;
+  disk = false;
+}
+asks_of (Some Check) words = record {
+  stream = checks_file words;
+  file = checks_file words;
+  shop = false;
+  disk = false;
+}
+asks_of (Some Checkout) words = record {
+  stream = reads (asked_by words);
+  file = asks_file (asked_by words);
+  shop = reads (asked_by words);
+  disk = false;
+}
+asks_of (Some Journal) words = record {
+  stream = reads (request_to_journal words);
+  file = asks_file (request_to_journal words);
+  shop = false;
+  disk = reads (request_to_journal words);
+}
+asks_of (Some Many) words = record {
+  stream = loads_list words;
+  file = loads_list words;
+  shop = false;
+  disk = false;
+}
+
 -- ---- what a call met
 
--- the devices of every command, the workshop that tests commits in folders, and the disk of a journal
+-- The devices of every command, the workshop that tests commits in folders, and the disk of a journal. What the tester
+-- remembers in the end, and what it showed before, once it remembered that.
 pub record FarmMet : Type 1 where
   pub met : Met
   pub shop : TesterMet
   pub disk : DiskMet
+  pub recalled : List Answer
+  pub recalling : Tested
 
-abbrev pub farm_met : Met → TesterMet → DiskMet → FarmMet
-farm_met met shop disk = record { met = met; shop = shop; disk = disk }
+abbrev pub farm_met : Met → TesterMet → DiskMet → List Answer → Tested → FarmMet
+farm_met met shop disk recalled recalling = record {
+  met = met;
+  shop = shop;
+  disk = disk;
+  recalled = recalled;
+  recalling = recalling;
+}
 
 -- a command that tests in folders has the workshop for its tester
 abbrev pub in_folders : FarmMet → Met
 in_folders farm = record farm.met { tester = farm.shop }
 
--- ---- what each order asks for
+-- ---- what it has to do
 
--- what its command meets
-abbrev pub met_for : Option Order → FarmMet → Met
-met_for None farm = farm.met
-met_for (Some Certify) farm = farm.met
-met_for (Some Check) farm = farm.met
-met_for (Some Checkout) farm = in_folders farm
-met_for (Some Journal) farm = farm.met
-met_for (Some Many) farm = farm.met
+pub record Duty : Type 1 where
+  pub command : Command            -- what is told, and what it may ask for
+  pub met : Met                    -- what this command meets
+  pub Logs : Status → Type 0       -- what is said of the log that it prints
+  pub Uses : Type 0                -- what becomes of the tester
+  pub UsesShop : Type 0            -- and of the workshop
+  pub Recalls : Type 0             -- what the tester remembers in the end
 
--- its command; a line without an order asks as ever
-abbrev pub ordered : Option Order → FarmMet → Command
-ordered None farm = asked_in farm.met
-ordered (Some Certify) farm = to_certify farm.met
-ordered (Some Check) farm = to_check farm.met
-ordered (Some Checkout) farm = to_checkout (in_folders farm)
-ordered (Some Journal) farm = to_journal farm.met farm.disk
-ordered (Some Many) farm = to_many farm.met
-
--- How it uses the tester, which is another one once it remembers outcomes.
-abbrev pub IsUsedAs : Option Order → FarmMet → Tested → Type 0
-IsUsedAs None farm recalling =
-    IsUsedFor (request farm.met.words) farm.met.words farm.met.tester.before farm.met.tester.after
-IsUsedAs (Some Certify) farm recalling =
-    IsUsedFor (request_to_certify farm.met.words) farm.met.words farm.met.tester.before farm.met.tester.after
-IsUsedAs (Some Check) farm recalling = IsUntested farm.met.tester
-IsUsedAs (Some Checkout) farm recalling = IsUntested farm.met.tester
-IsUsedAs (Some Journal) farm recalling =
-    IsUsedFor (request_to_journal farm.met.words) farm.met.words recalling farm.met.tester.after
-IsUsedAs (Some Many) farm recalling = IsUntested farm.met.tester
-
--- how it uses the workshop
-abbrev pub IsShopUsedAs : Option Order → FarmMet → Type 0
-IsShopUsedAs None farm = IsUntested farm.shop
-IsShopUsedAs (Some Certify) farm = IsUntested farm.shop
-IsShopUsedAs (Some Check) farm = IsUntested farm.shop
-IsShopUsedAs (Some Checkout) farm =
-    IsUsedFor (asked_by farm.met.words) farm.met.words farm.shop.before farm.shop.after
-IsShopUsedAs (Some Journal) farm = IsUntested farm.shop
-IsShopUsedAs (Some Many) farm = IsUntested farm.shop
-
--- and the log that it prints: a line without an order prints its log as ever
-abbrev pub PrintsLogAs : Option Order → FarmMet → Status → Type 0
-PrintsLogAs None farm result = printing.PrintsLog farm.met result
-PrintsLogAs (Some order) farm result = Unit {0}
-
--- what the tester remembers where it has answers: a run that is kept remembers what its journal kept
-abbrev pub IsRecalledAs : Option Order → FarmMet → List Answer → Type 0
-IsRecalledAs None farm recalled = Unit {0}
-IsRecalledAs (Some Certify) farm recalled = Unit {0}
-IsRecalledAs (Some Check) farm recalled = Unit {0}
-IsRecalledAs (Some Checkout) farm recalled = Unit {0}
-IsRecalledAs (Some Journal) farm recalled =
+-- at each order; a line without one has that of `bisect_main`
+abbrev pub duty_of : Option Order → FarmMet → Duty
+duty_of None farm = record {
+  command = asked_in farm.met;
+  met = farm.met;
+  Logs = PrintsLog farm.met;
+  Uses = IsUsedFor (request farm.met.words) farm.met.words farm.met.tester.before farm.met.tester.after;
+  UsesShop = IsUntested farm.shop;
+  Recalls = Unit {0};
+}
+duty_of (Some Certify) farm = record {
+  command = to_certify farm.met;
+  met = farm.met;
+  Logs = λ result. Unit {0};
+  Uses = IsUsedFor (request_to_certify farm.met.words) farm.met.words farm.met.tester.before farm.met.tester.after;
+  UsesShop = IsUntested farm.shop;
+  Recalls = Unit {0};
+}
+duty_of (Some Check) farm = record {
+  command = to_check farm.met;
+  met = farm.met;
+  Logs = λ result. Unit {0};
+  Uses = IsUntested farm.met.tester;
+  UsesShop = IsUntested farm.shop;
+  Recalls = Unit {0};
+}
+duty_of (Some Checkout) farm = record {
+  command = to_checkout (in_folders farm);
+  met = in_folders farm;
+  Logs = λ result. Unit {0};
+  Uses = IsUntested farm.met.tester;
+  UsesShop = IsUsedFor (asked_by farm.met.words) farm.met.words farm.shop.before farm.shop.after;
+  Recalls = Unit {0};
+}
+duty_of (Some Journal) farm = record {
+  command = to_journal farm.met farm.disk;
+  met = farm.met;
+  Logs = λ result. Unit {0};
+  Uses = IsUsedFor (request_to_journal farm.met.words) farm.met.words farm.recalling farm.met.tester.after;
+  UsesShop = IsUntested farm.shop;
+  Recalls =
     IsRecalledBy farm.disk (request_to_journal farm.met.words) farm.met.words farm.met.source.left
-    farm.met.tester.after.answers recalled
-IsRecalledAs (Some Many) farm recalled = Unit {0}
+    farm.met.tester.after.answers farm.recalled;
+}
+duty_of (Some Many) farm = record {
+  command = to_many farm.met;
+  met = farm.met;
+  Logs = λ result. Unit {0};
+  Uses = IsUntested farm.met.tester;
+  UsesShop = IsUntested farm.shop;
+  Recalls = Unit {0};
+}
 
--- whether it tests in folders, and whether it keeps a journal
-abbrev pub furnishes : Option Order → List (List ℕ) → Bool
-furnishes None words = false
-furnishes (Some Certify) words = false
-furnishes (Some Check) words = false
-furnishes (Some Checkout) words = reads (asked_by words)
-furnishes (Some Journal) words = false
-furnishes (Some Many) words = false
+-- A call did what it had to.
+pub record IsDone (duty : Duty) (result : Status) : Type 0 where
+  -- what the sink gained, by the status
+  pub answers : Answers duty.command duty.met result
+  -- where no device failed, and no test, the text is that of the command, with its status; or memory ran out
+  pub complete : IsComplete duty.command duty.met result
+  pub log : duty.Logs result
+  -- a test fault is answered only for a failed test of a command that tests
+  pub test : HasTestCause duty.command.tests duty.met.tester result
+  pub used : duty.Uses
+  pub shop_used : duty.UsesShop
+  pub recalled : duty.Recalls
 
-abbrev pub keeps : Option Order → List (List ℕ) → Bool
-keeps None words = false
-keeps (Some Certify) words = false
-keeps (Some Check) words = false
-keeps (Some Checkout) words = false
-keeps (Some Journal) words = reads (request_to_journal words)
-keeps (Some Many) words = false
+-- what the words of a call say that it has to do
+abbrev pub duty_in : FarmMet → Duty
+duty_in farm = duty_of (order_in farm.met.words) farm
 
--- ---- the answer to a line
-
--- the command that the words ask for, and what it meets
-abbrev pub commanded : FarmMet → Command
-commanded farm = ordered (order_in farm.met.words) farm
-
-abbrev pub met_of : FarmMet → Met
-met_of farm = met_for (order_in farm.met.words) farm
-
--- what the sink gained, by the status
-abbrev pub Answers : FarmMet → Status → Type 0
-Answers farm result = any.Answers (commanded farm) (met_of farm) result
-
--- where no device failed, and no test, the text is that of the command, with its status; or memory ran out
-abbrev pub IsComplete : FarmMet → Status → Type 0
-IsComplete farm result = any.IsComplete (commanded farm) (met_of farm) result
-
-abbrev pub PrintsLog : FarmMet → Status → Type 0
-PrintsLog farm result = PrintsLogAs (order_in farm.met.words) farm result
-
--- a test fault is answered only for a failed test of a command that tests
-abbrev pub HasTestCause : FarmMet → Status → Type 0
-HasTestCause farm result = any.HasTestCause (commanded farm).tests (met_of farm).tester result
-
--- the tester and the workshop are used as the words say
-abbrev pub IsUsed : FarmMet → Tested → Type 0
-IsUsed farm recalling = IsUsedAs (order_in farm.met.words) farm recalling
-
-abbrev pub IsShopUsed : FarmMet → Type 0
-IsShopUsed farm = IsShopUsedAs (order_in farm.met.words) farm
-
-abbrev pub IsRecalled : FarmMet → List Answer → Type 0
-IsRecalled farm recalled = IsRecalledAs (order_in farm.met.words) farm recalled
+abbrev pub asks_in : List (List ℕ) → Asks
+asks_in words = asks_of (order_in words) words

@@ -12,8 +12,7 @@ ghost use Rattle.bf_journal_run.specs.Legs.{met_disk};
 ghost use Rattle.bf_journal_run.specs.Searching.{IsUnopenedIfRefused};
 ghost use Rattle.bf_journal.specs.Recalling.{remembering};
 ghost use Rattle.bf_farmed.specs.Farming as farming;
-ghost use Rattle.bf_farmed.specs.Farming.{Answers, HasTestCause, IsComplete, IsRecalled, IsShopUsed, IsUsed, PrintsLog, commanded, farm_met, furnishes, keeps, ordered};
-ghost use Rattle.bf_farmed.specs.Ordered.{IsCarriedOut};
+ghost use Rattle.bf_farmed.specs.Farming.{IsDone, asks_in, asks_of, duty_in, duty_of, farm_met};
 
 use bf_answers::word_at;
 use bf_certify::{certify, check};
@@ -67,82 +66,32 @@ pub fn farm_main<
     requires whole { T.is_split tester.old.inner ≡ false }
     requires shop_fresh { U.answers shop.old.tester ≡ [] }
     requires shop_whole { U.is_split shop.old.tester ≡ false }
-    ensures answers { let farm = farm_met (met words.now
+    // What it answers, prints and remembers, and how it uses the tester and the workshop.
+    ensures done { let farm = farm_met (met words.now
         (met_source S.Source stream.old stream.new) (met_shelf F.Shelf shelf.old shelf.new)
         (met_tester ⟦<Recall<T> as Tester>⟧ tester.old tester.new)
         (met_sink K.Sink out.old out.new))
         (met_tester ⟦<Workshop<U, D> as Tester>⟧ shop.old shop.new)
-        (met_disk J.Disk disk.old disk.new) in
-        Answers farm result }
-    ensures complete { let farm = farm_met (met words.now
-        (met_source S.Source stream.old stream.new) (met_shelf F.Shelf shelf.old shelf.new)
-        (met_tester ⟦<Recall<T> as Tester>⟧ tester.old tester.new)
-        (met_sink K.Sink out.old out.new))
-        (met_tester ⟦<Workshop<U, D> as Tester>⟧ shop.old shop.new)
-        (met_disk J.Disk disk.old disk.new) in
-        IsComplete farm result }
-    ensures log { let farm = farm_met (met words.now
-        (met_source S.Source stream.old stream.new) (met_shelf F.Shelf shelf.old shelf.new)
-        (met_tester ⟦<Recall<T> as Tester>⟧ tester.old tester.new)
-        (met_sink K.Sink out.old out.new))
-        (met_tester ⟦<Workshop<U, D> as Tester>⟧ shop.old shop.new)
-        (met_disk J.Disk disk.old disk.new) in
-        PrintsLog farm result }
-    ensures read { result ≡ Status.ReadFault → Rose (S.faults stream.old) (S.faults stream.new) }
-    ensures file { result ≡ Status.ShelfFault → Rose (F.faults shelf.old) (F.faults shelf.new) }
-    ensures write { result ≡ Status.WriteFault → Rose (K.faults out.old) (K.faults out.new) }
-    ensures disk { result ≡ Status.JournalFault → Rose (J.faults disk.old) (J.faults disk.new) }
-    ensures test { let farm = farm_met (met words.now
-        (met_source S.Source stream.old stream.new) (met_shelf F.Shelf shelf.old shelf.new)
-        (met_tester ⟦<Recall<T> as Tester>⟧ tester.old tester.new)
-        (met_sink K.Sink out.old out.new))
-        (met_tester ⟦<Workshop<U, D> as Tester>⟧ shop.old shop.new)
-        (met_disk J.Disk disk.old disk.new) in
-        HasTestCause farm result }
-    ensures used { let farm = farm_met (met words.now
-        (met_source S.Source stream.old stream.new) (met_shelf F.Shelf shelf.old shelf.new)
-        (met_tester ⟦<Recall<T> as Tester>⟧ tester.old tester.new)
-        (met_sink K.Sink out.old out.new))
-        (met_tester ⟦<Workshop<U, D> as Tester>⟧ shop.old shop.new)
-        (met_disk J.Disk disk.old disk.new) in
-        IsUsed farm (tested_by ⟦<Recall<T> as Tester>⟧ (remembering tester.old tester.new.remembered)) }
-    ensures recalled { let farm = farm_met (met words.now
-        (met_source S.Source stream.old stream.new) (met_shelf F.Shelf shelf.old shelf.new)
-        (met_tester ⟦<Recall<T> as Tester>⟧ tester.old tester.new)
-        (met_sink K.Sink out.old out.new))
-        (met_tester ⟦<Workshop<U, D> as Tester>⟧ shop.old shop.new)
-        (met_disk J.Disk disk.old disk.new) in
-        IsRecalled farm tester.new.remembered }
+        (met_disk J.Disk disk.old disk.new)
+        tester.new.remembered
+        (tested_by ⟦<Recall<T> as Tester>⟧ (remembering tester.old tester.new.remembered)) in
+        IsDone (duty_in farm) result }
     ensures unasked { AreUnasked tester.new.remembered (T.answers tester.new.inner) }
-    ensures shop_used { let farm = farm_met (met words.now
-        (met_source S.Source stream.old stream.new) (met_shelf F.Shelf shelf.old shelf.new)
-        (met_tester ⟦<Recall<T> as Tester>⟧ tester.old tester.new)
-        (met_sink K.Sink out.old out.new))
-        (met_tester ⟦<Workshop<U, D> as Tester>⟧ shop.old shop.new)
-        (met_disk J.Disk disk.old disk.new) in
-        IsShopUsed farm }
     ensures tested_in { AreTestedIn shop.new.content
         (U.tested_in shop.new.tester) (U.answers shop.new.tester) }
     ensures grounds { let grounds = grounds_of shop.new.content in
         HasGroundsOf (S.left stream.old) (U.answers shop.new.tester) grounds }
-    ensures unread { let farm = farm_met (met words.now
-        (met_source S.Source stream.old stream.new) (met_shelf F.Shelf shelf.old shelf.new)
-        (met_tester ⟦<Recall<T> as Tester>⟧ tester.old tester.new)
-        (met_sink K.Sink out.old out.new))
-        (met_tester ⟦<Workshop<U, D> as Tester>⟧ shop.old shop.new)
-        (met_disk J.Disk disk.old disk.new) in
-        IsLeftUnless (commanded farm).reads stream.old stream.new }
-    ensures unloaded { let farm = farm_met (met words.now
-        (met_source S.Source stream.old stream.new) (met_shelf F.Shelf shelf.old shelf.new)
-        (met_tester ⟦<Recall<T> as Tester>⟧ tester.old tester.new)
-        (met_sink K.Sink out.old out.new))
-        (met_tester ⟦<Workshop<U, D> as Tester>⟧ shop.old shop.new)
-        (met_disk J.Disk disk.old disk.new) in
-        IsLeftUnless (commanded farm).loads shelf.old shelf.new }
-    ensures unfurnished { IsLeftUnless (furnishes (farming.order_in words.now) words.now)
-        shop.old shop.new }
-    ensures unkept { IsLeftUnless (keeps (farming.order_in words.now) words.now)
-        disk.old disk.new }
+    // A fault of a device is answered only where its count of faults rose.
+    ensures read { result ≡ Status.ReadFault → Rose (S.faults stream.old) (S.faults stream.new) }
+    ensures file { result ≡ Status.ShelfFault → Rose (F.faults shelf.old) (F.faults shelf.new) }
+    ensures write { result ≡ Status.WriteFault → Rose (K.faults out.old) (K.faults out.new) }
+    ensures disk { result ≡ Status.JournalFault → Rose (J.faults disk.old) (J.faults disk.new) }
+    // What the words do not ask for is left as it was.
+    ensures unread { IsLeftUnless (asks_in words.now).stream stream.old stream.new }
+    ensures unloaded { IsLeftUnless (asks_in words.now).file shelf.old shelf.new }
+    ensures unfurnished { IsLeftUnless (asks_in words.now).shop shop.old shop.new }
+    ensures unkept { IsLeftUnless (asks_in words.now).disk disk.old disk.new }
+    // A refusal leaves the testers, the disk, and the journal of another run.
     ensures untested { IsUntestedIfRefused
         (met_tester ⟦<Recall<T> as Tester>⟧ tester.old tester.new) result }
     ensures shop_untested { IsUntestedIfRefused
@@ -150,6 +99,7 @@ pub fn farm_main<
     ensures unopened { IsUnopenedIfRefused disk.old disk.new result }
     ensures untouched { (kept : _) → result ≡ Status.JournalRefused kept
         → J.told disk.new ≡ J.told disk.old }
+    // No tester of a worker is apart.
     ensures is_split { T.is_split tester.new.inner ≡ false }
     ensures shop_is_split { U.is_split shop.new.tester ≡ false }
 {
@@ -205,38 +155,28 @@ fn carry_out<
     requires whole { T.is_split tester.old.inner ≡ false }
     requires shop_fresh { U.answers shop.old.tester ≡ [] }
     requires shop_whole { U.is_split shop.old.tester ≡ false }
-    ensures ordered { let farm = farm_met (met asked.entry.words.now
+    ensures done { let farm = farm_met (met asked.entry.words.now
         (met_source S.Source stream.old stream.new) (met_shelf F.Shelf shelf.old shelf.new)
         (met_tester ⟦<Recall<T> as Tester>⟧ tester.old tester.new)
         (met_sink K.Sink out.old out.new))
         (met_tester ⟦<Workshop<U, D> as Tester>⟧ shop.old shop.new)
-        (met_disk J.Disk disk.old disk.new) in
-        IsCarriedOut asked.entry.order farm
-        (tested_by ⟦<Recall<T> as Tester>⟧ (remembering tester.old tester.new.remembered))
-        tester.new.remembered result }
+        (met_disk J.Disk disk.old disk.new)
+        tester.new.remembered
+        (tested_by ⟦<Recall<T> as Tester>⟧ (remembering tester.old tester.new.remembered)) in
+        IsDone (duty_of asked.entry.order farm) result }
+    ensures grounds { let grounds = grounds_of shop.new.content in
+        HasGroundsOf (S.left stream.old) (U.answers shop.new.tester) grounds }
     ensures read { result ≡ Status.ReadFault → Rose (S.faults stream.old) (S.faults stream.new) }
     ensures file { result ≡ Status.ShelfFault → Rose (F.faults shelf.old) (F.faults shelf.new) }
     ensures write { result ≡ Status.WriteFault → Rose (K.faults out.old) (K.faults out.new) }
     ensures disk { result ≡ Status.JournalFault → Rose (J.faults disk.old) (J.faults disk.new) }
-    ensures grounds { let grounds = grounds_of shop.new.content in
-        HasGroundsOf (S.left stream.old) (U.answers shop.new.tester) grounds }
-    ensures unread { let farm = farm_met (met asked.entry.words.now
-        (met_source S.Source stream.old stream.new) (met_shelf F.Shelf shelf.old shelf.new)
-        (met_tester ⟦<Recall<T> as Tester>⟧ tester.old tester.new)
-        (met_sink K.Sink out.old out.new))
-        (met_tester ⟦<Workshop<U, D> as Tester>⟧ shop.old shop.new)
-        (met_disk J.Disk disk.old disk.new) in
-        IsLeftUnless (ordered asked.entry.order farm).reads stream.old stream.new }
-    ensures unloaded { let farm = farm_met (met asked.entry.words.now
-        (met_source S.Source stream.old stream.new) (met_shelf F.Shelf shelf.old shelf.new)
-        (met_tester ⟦<Recall<T> as Tester>⟧ tester.old tester.new)
-        (met_sink K.Sink out.old out.new))
-        (met_tester ⟦<Workshop<U, D> as Tester>⟧ shop.old shop.new)
-        (met_disk J.Disk disk.old disk.new) in
-        IsLeftUnless (ordered asked.entry.order farm).loads shelf.old shelf.new }
-    ensures unfurnished { IsLeftUnless (furnishes asked.entry.order asked.entry.words.now)
+    ensures unread { IsLeftUnless (asks_of asked.entry.order asked.entry.words.now).stream
+        stream.old stream.new }
+    ensures unloaded { IsLeftUnless (asks_of asked.entry.order asked.entry.words.now).file
+        shelf.old shelf.new }
+    ensures unfurnished { IsLeftUnless (asks_of asked.entry.order asked.entry.words.now).shop
         shop.old shop.new }
-    ensures unkept { IsLeftUnless (keeps asked.entry.order asked.entry.words.now)
+    ensures unkept { IsLeftUnless (asks_of asked.entry.order asked.entry.words.now).disk
         disk.old disk.new }
     ensures untested { IsUntestedIfRefused
         (met_tester ⟦<Recall<T> as Tester>⟧ tester.old tester.new) result }

@@ -46,6 +46,7 @@ pub fn journal<R: Host, S: Source, F: Shelf, T: Tester, J: Disk, K: Sink>(
     requires fresh { tester.old.answers ≡ [] }
     requires remembers { tester.old.remembered ≡ [] }
     requires whole { T.is_split tester.old.inner ≡ false }
+    // What it answers.
     ensures answers { let met = met words.now (met_source S.Source stream.old stream.new)
         (met_shelf F.Shelf shelf.old shelf.new)
         (met_tester ⟦<Recall<T> as Tester>⟧ tester.old tester.new)
@@ -56,12 +57,14 @@ pub fn journal<R: Host, S: Source, F: Shelf, T: Tester, J: Disk, K: Sink>(
         (met_tester ⟦<Recall<T> as Tester>⟧ tester.old tester.new)
         (met_sink K.Sink out.old out.new) in
         IsComplete (to_journal met (met_disk J.Disk disk.old disk.new)) met result }
+    // A fault of a device is answered only where its count of faults rose.
     ensures read { result ≡ Status.ReadFault → Rose (S.faults stream.old) (S.faults stream.new) }
     ensures file { result ≡ Status.ShelfFault → Rose (F.faults shelf.old) (F.faults shelf.new) }
     ensures write { result ≡ Status.WriteFault → Rose (K.faults out.old) (K.faults out.new) }
     ensures disk { result ≡ Status.JournalFault → Rose (J.faults disk.old) (J.faults disk.new) }
     ensures test { HasTestCause (tests (request_to_journal words.now))
         (met_tester ⟦<Recall<T> as Tester>⟧ tester.old tester.new) result }
+    // How the tester is used, and what it remembers.
     ensures used { IsUsedFor (request_to_journal words.now) words.now
         (tested_by ⟦<Recall<T> as Tester>⟧ (remembering tester.old tester.new.remembered))
         (tested_by ⟦<Recall<T> as Tester>⟧ tester.new) }
@@ -69,6 +72,7 @@ pub fn journal<R: Host, S: Source, F: Shelf, T: Tester, J: Disk, K: Sink>(
         (request_to_journal words.now) words.now (S.left stream.old)
         tester.new.answers tester.new.remembered }
     ensures unasked { AreUnasked tester.new.remembered (T.answers tester.new.inner) }
+    // What the words do not ask for is left as it was, and so are tester and disk by a refusal.
     ensures unread { IsLeftUnless (reads (request_to_journal words.now)) stream.old stream.new }
     ensures unloaded { IsLeftUnless (asks_file (request_to_journal words.now)) shelf.old shelf.new }
     ensures unkept { IsLeftUnless (reads (request_to_journal words.now)) disk.old disk.new }

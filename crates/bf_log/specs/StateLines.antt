@@ -4,7 +4,7 @@ use Rattle.std.specs.Prelude.{ℕ, ◌<◌, List, ◌++◌, codes, Option, All}
 use Rattle.std.specs.List.{flat_map}
 use Rattle.std.specs.Option.{ForSome}
 use Rattle.bf_terms.specs.Texts.{Commits, Sides, text_line, hex_of, given_bad}
-use Rattle.bf_log.specs.declared.state.Standing.{Standing}
+use Rattle.bf_log.specs.declared.state.MarkedPlaces.{MarkedPlaces}
 
 -- a word and the name of a commit
 abbrev pub name_line : Commits → List ℕ → ℕ → List ℕ
@@ -20,11 +20,11 @@ state_lines commits sides bad goods skipped =
     ++ name_lines commits (codes "skip") skipped
 
 -- the lines of a state that the writer is given
-abbrev pub lines_of_state : Commits → Sides → Standing → List ℕ
-lines_of_state commits sides standing = state_lines commits sides standing.bad standing.goods.now standing.skipped.now
+abbrev pub lines_of_state : Commits → Sides → MarkedPlaces → List ℕ
+lines_of_state commits sides marked = state_lines commits sides marked.bad marked.goods.now marked.skipped.now
 
 -- all places are places of so many commits
-pub record AreStanding (len : ℕ) (standing : Standing) : Type 0 where
-  pub bad : ForSome standing.bad (λ p. p < len)
-  pub goods : All (λ p. p < len) standing.goods.now
-  pub skipped : All (λ p. p < len) standing.skipped.now
+pub record AreMarked (len : ℕ) (marked : MarkedPlaces) : Type 0 where
+  pub bad : ForSome marked.bad (λ p. p < len)
+  pub goods : All (λ p. p < len) marked.goods.now
+  pub skipped : All (λ p. p < len) marked.skipped.now

@@ -16,6 +16,6 @@ mod write;
 
 pub use known::Known;
 pub use label::{Commits, Sides};
-pub use state::{Standing, write_state};
+pub use state::{MarkedPlaces, write_state};
 pub use trace::{write_events, write_failed_test, write_leg};
 pub use write::{write_aborted, write_ask, write_entries, write_more, write_waiting};

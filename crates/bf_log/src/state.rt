@@ -13,7 +13,7 @@ use std::alloc::AllocError;
 /// The places that a state knows: the bad one, the good ones in the order in which they were marked, and
 /// the skipped ones.
 #[derive(Clone, Copy)]
-pub struct Standing<'a> {
+pub struct MarkedPlaces<'a> {
     pub bad: Option<u32>,
     pub goods: &'a [u32],
     pub skipped: &'a [u32],
@@ -23,16 +23,16 @@ pub struct Standing<'a> {
 pub fn write_state(
     commits: Commits<'_>,
     sides: Sides<'_>,
-    standing: Standing<'_>,
+    marked: MarkedPlaces<'_>,
     out: &mut Bytes,
 ) -> Result<(), AllocError>
-    requires { state.AreStanding (length commits.names.now) standing }
+    requires { state.AreMarked (length commits.names.now) marked }
     ensures ok { Adds out.old out.new result
-        (state.lines_of_state (commits_of commits.entry) (sides_of sides.entry) standing.entry) }
+        (state.lines_of_state (commits_of commits.entry) (sides_of sides.entry) marked.entry) }
     ensures err { OnErr result (out.new ≡ out.old) }
 {
     let mut text = Bytes::new(out.allocator());
-    put_state(commits, sides, standing, &mut text)?;
+    put_state(commits, sides, marked, &mut text)?;
     out.append(text.as_slice())
 }
 
@@ -41,16 +41,16 @@ pub fn write_state(
 fn put_state(
     commits: Commits<'_>,
     sides: Sides<'_>,
-    standing: Standing<'_>,
+    marked: MarkedPlaces<'_>,
     out: &mut Bytes,
 ) -> Result<(), AllocError>
-    requires { state.AreStanding (length commits.names.now) standing }
+    requires { state.AreMarked (length commits.names.now) marked }
     ensures { Adds out.old out.new result
-        (state.lines_of_state (commits_of commits.entry) (sides_of sides.entry) standing.entry) }
+        (state.lines_of_state (commits_of commits.entry) (sides_of sides.entry) marked.entry) }
 {
-    put_bad(commits, sides.new, standing.bad, out)?;
-    put_named(commits, sides.old, standing.goods, out)?;
-    put_named(commits, b"skip", standing.skipped, out)
+    put_bad(commits, sides.new, marked.bad, out)?;
+    put_named(commits, sides.old, marked.goods, out)?;
+    put_named(commits, b"skip", marked.skipped, out)
 }
 
 /// Adds the line of the bad commit, where there is one.

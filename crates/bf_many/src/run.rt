@@ -140,12 +140,14 @@ pub fn run_shared<R: Host, T: Tester>(
     requires is_split { AreWhole T.Tester testers.old }
     requires some { 1 ≤ workers }
     requires most { workers ≤ 64 }
+    // On success: what was found, and by whom.
     ensures history { IfOk result (HasHistory case.entry) }
     ensures tables { IfOk result (λ shared.
         AreTablesOf T.Tester case.entry.names.now testers.new shared.tables.items) }
     ensures long { IfOk result (λ shared.
         All (λ table. length table ≡ length case.entry.reach.now) shared.tables.items) }
     ensures workers { IfOk result (IsDoneBy workers) }
+    // Whatever comes: the testers are of their manner, and keep their answers.
     ensures manner { KeepManner T.Tester testers.old testers.new }
     ensures is_split { AreWhole T.Tester testers.new }
     ensures faults { KeepFaults T.Tester testers.old testers.new }

@@ -44,6 +44,7 @@ pub fn run_leg<R: Host, T: Tester>(
     requires reach { search.reach.now ≡ search.history.now.parents }
     requires ready { CanBegin T.Tester tester.old search standing.state standing.table }
     requires is_split { T.is_split tester.old ≡ false }
+    // On success: the report, and where the next leg begins.
     ensures run { IfOk result (IsRunOfLeg search.entry standing) }
     ensures leads_on { IfOk result (LegLeads T.Tester tester.old tester.new search.entry standing) }
     ensures fewer { IfOk result (LeavesFewer search.entry.history.now.parents standing) }
@@ -51,6 +52,7 @@ pub fn run_leg<R: Host, T: Tester>(
     ensures places { IfOk result (HasEntriesWithin search.entry.history.now.parents) }
     ensures end { IfOk result (HasEndingWithin search.entry.history.now.parents) }
     ensures fault { IfOk result (HasFaultBy T.Tester tester.old tester.new) }
+    // Whatever comes: the tester is of its manner, and keeps its answers.
     ensures later { T.faults tester.old ≤ T.faults tester.new }
     ensures manner { KeepsManner T.Tester tester.old tester.new }
     ensures own { HasAnswersOf T.Tester tester.new tester.old }

@@ -175,13 +175,13 @@ fn a_state_is_told(rt: HostRuntime) -> Result<(), Fail> {
         new: b"slow",
         old: b"fast",
     };
-    let standing = Standing {
+    let marked = MarkedPlaces {
         bad: Some(2),
         goods: &[1],
         skipped: &[0],
     };
     let mut out = Bytes::new(rt.alloc());
-    write_state(commits, sides, standing, &mut out)?;
+    write_state(commits, sides, marked, &mut out)?;
     assert_eq!(rt;
         out.as_slice(),
         b"slow: 3333333333333333333333333333333333333333
