@@ -468,9 +468,9 @@ def of_repeated_goods(bench, size, skipped=()):
 
 
 def of_far_ancestors(bench, size):
-    """A log of so many names of the root of a line of 50,000 commits by its distance, each as many steps."""
-    bench.write(streams.line, 50000)
-    return bench.write(streams.named_again, size, b"main~49999", to="log")
+    """A log of so many names of the root of a line of fifty times as many commits, each by its distance from the tip."""
+    bench.write(streams.line, 50 * size)
+    return bench.write(streams.named_again, size, b"main~%d" % (50 * size - 1), to="log")
 
 
 LONG_LOGS = {

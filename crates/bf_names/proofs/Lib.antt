@@ -1,5 +1,6 @@
 mod Abbreviating
 mod Forming
+mod Leaping
 mod Meant
 mod Naming
 mod Ranging

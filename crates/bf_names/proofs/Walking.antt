@@ -14,7 +14,7 @@ use Rattle.bf_names.specs.declared.step.Step.{Step}
 use Rattle.bf_names.specs.Names.{ancestor, after_step, after_steps}
 use Rattle.bf_grammar.specs.Forms.{◌>>=◌}
 
-ancestor-suc : (graph : List (List ℕ)) (n place : ℕ) (parent : Option ℕ) → slice_get (parents_of graph place) 0 ≡ parent
+pub ancestor-suc : (graph : List (List ℕ)) (n place : ℕ) (parent : Option ℕ) → slice_get (parents_of graph place) 0 ≡ parent
     → ancestor graph (suc n) place ≡ option_and_then (ancestor graph n) parent
 unfolding ancestor
 ancestor-suc graph n place parent is = ap (option_and_then (ancestor graph n)) is

@@ -1,3 +1,4 @@
 pub mod Counting
+pub mod Leaps
 pub mod Names
 pub mod Order

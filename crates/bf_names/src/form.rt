@@ -1,5 +1,5 @@
 //! The form of a name: its base, and the steps behind it.
-ghost use Rattle.std.specs.Prelude.{◌≡◌, ◌+◌, ◌≤◌, ◌∷◌, length, drop, IfOk, IfErr, IfSome};
+ghost use Rattle.std.specs.Prelude.{◌≡◌, ◌+◌, ◌≤◌, ◌∷◌, codes, length, drop, IfOk, IfErr, IfSome};
 ghost use Rattle.std.specs.List.{before_first, position, position_or_len};
 ghost use Rattle.bf_names.specs.Names.{Fails, all_steps, first_at, is_base, is_sign};
 ghost use Rattle.bf_names.specs.Names.{number_of, stands_in, step_of, steps_of};
@@ -94,6 +94,13 @@ fn is_base(base: &[u8]) -> bool
     ensures { result ≡ is_base base.now }
 {
     !(base.is_empty() || has(base, b" ") || has(base, b":") || has(base, b"@{"))
+}
+
+/// Whether a step to an ancestor stands in a text, whatever its form.
+pub fn has_ancestor(text: &[u8]) -> bool
+    ensures { result ≡ stands_in (codes "~") text.now }
+{
+    has(text, b"~")
 }
 
 /// Whether one text stands in another.

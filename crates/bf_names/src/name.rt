@@ -1,13 +1,13 @@
 //! Names of commits.
-ghost use Rattle.std.specs.Prelude.{◌≡◌, ◌<◌, length, IfOk, IfSome};
+ghost use Rattle.std.specs.Prelude.{◌≡◌, ◌<◌, length, IfOk};
+ghost use Rattle.bf_names.specs.Leaps.{IsIndexOf};
 ghost use Rattle.bf_names.specs.Names.{Means, name, place_of};
-ghost use Rattle.bf_names.specs.Order.{IsOrderOf};
 ghost use Rattle.bf_names.specs.declared.step.Step.{Step};
 
 use crate::NameFault;
 use crate::base::place_of_base;
 use crate::form::{before_sign, steps_of};
-use crate::order::NameOrder;
+use crate::index::NameIndex;
 use crate::step::Step;
 use crate::walk::after_steps;
 use bf_import::History;
@@ -33,11 +33,11 @@ pub fn resolve(alloc: Global, history: &History, text: &[u8]) -> Result<u32, Nam
     ensures value { Means result (name history.now text.now) }
     ensures within { IfOk result (λ place. place < length history.now.parents) }
 {
-    resolve_by(alloc, history, None, text)
+    resolve_by(alloc, history, &NameIndex::none(), text)
 }
 
-/// The place of the commit that a name means, as by [`resolve`]. Where the order of the history's names is
-/// given, an abbreviation is looked up in it by binary search: make it once, where many are to be resolved.
+/// The place of the commit that a name means, as by [`resolve`]. What the index has is used:
+/// an abbreviation is looked up in the order of the history's names, and `~<n>` by leaps.
 ///
 /// # Errors
 ///
@@ -45,29 +45,29 @@ pub fn resolve(alloc: Global, history: &History, text: &[u8]) -> Result<u32, Nam
 pub fn resolve_by(
     alloc: Global,
     history: &History,
-    order: Option<&NameOrder>,
+    index: &NameIndex,
     text: &[u8],
 ) -> Result<u32, NameFault>
-    requires { IfSome order (λ order. IsOrderOf history.now.names order.now) }
+    requires { IsIndexOf history.now index.now }
     ensures value { Means result (name history.now text.now) }
     ensures within { IfOk result (λ place. place < length history.now.parents) }
 {
     let steps = steps_of(alloc, text)?;
-    place_of(alloc, history, order, text, steps.as_slice())
+    place_of(alloc, history, index, text, steps.as_slice())
 }
 
 /// The place that the base of a text and some steps behind it lead to.
 pub(crate) fn place_of(
     alloc: Global,
     history: &History,
-    order: Option<&NameOrder>,
+    index: &NameIndex,
     text: &[u8],
     steps: &[Step],
 ) -> Result<u32, NameFault>
-    requires { IfSome order (λ order. IsOrderOf history.now.names order.now) }
+    requires { IsIndexOf history.now index.now }
     ensures value { Means result (place_of history.now text.now steps.now) }
     ensures within { IfOk result (λ place. place < length history.now.parents) }
 {
-    let place = place_of_base(alloc, history, order, before_sign(text))?;
-    after_steps(history.graph(), steps, place)
+    let place = place_of_base(alloc, history, index.order.as_ref(), before_sign(text))?;
+    after_steps(history.graph(), index.leaps.as_ref(), steps, place)
 }

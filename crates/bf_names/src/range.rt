@@ -5,6 +5,7 @@ ghost use Rattle.bf_names.specs.Names.{Fails, Means, between, is_right_side, ran
 
 use crate::NameFault;
 use crate::form::{find, has, rest_of, steps_of};
+use crate::index::NameIndex;
 use crate::name::{place_of, resolve};
 use crate::step::Step;
 use bf_import::History;
@@ -52,8 +53,9 @@ fn between(
 {
     let before = steps_of(alloc, left)?;
     let after = right_steps(alloc, right)?;
-    let from = place_of(alloc, history, None, left, before.as_slice())?;
-    let to = place_of(alloc, history, None, right, after.as_slice())?;
+    let index = NameIndex::none();
+    let from = place_of(alloc, history, &index, left, before.as_slice())?;
+    let to = place_of(alloc, history, &index, right, after.as_slice())?;
     Ok(row_between(alloc, reach, from, to)?)
 }
 

@@ -2,7 +2,7 @@
 use Rattle.std.specs.Prelude.{◌≡◌, ℕ, ◌<◌, Bool, List, length, ◌++◌, [], ◌∷◌, Option, Some, Result, Ok, Vec, All, IfSome}
 use Rattle.bf_history.specs.Meanings.{History}
 use Rattle.bf_names.specs.Names.{name}
-use Rattle.bf_names.specs.Order.{IsOrderOf}
+use Rattle.bf_names.specs.Leaps.{IsIndexOf}
 use Rattle.bf_names.specs.declared.fault.NameFault.{NameFault}
 use Rattle.bf_reading.specs.declared.line.LogLine.{LogLine}
 use Rattle.bf_search.specs.declared.entries.Entry.{Entry}
@@ -42,9 +42,9 @@ IsPlaceOf history place = place < length history.parents
 abbrev pub ArePlacesOf : {A : Type 0} → History → Vec ℕ A → Type 0
 ArePlacesOf history places = All (IsPlaceOf history) places.items
 
--- the order that a setting has, if it has one, is that of the names of its history
-abbrev pub HasOrder : Setting → Type 0
-HasOrder setting = IfSome setting.order (λ order. IsOrderOf setting.history.now.names order.now)
+-- the index that a setting has is of its history
+abbrev pub HasIndex : Setting → Type 0
+HasIndex setting = IsIndexOf setting.history.now setting.index.now
 
 -- what the history of a setting makes of a name, and of the names of a line
 abbrev pub named_in : Setting → ℕ → List ℕ → Given ℕ

@@ -1,21 +1,22 @@
 //! The fold of the command lines.
 ghost use Rattle.std.specs.Prelude.{◌≡◌, length, IfOk, IfSome};
-ghost use Rattle.bf_names.specs.Order.{IsOrderOf};
+ghost use Rattle.bf_names.specs.Leaps.{IsIndexOf};
 ghost use Rattle.bf_replay.specs.Meaning.{replay_in, text_of, AreWithin, HasLength};
-ghost use Rattle.bf_replay.specs.Parts.{Gives, HasOrder, LeadsTo, IsPlaceOf, line_in, named_in};
+ghost use Rattle.bf_replay.specs.Parts.{Gives, HasIndex, LeadsTo, IsPlaceOf, line_in, named_in};
 ghost use Rattle.bf_replay.specs.Refusals.{Refuses};
 
 use crate::fault::ReplayFault;
+use crate::index::index_for;
 use crate::mark::take_mark;
 use crate::start::{Start, take_start};
 use bf_import::History;
 use bf_io::Bytes;
-use bf_names::{NameFault, NameOrder, may_abbreviate, resolve_by};
+use bf_names::{NameFault, NameIndex, resolve_by};
 use bf_reach::Reach;
 use bf_reading::{LogLine, LogWord};
 use bf_search::Entry;
 use bf_state::State;
-use std::alloc::{AllocError, Global};
+use std::alloc::Global;
 
 /// What a log leads to.
 #[derive(Drop)]
@@ -48,20 +49,20 @@ pub fn replay(
     ensures within { IfOk result (AreWithin (length history.now.parents)) }
     ensures refused { Refuses result (replay_in history.now lines.now) }
 {
-    let order = order_for(alloc, history, lines)?;
-    replay_by(alloc, history, reach, order.as_ref(), lines)
+    let index = index_for(alloc, history, lines)?;
+    replay_by(alloc, history, reach, &index, lines)
 }
 
-/// Replays the command lines of a log, where the order of the history's names may be given.
+/// Replays the command lines of a log with what serves to look its names up.
 fn replay_by<'a>(
     alloc: Global,
     history: &'a History,
     reach: &'a Reach,
-    order: Option<&'a NameOrder>,
+    index: &'a NameIndex,
     lines: &[LogLine],
 ) -> Result<Replayed, ReplayFault>
     requires reach { reach.now ≡ history.now.parents }
-    requires order { IfSome order (λ order. IsOrderOf history.now.names order.now) }
+    requires index { IsIndexOf history.now index.now }
     ensures replayed { IfOk result (LeadsTo (replay_in history.now lines.now)) }
     ensures len { IfOk result (HasLength (length history.now.parents)) }
     ensures within { IfOk result (AreWithin (length history.now.parents)) }
@@ -71,7 +72,7 @@ fn replay_by<'a>(
         alloc,
         history,
         reach,
-        order,
+        index,
     };
     let mut replayed = None;
     for line in lines {
@@ -89,34 +90,8 @@ pub(crate) struct Setting<'a> {
     pub(crate) alloc: Global,
     pub(crate) history: &'a History,
     pub(crate) reach: &'a Reach,
-    /// The order of the names of the history, where a name of the log may be an abbreviation.
-    pub(crate) order: Option<&'a NameOrder>,
-}
-
-/// The order of the names of a history. It is made only where a name in these lines may be an abbreviation.
-fn order_for(
-    alloc: Global,
-    history: &History,
-    lines: &[LogLine],
-) -> Result<Option<NameOrder>, AllocError>
-    ensures { IfOk result (λ order. IfSome order (IsOrderOf history.now.names)) }
-{
-    if lines.iter().any(|line| abbreviates(&line.word)) {
-        let order = NameOrder::new(alloc, history.names(), history.len())?;
-        return Ok(Some(order));
-    }
-    Ok(None)
-}
-
-/// Whether a name in a line may be an abbreviation. It decides what a replay costs, and nothing of its answer.
-fn abbreviates(word: &LogWord) -> bool {
-    match word {
-        LogWord::Start { revs, .. } => revs
-            .as_slice()
-            .iter()
-            .any(|rev| may_abbreviate(rev.as_slice())),
-        LogWord::MarkWord { rev, .. } => may_abbreviate(rev.as_slice()),
-    }
+    /// What serves to look names up.
+    pub(crate) index: &'a NameIndex,
 }
 
 /// Replays a line behind what came before.
@@ -126,7 +101,7 @@ fn take_line(
     line: &LogLine,
 ) -> Result<Replayed, ReplayFault>
     requires reach { setting.reach.now ≡ setting.history.now.parents }
-    requires order { HasOrder setting }
+    requires index { HasIndex setting }
     requires len { IfSome before (HasLength (length setting.history.now.parents)) }
     requires within { IfSome before (AreWithin (length setting.history.now.parents)) }
     ensures replayed { IfOk result (LeadsTo (line_in setting.entry before line.now)) }
@@ -158,12 +133,12 @@ fn take_line(
 
 /// The place that a name in this line means.
 pub(crate) fn place_named(setting: Setting<'_>, line: u32, name: &[u8]) -> Result<u32, ReplayFault>
-    requires { HasOrder setting }
+    requires { HasIndex setting }
     ensures place { IfOk result (Gives (named_in setting.entry line name.now)) }
     ensures within { IfOk result (IsPlaceOf setting.entry.history.now) }
     ensures refused { Refuses result (named_in setting.entry line name.now) }
 {
-    match resolve_by(setting.alloc, setting.history, setting.order, name) {
+    match resolve_by(setting.alloc, setting.history, setting.index, name) {
         Ok(place) => Ok(place),
         Err(NameFault::NoMemory) => Err(ReplayFault::NoMemory),
         Err(fault) => Err(ReplayFault::Name { line, fault }),

@@ -6,6 +6,7 @@
 
 mod fault;
 mod fold;
+mod index;
 pub mod laws;
 mod mark;
 mod start;

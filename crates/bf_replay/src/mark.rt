@@ -2,7 +2,7 @@
 ghost use Rattle.std.specs.Prelude.{◌≡◌, length, IfOk, IfErr, OnOk};
 ghost use Rattle.bf_log.specs.Replay as logs;
 ghost use Rattle.bf_replay.specs.Meaning.{with_terms, with_open, AreWithin, HasLength};
-ghost use Rattle.bf_replay.specs.Parts.{HasOrder, LeadsTo, MakesMark, mark_in, word_in, AddsMark};
+ghost use Rattle.bf_replay.specs.Parts.{HasIndex, LeadsTo, MakesMark, mark_in, word_in, AddsMark};
 ghost use Rattle.bf_replay.specs.Refusals.{Refuses};
 
 use crate::fault::ReplayFault;
@@ -21,7 +21,7 @@ pub(crate) fn take_mark(
     rev: &[u8],
 ) -> Result<Replayed, ReplayFault>
     requires reach { setting.reach.now ≡ setting.history.now.parents }
-    requires order { HasOrder setting }
+    requires index { HasIndex setting }
     requires len { HasLength (length setting.history.now.parents) before }
     requires within { AreWithin (length setting.history.now.parents) before }
     ensures replayed { IfOk result (LeadsTo (mark_in setting.entry line before term.now rev.now)) }

@@ -2,7 +2,7 @@
 ghost use Rattle.std.specs.Prelude.{◌≡◌, length, IfOk, IfErr, All};
 ghost use Rattle.bf_log.specs.Replay as logs;
 ghost use Rattle.bf_replay.specs.Meaning.{text_of, AreWithin, HasLength};
-ghost use Rattle.bf_replay.specs.Parts.{Gives, GivesAll, HasOrder, LeadsTo, Means, IsPlaceOf, ArePlacesOf, begun_in, leaves_open, names_terms, places_in};
+ghost use Rattle.bf_replay.specs.Parts.{Gives, GivesAll, HasIndex, LeadsTo, Means, IsPlaceOf, ArePlacesOf, begun_in, leaves_open, names_terms, places_in};
 ghost use Rattle.bf_replay.specs.Parts.{start_in, terms_in};
 ghost use Rattle.bf_replay.specs.Refusals.{Refuses, term_refusal};
 
@@ -43,7 +43,7 @@ pub(crate) fn take_start(
     line: u32,
     start: Start<'_>,
 ) -> Result<Replayed, ReplayFault>
-    requires { HasOrder setting }
+    requires { HasIndex setting }
     ensures replayed { IfOk result (LeadsTo (start_in setting.entry line start.entry)) }
     ensures len { IfOk result (HasLength (length setting.entry.history.now.parents)) }
     ensures within { IfOk result (AreWithin (length setting.entry.history.now.parents)) }
@@ -92,7 +92,7 @@ fn term_or<'a>(term: Option<&'a [u8]>, word: &'a [u8]) -> &'a [u8]
 
 /// The places that the names of a line mean, in order.
 fn places_of(setting: Setting<'_>, line: u32, names: &[Bytes]) -> Result<Vec<u32>, ReplayFault>
-    requires { HasOrder setting }
+    requires { HasIndex setting }
     ensures places { IfOk result (GivesAll (places_in setting.entry line names.now)) }
     ensures within { IfOk result (ArePlacesOf setting.entry.history.now) }
     ensures refused { Refuses result (places_in setting.entry line names.now) }
