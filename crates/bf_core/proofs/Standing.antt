@@ -1,6 +1,6 @@
 -- The claims that stand: what a claim, a post and a giving back leave of them.
 use Rattle.std.proofs.Common.{◌≡◌, ◌≢◌, ℕ, ◌<◌, ◌⊎◌, Bool, true, false, not, ◌&&◌, ◌==◌, List, [], ◌∷◌, ◌++◌, length, get_or, set, Option, Some, None, refl}
-use Rattle.std.proofs.Common.{sym, ap, ◌∙◌, subst, inl, inr, ⊎_elim, arith, eqb-true, eq-eqb}
+use Rattle.std.proofs.Common.{cond, sym, ap, ◌∙◌, subst, inl, inr, ⊎_elim, arith, eqb-true, eq-eqb}
 use Rattle.std.proofs.lemmas.Bool.{cases_Bool, cases_order, both_ways, and_parts, not-true, cond-true, false_from_ne_true}
 use Rattle.std.proofs.lemmas.List.{length-set, get_or-set_other, set-set, set-get_or, get_or_default}
 use Rattle.std.proofs.lemmas.List.Elements.{All-filter, All-push, All-contains, All-weaker, filter_passes}
@@ -145,6 +145,12 @@ claims_pushed table claims worker p h idle free within unknown = record {
 -- no claims
 pub no_claims : (table : List (Option Outcome)) → AreClaims table []
 no_claims table = record { within = λ k d l. absurd (omega arith); unknown = λ k d l. absurd (omega arith); apart = λ i j d l m. absurd (omega arith) }
+
+-- those that are asked for, where any are
+pub claims_asked : (table : List (Option Outcome)) (claims asked : List Claim) (asks : Bool) → AreClaims table claims → asked ≡ cond asks claims []
+    → AreClaims table asked
+claims_asked table claims asked true h e = subst (λ (cs : List Claim). AreClaims table cs) (sym e) h
+claims_asked table claims asked false h e = subst (λ (cs : List Claim). AreClaims table cs) (sym e) (no_claims table)
 
 -- ---- steps
 

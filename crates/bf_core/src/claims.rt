@@ -1,5 +1,5 @@
 //! The claims of workers.
-ghost use Rattle.std.specs.Prelude.{◌≡◌, ◌↔◌, ◌<◌, ℕ, length, All, Contains, None, IfOk, OnOk, IsTrue};
+ghost use Rattle.std.specs.Prelude.{◌≡◌, ◌↔◌, ◌<◌, ℕ, [], if◌then◌else◌, length, All, Contains, None, IfOk, OnOk, IsTrue};
 ghost use Rattle.std.specs.List.Sorted.{IsStrictlyIncreasing};
 ghost use Rattle.bf_search.specs.Farm.{has_claim, stands, without};
 ghost use Rattle.bf_search.specs.OpenPaths.{is_claimed};
@@ -54,6 +54,13 @@ pub(crate) fn without(
         .copied()
         .filter(|claim| claim.worker != worker)
         .collect(alloc)
+}
+
+/// The claims, where it is asked whose tests are wanted; otherwise none.
+pub(crate) fn asked_of(claims: &[Claim], asks: bool) -> &[Claim]
+    ensures { result.now ≡ (if asks then claims.now else []) }
+{
+    if asks { claims } else { &[] }
 }
 
 /// Ends the claim of a worker.

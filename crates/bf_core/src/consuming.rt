@@ -70,8 +70,8 @@ impl<'r> Consumed<'r> {
     }
 
     /// Goes on as far as the outcomes of a table lead, which has those of the run's table and perhaps
-    /// more. It gives the workers whose claimed place no path asks for then, ascending. After an error
-    /// all is as before, and no node is lost.
+    /// more. Of these claims it gives the workers whose place no path asks for then, ascending. After an
+    /// error all is as before, and no node is lost.
     pub(crate) fn consume(
         &mut self,
         alloc: Global,
@@ -95,21 +95,6 @@ impl<'r> Consumed<'r> {
         let workers = withdrawn(alloc, &mut self.tree, table, claims, ended)?;
         self.commit(walked)?;
         Ok(workers)
-    }
-
-    /// As `consume`, where nobody asks whose tests are wanted.
-    pub(crate) fn follow(&mut self, table: &Table) -> Result<(), AllocError>
-        requires len { length table.now ≡ length self.old.tree.graph }
-        ensures run { OnOk result (Consumes self.old table.now self.new) }
-        ensures nodes { OnOk result (KeepsNodesAhead self.old self.new) }
-        ensures err { OnErr result (IsSameRun self.old self.new) }
-    {
-        if self.ending.is_some() {
-            return Ok(());
-        }
-        let walked = self.tree.run(table, self.left)?;
-        self.commit(walked)?;
-        Ok(())
     }
 
     /// Adds a walk from the root, and moves the root to its end. After an error all is as before.

@@ -13,7 +13,7 @@ ghost use Rattle.bf_core.specs.Machine.{StaysBeside, AreWithdrawn, RefusesIllega
 ghost use Rattle.bf_core.specs.Machine.{ClaimsIf, LeavesRestIf, IsIllegalUnless, LeavesClaim, MayClaim, StaysIfIllegal};
 
 use crate::answers::{ApplyFault, CoreParts, Pick, Withdrawn};
-use crate::claims::{end_claim, has_claim, is_free, stands, without};
+use crate::claims::{asked_of, end_claim, has_claim, is_free, stands, without};
 use crate::consuming::Consumed;
 use bf_reach::Reach;
 use bf_search::{Claim, Ending, Entry, Event, Mark, Outcome};
@@ -222,34 +222,34 @@ impl<'r> Core<'r> {
         ensures nodes { OnOk result (KeepsGuesses self.old self.new) }
         ensures err { OnErr result (IsSameButNodes self.old self.new) }
     {
-        let others = without(self.alloc, self.claims.as_slice(), worker)?;
-        self.table.put(place, outcome);
-        match self.run.consume(self.alloc, &self.table, others.as_slice()) {
-            Ok(workers) => {
-                self.claims = others;
-                Ok(Withdrawn { workers })
-            }
-            Err(error) => {
-                self.table.remove(place);
-                Err(error)
-            }
-        }
+        self.put(worker, place, outcome, true)
     }
 
-    /// As `post`, where nobody asks whose tests are wanted.
-    fn put(&mut self, worker: u32, place: u32, outcome: Outcome) -> Result<(), AllocError>
+    /// As `post`, which gives nobody unless it is asked whose tests are wanted.
+    fn put(
+        &mut self,
+        worker: u32,
+        place: u32,
+        outcome: Outcome,
+        asks: bool,
+    ) -> Result<Withdrawn, AllocError>
         requires { stands self.old.claims worker place ≡ true }
         ensures event { OnOk result (IsStep self.old (Event.Post worker place outcome) self.new) }
         ensures consumed { IsConsumed self.new }
+        ensures beside { OnOk result (StaysBeside self.old place self.new) }
+        ensures withdrawn { asks ≡ true →
+            IfOk result (λ w. AreWithdrawn self.new w.workers.items) }
+        ensures ascending { IfOk result (λ w. IsStrictlyIncreasing w.workers.items) }
         ensures nodes { OnOk result (KeepsGuesses self.old self.new) }
         ensures err { OnErr result (IsSameButNodes self.old self.new) }
     {
         let others = without(self.alloc, self.claims.as_slice(), worker)?;
         self.table.put(place, outcome);
-        match self.run.follow(&self.table) {
-            Ok(()) => {
+        let asked = asked_of(others.as_slice(), asks);
+        match self.run.consume(self.alloc, &self.table, asked) {
+            Ok(workers) => {
                 self.claims = others;
-                Ok(())
+                Ok(Withdrawn { workers })
             }
             Err(error) => {
                 self.table.remove(place);
@@ -307,7 +307,7 @@ impl<'r> Core<'r> {
                 if !self.stands(worker, place) {
                     return Err(ApplyFault::Illegal { event });
                 }
-                self.put(worker, place, outcome)?;
+                self.put(worker, place, outcome, false)?;
             }
             Event::Give { worker, place } => {
                 if !self.stands(worker, place) {

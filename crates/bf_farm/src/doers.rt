@@ -1,5 +1,5 @@
 //! Who does what.
-ghost use Rattle.std.specs.Prelude.{◌≡◌, true};
+ghost use Rattle.std.specs.Prelude.{◌≡◌, ◌↔◌, IsTrue};
 ghost use Rattle.bf_farm.specs.Doers.{IsOneOf, worker_of};
 
 use bf_search::Event;
@@ -17,7 +17,7 @@ fn worker_of(event: Event) -> u32
 
 /// Whether an event names one of so many workers, who are numbered from 1.
 pub fn is_by_one_of(workers: usize, event: Event) -> bool
-    ensures { result ≡ true → IsOneOf workers (worker_of event) }
+    ensures { IsTrue result ↔ IsOneOf workers (worker_of event) }
 {
     let worker = worker_of(event) as usize;
     1 <= worker && worker <= workers

@@ -2,6 +2,7 @@
 ghost use Rattle.std.specs.Prelude.{◌≡◌, ◌≤◌, false, length, replicate, None, IfOk};
 ghost use Rattle.bf_state.specs.Ends.{HasEnds};
 
+use crate::late::{Late, Watch};
 use crate::line::{line, search};
 use bf_farm::{Case, Report, run_alone, run_farm};
 use bf_oid::Oid;
@@ -196,5 +197,35 @@ fn two_tests_overlap(rt: HostRuntime) -> Result<(), Fail> {
     let mut tester = ScriptTester::new(rt.alloc(), b"ggggbbbb", none, Some(gate))?;
     let report = reported(&rt, rt.alloc(), 2, 0, &mut tester)?;
     workers_post(&rt, report.events.as_slice());
+    Ok(())
+}
+
+/// Asserts that place 5 was claimed and given back by one worker, and never posted.
+fn gives_back(rt: &impl Abort, events: &[Event]) {
+    let mut claims = 0;
+    let mut gives = 0;
+    for event in events {
+        match *event {
+            Event::Claim { worker, place } if place == 5 => claims = worker,
+            Event::Give { worker, place } if place == 5 => gives = worker,
+            Event::Post { place, .. } => assert!(rt; place != 5),
+            Event::Claim { .. } | Event::Give { .. } => {}
+        }
+    }
+    assert!(rt; claims > 0 && gives == claims);
+}
+
+// While one worker tests place 3, the other one tests place 5, for the case that 3 is good. It is bad.
+#[test]
+fn a_needless_test_sees_its_flag_raised(rt: HostRuntime) -> Result<(), Fail> {
+    let watch = Arc::new(rt.alloc(), Watch::new(3, 5))?;
+    let mut tester = Late {
+        inner: PlanTester::new(rt.alloc(), b"gbbbbbbb")?,
+        watch: watch.clone()?,
+    };
+    let report = reported(&rt, rt.alloc(), 2, 0, &mut tester)?;
+    assert!(rt; watch.was_raised());
+    assert!(rt; report.ending == Ending::FirstBad(1));
+    gives_back(&rt, report.events.as_slice());
     Ok(())
 }

@@ -8,6 +8,8 @@ mod cores;
 #[cfg(test)]
 mod farm;
 #[cfg(test)]
+mod late;
+#[cfg(test)]
 mod line;
 #[cfg(test)]
 mod schedules;

@@ -4,6 +4,7 @@ ghost use Rattle.bf_state.specs.Ends.{HasEnds};
 ghost use Rattle.bf_many.specs.Teams.{AreWhole};
 ghost use Rattle.test_farm.specs.Searches.{AreFresh, IsFresh, IsOfEight};
 
+use crate::late::{Late, Watch};
 use bf_core::Core;
 use bf_graph::Graph;
 use bf_many::{ManyCase, ManyCore, ManyEvent, ManyPick, Search, Shared, run_shared};
@@ -110,12 +111,17 @@ fn finds(alloc: Global, place: u32, table: &Table) -> Result<bool, AllocError>
     Ok(core.ending() == Some(&Ending::FirstBad(place)))
 }
 
-/// Asserts that the first search found the commit at place 4, and the second one that at place 1.
-fn have_found(rt: &impl Abort, alloc: Global, shared: &Shared) -> Result<(), AllocError>
+/// Asserts that the searches found the commits at these places.
+fn have_found(
+    rt: &impl Abort,
+    alloc: Global,
+    shared: &Shared,
+    places: [u32; 2],
+) -> Result<(), AllocError>
     requires { All IsOfEight shared.now.tables.items }
 {
     assert_eq!(rt; shared.tables.len(), 2);
-    for (table, place) in shared.tables.iter().zip([4, 1]) {
+    for (table, place) in shared.tables.iter().zip(places) {
         assert!(rt; finds(alloc, place, table)?);
     }
     Ok(())
@@ -128,7 +134,7 @@ fn each_search_has_its_own_outcomes(rt: HostRuntime) -> Result<(), Fail> {
         testers.push(PlanTester::new(rt.alloc(), b"ggggbbbb")?)?;
         testers.push(PlanTester::new(rt.alloc(), b"gbbbbbbb")?)?;
         let shared = shared_by(&rt, rt.alloc(), workers, testers.as_mut_slice())?;
-        have_found(&rt, rt.alloc(), &shared)?;
+        have_found(&rt, rt.alloc(), &shared, [4, 1])?;
     }
     Ok(())
 }
@@ -154,10 +160,30 @@ fn workers_share_searches(rt: HostRuntime) -> Result<(), Fail> {
     testers.push(ScriptTester::new(alloc, b"ggggbbbb", Vec::new(alloc), first)?)?;
     testers.push(ScriptTester::new(alloc, b"gbbbbbbb", Vec::new(alloc), Some(gate))?)?;
     let shared = shared_by(&rt, alloc, 2, testers.as_mut_slice())?;
-    have_found(&rt, alloc, &shared)?;
+    have_found(&rt, alloc, &shared, [4, 1])?;
     for search in 0..2 {
         assert!(rt; claims_of(search, shared.events.as_slice()) > 0);
     }
+    Ok(())
+}
+
+// The test of place 5 in the first search is needless, as place 3 is bad there. The second search has no watch.
+#[test]
+fn a_needless_test_of_one_search_sees_its_flag_raised(rt: HostRuntime) -> Result<(), Fail> {
+    let alloc = rt.alloc();
+    let watch = Arc::new(alloc, Watch::new(3, 5))?;
+    let mut testers = Vec::new(alloc);
+    testers.push(Late {
+        inner: PlanTester::new(alloc, b"gbbbbbbb")?,
+        watch: watch.clone()?,
+    })?;
+    testers.push(Late {
+        inner: PlanTester::new(alloc, b"ggggbbbb")?,
+        watch: Arc::new(alloc, Watch::new(8, 8))?,
+    })?;
+    let shared = shared_by(&rt, alloc, 2, testers.as_mut_slice())?;
+    assert!(rt; watch.was_raised());
+    have_found(&rt, alloc, &shared, [1, 4])?;
     Ok(())
 }
 

@@ -1,4 +1,4 @@
-use Rattle.std.proofs.Common.{◌∙◌, length}
+use Rattle.std.proofs.Common.{◌∙◌, length, refl}
 use Rattle.bf_farm.proofs.History.{done_if}
 use Rattle.bf_farm.proofs.Soundness.{sound_if, start_if, start_then, first_if, len_if}
 use Rattle.bf_farm.proofs.replay.replay.Goals as goal
@@ -14,7 +14,7 @@ loop-event-preserved g c = record {
       (c.checked-event.ensures told answers parts) (c.loop-event.invariant.sound told answers parts before);
   workers = λ before.
       done_if (length c.args.workers.now) c.in_ok-redo.field-0 c.loop-event.board c.redo.new.self c.checked-event.result
-      (c.is_by_one_of.ensures c.if-not-is_by_one_of.false) c.in_ok-redo.ensures.done (c.loop-event.invariant.workers before);
+      (c.if-not-is_by_one_of.ensures.0 refl) c.in_ok-redo.ensures.done (c.loop-event.invariant.workers before);
 }
 
 pub returns-then-not-branch-clause-sound : goal.returns-then-not-branch-clause-sound
