@@ -1,9 +1,4 @@
 //! A journal of the outcomes of a run, which survives a crash at any moment.
-//!
-//! A file is looked at in this order: too short, gate not 1, another identity, a spoiled slot. A 0 is written and
-//! made sure of first just where the file is too short, or where the gate is 1, the identity is the given one and
-//! a slot is spoiled: closing the gate of another file first would lose what it stands for. The bytes that are
-//! always 0 are pinned by a test alone.
 ghost use Rattle.std.specs.Prelude.{◌≡◌, ◌≢◌, ◌⊎◌, ℕ, ◌<◌, ◌≤◌, length, true, None, Ok, Err, IfSome, IfOk, OnOk, OnErr, IsErrOf, slice_index};
 ghost use Rattle.std.specs.List.{slice_index_or};
 ghost use Rattle.std.specs.Option.{is_some, option_map};

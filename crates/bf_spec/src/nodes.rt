@@ -1,8 +1,4 @@
-//! The nodes of a tree, with links from each to those that follow it, so that a step compares no paths.
-//!
-//! What is proved is that a link that stands is right, and not that one stands wherever it could: a link that
-//! lacks costs a node that is made twice, and no answer. When the root moves on, each link is compared with the
-//! paths of its two nodes, which takes the place of a proof of the new numbers.
+//! The nodes of a tree, with links from each to those that follow it.
 ghost use Rattle.std.specs.Prelude.{◌≡◌, ◌↔◌, ℕ, ◌<◌, ◌++◌, ◌∷◌, [], length, IsTrue, IfOk, IfSome, OnOk, OnErr};
 ghost use Rattle.std.specs.List.{slice_index_or};
 ghost use Rattle.bf_search.specs.declared.outcomes.Mark.{Mark as MarkValue};

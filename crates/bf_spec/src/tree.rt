@@ -1,8 +1,4 @@
-//! The tree of guesses. Its nodes are in one list, each with its path: so its rule is in the words of the
-//! definition, and nothing in it is dropped by recursion.
-//!
-//! `SpecTree::run` gives the last mark of a leg a node, too, so that one `jump` serves every end; at the end of a
-//! leg the state that is told is the marked one, apart from the root.
+//! The tree of guesses.
 ghost use Rattle.std.specs.Prelude.{◌≡◌, ◌≢◌, ◌↔◌, ℕ, ◌<◌, ◌∷◌, [], List, length, IfOk, OnOk, OnErr, IsOk, IsTrue};
 ghost use Rattle.bf_search.specs.declared.asks.Ask.TheVariants.{Test};
 ghost use Rattle.bf_search.specs.declared.outcomes.Mark.{Mark as MarkValue};

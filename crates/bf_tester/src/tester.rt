@@ -1,6 +1,4 @@
 //! The trait of what tests commits.
-//!
-//! `prepare` calls its parameter `words`, since a parameter may not have the name of a ghost member.
 ghost use Rattle.std.specs.Prelude.{◌≡◌, ℕ, ◌≤◌, Bool, true, ◌||◌, List, [], ◌++◌, Option, None, IfOk, OnOk, OnErr, IfErr};
 ghost use Rattle.std.specs.List.{slice_get};
 ghost use Rattle.bf_io.specs.Causes.{Rose};
