@@ -1,7 +1,5 @@
 -- Leaps along first parents.
-use Rattle.std.proofs.Common.{◌≡◌, ℕ, zero, suc, ◌+◌, ◌-◌, ◌<◌, ◌≤◌, ◌⊎◌, ⊎_elim, List, [], ◌∷◌, ◌++◌, length, get_or, Option, Some, None, refl, sym, ◌∙◌, ap, subst, arith}
-use Rattle.std.proofs.Common.{length-append}
-use Rattle.std.proofs.lemmas.List.{get_or_append_left, get_or_push}
+use Rattle.std.proofs.Common.{◌≡◌, ℕ, zero, suc, ◌+◌, ◌-◌, ◌<◌, ◌≤◌, List, length, get_or, Option, Some, None, refl, sym, ◌∙◌, ap, arith}
 use Rattle.std.specs.List.{slice_get}
 use Rattle.std.specs.Option.{option_and_then}
 use Rattle.bf_graph.specs.Graph.{parents_of}
@@ -24,7 +22,8 @@ first_steps : (graph : List (List ℕ)) (a b place end : ℕ) → ancestor graph
 first_steps graph zero b place end is =
     let same : Some place ≡ Some end = sym (ancestor-zero graph 0 place (omega arith)) ∙ is in
     let at : place ≡ end = cc in
-    ap (ancestor graph b) at
+    let e : 0 + b ≡ b = omega arith in
+    ap (λ n. ancestor graph n place) e ∙ ap (ancestor graph b) at
 first_steps graph (suc a) b place end is =
     let parent = slice_get (parents_of graph place) 0 in
     let e : suc a + b ≡ suc (a + b) = omega arith in
@@ -56,6 +55,19 @@ leap_joined graph place parent first second is earlier one other = record {
   earlier = omega (arith, earlier, one.earlier, other.earlier);
 }
 
+-- what the list has of the first parent, and of where the leap from there ends, makes a leap
+pub leap_known : (graph : List (List ℕ)) (leaps : List Leap) (place parent : ℕ) (none : Leap) → AreFirstLeaps graph leaps
+    → slice_get (parents_of graph place) 0 ≡ Some parent → parent < place → place ≡ length leaps
+    → IsLeap graph place (record {
+      steps = 1 + (get_or leaps parent none).steps + (get_or leaps (get_or leaps parent none).place none).steps;
+      place = (get_or leaps (get_or leaps parent none).place none).place;
+    })
+leap_known graph leaps place parent none each is earlier known =
+    let first = get_or leaps parent none in
+    let one : IsLeap graph parent first = each parent none (omega (arith, earlier, known)) in
+    leap_joined graph place parent first (get_or leaps first.place none) is earlier one
+    (each first.place none (omega (arith, earlier, known, one.earlier)))
+
 -- ---- what a leap does for a walk
 
 pub leapt : (graph : List (List ℕ)) (n place : ℕ) (leap : Leap) → IsLeap graph place leap → leap.steps ≤ n
@@ -63,15 +75,3 @@ pub leapt : (graph : List (List ℕ)) (n place : ℕ) (leap : Leap) → IsLeap g
 leapt graph n place leap is within =
     let e : n ≡ leap.steps + (n - leap.steps) = omega (arith, within) in
     ap (λ m. ancestor graph m place) e ∙ first_steps graph leap.steps (n - leap.steps) place leap.place is.leads
-
--- ---- the list grows
-
-pub leaps_more : (graph : List (List ℕ)) (leaps : List Leap) (leap : Leap) → AreFirstLeaps graph leaps → IsLeap graph (length leaps) leap
-    → AreFirstLeaps graph (leaps ++ leap ∷ [])
-leaps_more graph leaps leap each is = λ place other within.
-    let long = length-append leaps (leap ∷ []) in
-    let either : (length leaps ≡ place) ⊎ (place < length leaps) = omega (arith, long, within) in
-    ⊎_elim (λ (at : length leaps ≡ place). subst (λ l. IsLeap graph place l) (sym (get_or_push leaps leap other place at))
-    (subst (λ p. IsLeap graph p leap) at is))
-    (λ (before : place < length leaps). subst (λ l. IsLeap graph place l) (sym (get_or_append_left leaps (leap ∷ []) other place before))
-    (each place other before)) either
