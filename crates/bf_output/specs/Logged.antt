@@ -12,38 +12,22 @@ use Rattle.bf_words.specs.declared.request.Request.{Request}
 use Rattle.bf_words.specs.declared.verb.Verb.{Verb}
 use Rattle.bf_words.specs.declared.verb.Verb.TheVariants as verb
 use Rattle.bf_output.specs.declared.status.Status.{Status}
-use Rattle.bf_output.specs.declared.status.Status.TheVariants as status
 use Rattle.bf_output.specs.Beginning.{Begun, begun_with_skips, log_on}
 use Rattle.bf_output.specs.Inputs.{file_of}
 use Rattle.bf_output.specs.Returning.{FileGiven, LogGivesBack, GoesOnFromStart, GoesOnFromParts}
 use Rattle.bf_output.specs.Simulate.{plan_of}
+use Rattle.bf_output.specs.Statuses.{Stage, Refused, Unread, Ended, Cut, stage_of}
 use Rattle.bf_output.specs.Tested.{Tested}
 
 -- the statuses with which a search ends that needs no test any more
 abbrev pub EndsSearch : Status → Type 0
-EndsSearch status.Done = Unit {0}
-EndsSearch (status.Usage word) = ⊥
-EndsSearch status.OnlySkipped = Unit {0}
-EndsSearch status.MergeBaseBad = Unit {0}
-EndsSearch status.GoodNotAncestor = Unit {0}
-EndsSearch status.BothSides = Unit {0}
-EndsSearch status.Aborted = Unit {0}
-EndsSearch (status.StreamRefused line refusal) = ⊥
-EndsSearch (status.NameRefused word fault) = ⊥
-EndsSearch (status.TooLarge what) = ⊥
-EndsSearch (status.LogRefused line) = ⊥
-EndsSearch (status.TestFault place) = ⊥
-EndsSearch status.ReadFault = ⊥
-EndsSearch status.WriteFault = ⊥
-EndsSearch status.ShelfFault = ⊥
-EndsSearch status.NoMemory = ⊥
-EndsSearch status.NoFile = ⊥
-EndsSearch status.Waiting = ⊥
-EndsSearch (status.NoContent line) = ⊥
-EndsSearch (status.CertRefused line) = ⊥
-EndsSearch (status.JournalRefused kept) = ⊥
-EndsSearch status.JournalFault = ⊥
-EndsSearch (status.ListRefused line) = ⊥
+EndsSearch status = IsEnd (stage_of status)
+  where
+    IsEnd : Stage → Type 0
+    IsEnd Refused = ⊥
+    IsEnd Unread = ⊥
+    IsEnd Ended = Unit {0}
+    IsEnd Cut = ⊥
 
 -- What the shelf gives for the word of --replay: nothing where the words have none, and else, where it tells its files,
 -- the one of that name.
