@@ -6,7 +6,7 @@ use Rattle.bf_output.specs.declared.status.Status.{Status}
 use Rattle.bf_output.specs.declared.status.Status.TheVariants as status
 use Rattle.bf_output.specs.Refusals.{file_fault, read_fault}
 use Rattle.bf_output.specs.Statuses.{Stage, Refused, Unread, Ended, Cut, stage_of}
-use Rattle.bf_output.specs.Tested.{Tested}
+use Rattle.bf_output.specs.Shown.{TesterShown}
 use Rattle.bf_output.specs.Told.{Told}
 use Rattle.bf_answers.specs.declared.answer.Answer.{Answer}
 use Rattle.bf_answers.specs.Devices.{Met, TesterMet, HasFailed, HasNotFailed, test_faults}
@@ -33,7 +33,7 @@ IsUnloaded command met = IsTrue command.loads × HasFailed met.shelf.faults
 -- ---- the tests
 
 -- tests are asked for, the count of faults of the tester rose, and its latest failed test is that of the place
-pub record IsFailedTest (asks : Bool) (before : ℕ) (after : Tested) (place : ℕ) : Type 0 where
+pub record IsFailedTest (asks : Bool) (before : ℕ) (after : TesterShown) (place : ℕ) : Type 0 where
   pub asked : IsTrue asks
   pub rose : Rose before after.faults
   pub failed : after.failed ≡ Some place
@@ -130,7 +130,7 @@ IsWhole status = IsUncut (stage_of status)
     IsUncut Cut = ⊥
 
 -- a status has its cause: no device cut the answer short, and a test fault comes of a failed test alone
-abbrev pub HasCause : Bool → ℕ → Tested → Status → Type 0
+abbrev pub HasCause : Bool → ℕ → TesterShown → Status → Type 0
 HasCause asks before after (status.TestFault place) = IsFailedTest asks before after place
 HasCause asks before after other = IsWhole other
 

@@ -17,7 +17,7 @@ use Rattle.bf_output.specs.Inputs.{file_of}
 use Rattle.bf_output.specs.Returning.{FileGiven, LogGivesBack, GoesOnFromStart, GoesOnFromParts}
 use Rattle.bf_output.specs.Simulate.{plan_of}
 use Rattle.bf_output.specs.Statuses.{Stage, Refused, Unread, Ended, Cut, stage_of}
-use Rattle.bf_output.specs.Tested.{Tested}
+use Rattle.bf_output.specs.Shown.{TesterShown}
 
 -- the statuses with which a search ends that needs no test any more
 abbrev pub EndsSearch : Status → Type 0
@@ -55,7 +55,7 @@ pub record IsLogOf (file : FileGiven) (history : History) (first : Begun) (known
   pub from_parts : file ≡ None → GoesOnFromParts history first known run
 
 -- the outcomes of a search: those of the plan that the words write, or those that its tester answered
-abbrev pub AreOutcomesOf : Verb → Request → List (List ℕ) → Tested → History → Outcomes → Type 0
+abbrev pub AreOutcomesOf : Verb → Request → List (List ℕ) → TesterShown → History → Outcomes → Type 0
 AreOutcomesOf verb.Simulate request words tested history known = known ≡ outcomes_of_plan (plan_of request words)
 AreOutcomesOf verb.Run request words tested history known =
     (table : List (Option Outcome)) × IsKnown history.names tested.plan tested.answers table × (known ≡ outcomes_of_table table)
@@ -65,7 +65,7 @@ AreOutcomesOf verb.Gen request words tested history known = ⊥
 AreOutcomesOf verb.Sample request words tested history known = ⊥
 
 -- the search of these words, over the history of these bytes and behind this file, printed its log
-pub record IsLogged (request : Request) (words : List (List ℕ)) (tested : Tested) (file : FileGiven) (bytes text : List ℕ)
+pub record IsLogged (request : Request) (words : List (List ℕ)) (tested : TesterShown) (file : FileGiven) (bytes text : List ℕ)
     : Type 0 where
   pub history : History
   pub loads : Loads bytes standard_limits (Ok history)
