@@ -9,7 +9,7 @@ use Rattle.bf_io.proofs.Told.{Appends-trans, AppendsFront-second}
 use Rattle.bf_words.specs.declared.request.Request.{Request}
 use Rattle.bf_words.specs.declared.verb.Verb.{Verb}
 use Rattle.bf_output.specs.Output.{IsSearched, is_run}
-use Rattle.bf_output.specs.Tested.{Tested}
+use Rattle.bf_output.specs.Shown.{TesterShown}
 use Rattle.bf_output.specs.declared.status.Status.{Status}
 use Rattle.bf_output.specs.declared.status.Status.TheVariants as status
 use Rattle.bf_output.specs.Told.{Told}
@@ -41,13 +41,13 @@ caused_not_lost asks tester s result cause = λ lost. absurd (subst (HasCause as
 pub whole_not_lost : (s result : Status) → IsWhole s → IsLostAs s result
 whole_not_lost s result whole = λ lost. absurd (subst IsWhole lost whole)
 
-pub causes_of_whole : {E : Type 0} (asks : Bool) (before : ℕ) (after : Tested) (result : Result Answer E) → IfOk result (λ answer. IsWhole answer.status)
+pub causes_of_whole : {E : Type 0} (asks : Bool) (before : ℕ) (after : TesterShown) (result : Result Answer E) → IfOk result (λ answer. IsWhole answer.status)
     → IfOk result (λ answer. HasCause asks before after answer.status)
 causes_of_whole asks before after (Err e) w = tt
 causes_of_whole asks before after (Ok answer) w = whole_cause asks before after answer.status w
 
 -- a test fault is answered only where a test failed
-pub test_written : (asks : Bool) (old : ℕ) (new : Tested) (place : ℕ) (before after : Option (List ℕ)) (text : List ℕ) (s result : Status)
+pub test_written : (asks : Bool) (old : ℕ) (new : TesterShown) (place : ℕ) (before after : Option (List ℕ)) (text : List ℕ) (s result : Status)
     → HasCause asks old new s → IsWritten before after text s result → result ≡ status.TestFault place → IsFailedTest asks old new place
 test_written asks old new place before after text s result cause (inl (e, a)) is = subst (HasCause asks old new) (sym e ∙ is) cause
 test_written asks old new place before after text s result cause (inr (inl e, front)) is = cc (sym e ∙ is)
@@ -57,7 +57,7 @@ pub cut_is_own : (result : Status) → (result ≡ status.WriteFault) ⊎ (resul
 cut_is_own result (inl e) = (λ is. cc (sym e ∙ is), λ is. cc (sym e ∙ is))
 cut_is_own result (inr e) = (λ is. cc (sym e ∙ is), λ is. cc (sym e ∙ is))
 
-pub own_written : (asks : Bool) (old : ℕ) (new : Tested) (before after : Option (List ℕ)) (text : List ℕ) (s result : Status)
+pub own_written : (asks : Bool) (old : ℕ) (new : TesterShown) (before after : Option (List ℕ)) (text : List ℕ) (s result : Status)
     → HasCause asks old new s → IsWritten before after text s result → (result ≢ status.ReadFault) × (result ≢ status.ShelfFault)
 own_written asks old new before after text s result cause (inl (e, a)) =
     (λ is. subst (HasCause asks old new) (sym e ∙ is) cause, λ is. subst (HasCause asks old new) (sym e ∙ is) cause)
@@ -68,7 +68,7 @@ cut_is_no_test result place (inl e) is = cc (sym e ∙ is)
 cut_is_no_test result place (inr e) is = cc (sym e ∙ is)
 
 -- a write fault is answered only where a write failed
-pub write_written : (asks : Bool) (old : ℕ) (new : Tested) (s : Status) (first before after : ℕ) → HasCause asks old new s → first ≤ before
+pub write_written : (asks : Bool) (old : ℕ) (new : TesterShown) (s : Status) (first before after : ℕ) → HasCause asks old new s → first ≤ before
     → (s ≡ status.WriteFault) ⊎ Rose before after → Rose first after
 write_written asks old new s first before after cause le (inl e) = absurd (subst (HasCause asks old new) e cause)
 write_written asks old new s first before after cause le (inr rose) = rose_since first before after le rose
@@ -115,7 +115,7 @@ pub cut_is_no_journal : (result : Status) → (result ≡ status.WriteFault) ⊎
 cut_is_no_journal result (inl e) = λ is. cc (sym e ∙ is)
 cut_is_no_journal result (inr e) = λ is. cc (sym e ∙ is)
 
-pub caused_no_journal : (asks : Bool) (old : ℕ) (new : Tested) (before after : Option (List ℕ)) (text : List ℕ) (s result : Status)
+pub caused_no_journal : (asks : Bool) (old : ℕ) (new : TesterShown) (before after : Option (List ℕ)) (text : List ℕ) (s result : Status)
     → HasCause asks old new s → IsWritten before after text s result → result ≢ status.JournalFault
 caused_no_journal asks old new before after text s result cause (inl (e, a)) = λ is. subst (HasCause asks old new) (sym e ∙ is) cause
 caused_no_journal asks old new before after text s result cause (inr (cut, front)) = cut_is_no_journal result cut

@@ -5,7 +5,8 @@ use Rattle.bf_io.specs.Told.{Keeps, Appends, AppendsFront}
 use Rattle.bf_output.specs.declared.status.Status.{Status}
 use Rattle.bf_output.specs.declared.status.Status.TheVariants as status
 use Rattle.bf_output.specs.Refusals.{file_fault, read_fault}
-use Rattle.bf_output.specs.Tested.{Tested}
+use Rattle.bf_output.specs.Statuses.{Stage, Refused, Unread, Ended, Cut, stage_of}
+use Rattle.bf_output.specs.Shown.{TesterShown}
 use Rattle.bf_output.specs.Told.{Told}
 use Rattle.bf_answers.specs.declared.answer.Answer.{Answer}
 use Rattle.bf_answers.specs.Devices.{Met, TesterMet, HasFailed, HasNotFailed, test_faults}
@@ -32,7 +33,7 @@ IsUnloaded command met = IsTrue command.loads × HasFailed met.shelf.faults
 -- ---- the tests
 
 -- tests are asked for, the count of faults of the tester rose, and its latest failed test is that of the place
-pub record IsFailedTest (asks : Bool) (before : ℕ) (after : Tested) (place : ℕ) : Type 0 where
+pub record IsFailedTest (asks : Bool) (before : ℕ) (after : TesterShown) (place : ℕ) : Type 0 where
   pub asked : IsTrue asks
   pub rose : Rose before after.faults
   pub failed : after.failed ≡ Some place
@@ -42,20 +43,15 @@ abbrev pub HasTestCause : Bool → TesterMet → Status → Type 0
 HasTestCause asks tester result =
     (place : ℕ) → result ≡ status.TestFault place → IsFailedTest asks tester.before.faults tester.after place
 
--- The statuses that are answered before a search begins: all but those of a search and of what cuts it short. One that is
--- not named here is a refusal: where a new status is, the clauses say of it, too, that nothing was tested.
+-- the statuses that are answered before a search begins
 abbrev pub IsBeforeSearch : Status → Type 0
-IsBeforeSearch status.Done = ⊥
-IsBeforeSearch status.OnlySkipped = ⊥
-IsBeforeSearch status.MergeBaseBad = ⊥
-IsBeforeSearch status.GoodNotAncestor = ⊥
-IsBeforeSearch status.BothSides = ⊥
-IsBeforeSearch status.Aborted = ⊥
-IsBeforeSearch (status.TestFault place) = ⊥
-IsBeforeSearch status.WriteFault = ⊥
-IsBeforeSearch status.JournalFault = ⊥
-IsBeforeSearch status.NoMemory = ⊥
-IsBeforeSearch other = Unit {0}
+IsBeforeSearch status = IsBefore (stage_of status)
+  where
+    IsBefore : Stage → Type 0
+    IsBefore Refused = Unit {0}
+    IsBefore Unread = Unit {0}
+    IsBefore Ended = ⊥
+    IsBefore Cut = ⊥
 
 -- the tester is as it was
 abbrev pub IsUntested : TesterMet → Type 0
@@ -125,32 +121,16 @@ IsComplete command met result =
 
 -- an answer that no device cut short, and no test
 abbrev pub IsWhole : Status → Type 0
-IsWhole status.Done = Unit {0}
-IsWhole (status.Usage word) = Unit {0}
-IsWhole status.OnlySkipped = Unit {0}
-IsWhole status.MergeBaseBad = Unit {0}
-IsWhole status.GoodNotAncestor = Unit {0}
-IsWhole status.BothSides = Unit {0}
-IsWhole status.Aborted = Unit {0}
-IsWhole (status.StreamRefused line refusal) = Unit {0}
-IsWhole (status.NameRefused word fault) = Unit {0}
-IsWhole (status.TooLarge what) = Unit {0}
-IsWhole (status.LogRefused line) = Unit {0}
-IsWhole (status.TestFault place) = ⊥
-IsWhole status.ReadFault = ⊥
-IsWhole status.WriteFault = ⊥
-IsWhole status.ShelfFault = ⊥
-IsWhole status.NoMemory = ⊥
-IsWhole status.NoFile = Unit {0}
-IsWhole status.Waiting = Unit {0}
-IsWhole (status.NoContent line) = Unit {0}
-IsWhole (status.CertRefused line) = Unit {0}
-IsWhole (status.JournalRefused kept) = Unit {0}
-IsWhole status.JournalFault = ⊥
-IsWhole (status.ListRefused line) = Unit {0}
+IsWhole status = IsUncut (stage_of status)
+  where
+    IsUncut : Stage → Type 0
+    IsUncut Refused = Unit {0}
+    IsUncut Unread = ⊥
+    IsUncut Ended = Unit {0}
+    IsUncut Cut = ⊥
 
 -- a status has its cause: no device cut the answer short, and a test fault comes of a failed test alone
-abbrev pub HasCause : Bool → ℕ → Tested → Status → Type 0
+abbrev pub HasCause : Bool → ℕ → TesterShown → Status → Type 0
 HasCause asks before after (status.TestFault place) = IsFailedTest asks before after place
 HasCause asks before after other = IsWhole other
 

@@ -3,7 +3,7 @@ use Rattle.std.proofs.Common.{◌≡◌, ℕ, List, [], Option, Some, None, Resu
 use Rattle.std.specs.Option.{option_map}
 use Rattle.bf_history.specs.Meanings.{History}
 use Rattle.bf_words.specs.declared.request.Request.{Request}
-use Rattle.bf_output.specs.Tested.{Tested}
+use Rattle.bf_output.specs.Shown.{TesterShown}
 use Rattle.bf_output.specs.Told.{Told}
 use Rattle.bf_answers.specs.declared.answer.Fault.{Fault}
 use Rattle.bf_answers.specs.declared.started.Ready.{Ready}
@@ -28,7 +28,7 @@ use Rattle.bf_answers.specs.Tellings.{begun_of, told_of}
 -- a search that has begun is told as one that begins so
 pub started_told : (request : Request) (words : List (List ℕ)) (meant : Result Begun Told) (history : History) (first : Beginning) (means : Means)
     → meant ≡ Ok (begun_of first)
-    → (tested : Tested) (told : Told) → IsSearched (verb_of means) request words tested history (begun_of first) told
+    → (tested : TesterShown) (told : Told) → IsSearched (verb_of means) request words tested history (begun_of first) told
     → IsSearchedFrom meant (verb_of means) request words tested history told
 started_told request words meant history first means is = λ tested told tells.
     subst (λ (m : Result Begun Told). IsSearchedFrom m (verb_of means) request words tested history told) (sym is) tells
@@ -71,7 +71,7 @@ refused_sound request meant (Refused answer) result step sound = sound (Err (tol
 refused_sound request meant NoMemory result step sound = sound (Ok (record { status = status.Done; text = [] })) tt tt request
 
 -- from the file that the shelf gave
-over_file : (replay : Option ℕ) (request : Request) (words : List (List ℕ)) (files : Option (List ShelfFile)) (tested : Tested) (history : History)
+over_file : (replay : Option ℕ) (request : Request) (words : List (List ℕ)) (files : Option (List ShelfFile)) (tested : TesterShown) (history : History)
     (file : Option LogFile) (told : Told) → IsFileOf files words replay file
     → IsOverFile request.verb request words tested (option_map given_of file) history told
     → IsOverLog replay request (given_to words files tested) history told

@@ -16,7 +16,8 @@ use Rattle.bf_log.specs.Trace.{event_lines}
 use Rattle.bf_log.specs.Written.{known_after_all}
 use Rattle.bf_output.specs.Beginning.{Begun, commits_of}
 use Rattle.bf_output.specs.Simulate.{plan_of, run_over}
-use Rattle.bf_output.specs.Tested.{Tested, IsFrontIfTold, IsFrontOf, IsTested, is_test_fault, run_on, status_at_end, told_of_run}
+use Rattle.bf_output.specs.Shown.{TesterShown}
+use Rattle.bf_output.specs.Tested.{IsFrontIfTold, IsFrontOf, IsTestedRun, is_test_fault, run_on, status_at_end, told_of_run}
 use Rattle.bf_output.specs.Told.{Told}
 use Rattle.bf_output.specs.Traces.{course_of, traced_if}
 use Rattle.bf_output.specs.declared.status.Status.{Status}
@@ -70,8 +71,8 @@ by_log history first run told (Answered (asks.FirstBad p)) e is other =
 by_log history first run told end e is other = is
 
 -- its log is told as ever
-log_certified : (request : Request) (tested : Tested) (history : History) (first : Begun) (told : Told) → request.trace ≡ false
-    → told.status ≢ status.Done → IsTested request tested history first told → IsTestCertified request tested history first told
+log_certified : (request : Request) (tested : TesterShown) (history : History) (first : Begun) (told : Told) → request.trace ≡ false
+    → told.status ≢ status.Done → IsTestedRun request tested history first told → IsTestCertified request tested history first told
 log_certified request tested history first told plain other is =
     let run = run_on history first is.table in
     record {
@@ -85,7 +86,7 @@ log_certified request tested history first told plain other is =
 
 -- ---- the report of a run without legs
 
-module _ (request : Request) (before after : Tested) (history : History) (first : Begun) (running : Running) (report : Report)
+module _ (request : Request) (before after : TesterShown) (history : History) (first : Begun) (running : Running) (report : Report)
     (is : IsRunning request before history first [] running)
     (ran : IsLegRun (course_of request history first) running.standing.state report)
     (leads : LeadsOn (course_of request history first) before.plan before.answers after.answers (stand_of running.standing) report)
@@ -164,7 +165,7 @@ module _ (request : Request) (before after : Tested) (history : History) (first 
         text = running.telling.text ++ log_from (commits_of history) report.state.terms running.telling.known report.entries.items;
         trace = trace_with (event_lines (commits_of history) report.events.items) running.telling.trace;
       } in
-      let tested : IsTested request after history first (told_of answer) =
+      let tested : IsTestedRun request after history first (told_of answer) =
       gone_on request before after history first [] running report is ran leads same_plan told (Over answer) ready refl refl refl
       (λ e. is_over e) (λ e. (log.status, log.text)) in (
         log_certified request after history first (told_of answer) plain
@@ -230,7 +231,7 @@ closed history first run told (Open p) e is h =
     absurd (both_ways true t refl)
 closed history first run told (Aborted p outcome) e is h = refl
 
-planned_certified : (request : Request) (words : List (List ℕ)) (tested : Tested) (history : History) (first : Begun) (told : Told)
+planned_certified : (request : Request) (words : List (List ℕ)) (tested : TesterShown) (history : History) (first : Begun) (told : Told)
     → tested.plan ≡ Some (plan_of request words) → IsTestCertified request tested history first told → is_test_fault told.status ≡ false
     → IsPlanCertified request words history first told
 planned_certified request words tested history first told plan is h =
@@ -239,7 +240,7 @@ planned_certified request words tested history first told plan is h =
     subst (λ (o : Option (List Outcome)). IsFrontIfTold o history first run) plan is.planned in
     subst (λ (r : Run). IsRunCertified history first r told) (front.ended (closed history first run told run.end refl is.tells h)) is.tells
 
-pub all_planned : {E : Type 0} (request : Request) (words : List (List ℕ)) (tested : Tested) (history : History) (first : Begun)
+pub all_planned : {E : Type 0} (request : Request) (words : List (List ℕ)) (tested : TesterShown) (history : History) (first : Begun)
     (result : Result Answer E) → tested.plan ≡ Some (plan_of request words)
     → IfOk result (λ a. IsTestCertified request tested history first (told_of a)) → IfOk result (λ a. IsWhole a.status)
     → IfOk result (λ a. IsPlanCertified request words history first (told_of a))

@@ -8,7 +8,7 @@ use Rattle.bf_commands.specs.Certify.{IsCertified, IsCertifiedBehind, IsCertifie
 use Rattle.bf_history.specs.Meanings.{History}
 use Rattle.bf_output.specs.Beginning.{Begun}
 use Rattle.bf_output.specs.Output.{given_to}
-use Rattle.bf_output.specs.Tested.{Tested}
+use Rattle.bf_output.specs.Shown.{TesterShown}
 use Rattle.bf_output.specs.Told.{Told}
 use Rattle.bf_io.specs.declared.shelf.LoadFault.{LoadFault}
 use Rattle.bf_io.specs.declared.shelf.ShelfFile.{ShelfFile}
@@ -16,7 +16,7 @@ use Rattle.bf_words.specs.declared.request.Request.{Request}
 use Rattle.bf_words.specs.declared.verb.Verb.{Verb}
 
 -- from the file that the shelf gave
-behind : (replay : Option ℕ) (request : Request) (words : List (List ℕ)) (files : Option (List ShelfFile)) (tested : Tested) (history : History)
+behind : (replay : Option ℕ) (request : Request) (words : List (List ℕ)) (files : Option (List ShelfFile)) (tested : TesterShown) (history : History)
     (file : Option LogFile) (told : Told) → IsFileOf files words replay file
     → IsCertifiedBy request (given_to words None tested) (option_map given_of file) history told
     → IsCertifiedBehind replay request (given_to words files tested) history told
@@ -28,7 +28,7 @@ behind (Some i) request words (Some files) tested history file told is over =
     let P : Option (Result (List ℕ) LoadFault) → Type 0 = λ f. IsCertifiedBy request (given_to words None tested) f history told in
     subst P is over
 
-pub all_behind : {E : Type 0} (request : Request) (words : List (List ℕ)) (files : Option (List ShelfFile)) (tested : Tested) (history : History)
+pub all_behind : {E : Type 0} (request : Request) (words : List (List ℕ)) (files : Option (List ShelfFile)) (tested : TesterShown) (history : History)
     (file : Option LogFile) (given : Option (Result (List ℕ) LoadFault)) (result : Result Answer E) → IsFileOf files words request.replay file
     → given ≡ option_map given_of file
     → IfOk result (λ a. IsCertifiedBy request (given_to words None tested) given history (told_of a))
@@ -39,7 +39,7 @@ all_behind request words files tested history file given (Ok a) is lent over =
     (subst (λ (f : Option (Result (List ℕ) LoadFault)). IsCertifiedBy request (given_to words None tested) f history (told_of a)) lent over)
 
 -- from the search that began
-pub begins : {E : Type 0} (request : Request) (words : List (List ℕ)) (tested : Tested) (history : History) (begun : Result Begun Told) (first : Begun)
+pub begins : {E : Type 0} (request : Request) (words : List (List ℕ)) (tested : TesterShown) (history : History) (begun : Result Begun Told) (first : Begun)
     (verb : Verb) (result : Result Answer E) → begun ≡ Ok first → verb ≡ request.verb
     → IfOk result (λ a. IsCertified verb request words tested history first (told_of a))
     → IfOk result (λ a. IsCertifiedFrom begun request words tested history (told_of a))

@@ -15,11 +15,11 @@ use Rattle.bf_commands.specs.Certify.{IsCertified, IsCertifiedBy, IsCertifiedOve
 use Rattle.bf_history.specs.Meanings.{History}
 use Rattle.bf_output.specs.Inputs.{IsStreamed}
 use Rattle.bf_output.specs.Output.{given_to}
-use Rattle.bf_output.specs.Tested.{Tested}
+use Rattle.bf_output.specs.Shown.{TesterShown}
 use Rattle.bf_io.specs.declared.shelf.ShelfFile.{ShelfFile}
 
 -- of a search, by what the tester of its run shows
-abbrev pub TellsRun : Line → Started → Tested → Answer → Type 0
+abbrev pub TellsRun : Line → Started → TesterShown → Answer → Type 0
 TellsRun line started tested answer =
     IsTestCertified line.request.now tested started.history (begun_of started.first) (told_of answer)
 
@@ -29,26 +29,26 @@ TellsPlanned line started answer =
     IsPlanCertified line.request.now line.words.now started.history (begun_of started.first) (told_of answer)
 
 -- as the command of the line searches
-abbrev pub TellsSearch : Line → Started → Tested → Answer → Type 0
+abbrev pub TellsSearch : Line → Started → TesterShown → Answer → Type 0
 TellsSearch line started tested answer =
     IsCertified line.request.now.verb line.request.now line.words.now tested started.history (begun_of started.first)
     (told_of answer)
 
 -- of the search that begins by the words, or by the log that they name
-abbrev pub TellsFile : Line → Option (Bor LogFile) → Tested → History → Answer → Type 0
+abbrev pub TellsFile : Line → Option (Bor LogFile) → TesterShown → History → Answer → Type 0
 TellsFile line file tested history answer =
     let given = given_to line.words.now None tested in
     IsCertifiedBy line.request.now given (file_given file) history (told_of answer)
 
-abbrev pub TellsOver : Line → Option (List ShelfFile) → Tested → History → Answer → Type 0
+abbrev pub TellsOver : Line → Option (List ShelfFile) → TesterShown → History → Answer → Type 0
 TellsOver line files tested history answer =
     IsCertifiedOver line.request.now (given_to line.words.now files tested) history (told_of answer)
 
-abbrev pub TellsStream : Line → Option (List ShelfFile) → Tested → Option (List ℕ) → Answer → Type 0
+abbrev pub TellsStream : Line → Option (List ShelfFile) → TesterShown → Option (List ℕ) → Answer → Type 0
 TellsStream line files tested left answer =
     IsStreamed (IsCertifiedOver line.request.now (given_to line.words.now files tested)) left (told_of answer)
 
-abbrev pub TellsOutput : List (List ℕ) → Option (List ShelfFile) → Tested → Option (List ℕ) → Answer → Type 0
+abbrev pub TellsOutput : List (List ℕ) → Option (List ShelfFile) → TesterShown → Option (List ℕ) → Answer → Type 0
 TellsOutput words files tested left answer = IsCertifyOutput (given_to words files tested) left (told_of answer)
 
 -- ---- the tests

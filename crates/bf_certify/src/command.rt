@@ -9,7 +9,7 @@ ghost use Rattle.bf_certify.specs.Certifying.{to_certify};
 ghost use Rattle.bf_certify.specs.Tells.{IsUntestedAt, LeavesRefused, TellsFile, TellsOutput, TellsOver, TellsStream};
 ghost use Rattle.bf_commands.specs.Orders.{is_search, request_to_certify};
 ghost use Rattle.bf_output.specs.Output.{IsUsedFor, asks_file, reads, tests};
-ghost use Rattle.bf_output.specs.Tested.{tested_by};
+ghost use Rattle.bf_output.specs.Shown.{shown_by};
 ghost use Rattle.bf_searches.specs.Lines.{IsCausedIn, IsUsedIn};
 
 use crate::search::certify_search;
@@ -63,7 +63,7 @@ pub fn certify<R: Host, S: Source, F: Shelf, T: Tester, K: Sink>(
         (met_tester T.Tester tester.old tester.new) result }
     // What the words do not ask for is left as it was, and so is the tester by a refusal.
     ensures used { IsUsedFor (request_to_certify words.now) words.now
-        (tested_by T.Tester tester.old) (tested_by T.Tester tester.new) }
+        (shown_by T.Tester tester.old) (shown_by T.Tester tester.new) }
     ensures unread { IsLeftUnless (reads (request_to_certify words.now)) stream.old stream.new }
     ensures unloaded { IsLeftUnless (asks_file (request_to_certify words.now)) shelf.old shelf.new }
     ensures untested { IsUntestedIfRefused (met_tester T.Tester tester.old tester.new) result }
@@ -85,7 +85,7 @@ fn answer<R: Host, S: Source, F: Shelf, T: Tester>(
     requires fresh { T.answers tester.old ≡ [] }
     requires is_split { T.is_split tester.old ≡ false }
     ensures tells { IfOk result (TellsOutput words.now (F.files shelf.old)
-        (tested_by T.Tester tester.new) (S.left stream.old)) }
+        (shown_by T.Tester tester.new) (S.left stream.old)) }
     ensures cause { IfOk result (IsCaused (tests (request_to_certify words.now))
         (met_tester T.Tester tester.old tester.new)) }
     ensures refused { IfOk result (LeavesRefused (met_tester T.Tester tester.old tester.new)) }
@@ -96,7 +96,7 @@ fn answer<R: Host, S: Source, F: Shelf, T: Tester>(
         IsTrue (asks_file (request_to_certify words.now)) }
     ensures file { FailsOnlyAt Fault.Shelf (F.faults shelf.old) (F.faults shelf.new) result }
     ensures used { IsUsedFor (request_to_certify words.now) words.now
-        (tested_by T.Tester tester.old) (tested_by T.Tester tester.new) }
+        (shown_by T.Tester tester.old) (shown_by T.Tester tester.new) }
     ensures unread { IsLeftUnless (reads (request_to_certify words.now)) stream.old stream.new }
     ensures unloaded { IsLeftUnless (asks_file (request_to_certify words.now)) shelf.old shelf.new }
     ensures is_split { T.is_split tester.new ≡ false }
@@ -144,7 +144,7 @@ fn certify_stream<R: Host, S: Source, F: Shelf, T: Tester>(
     requires fresh { T.answers tester.old ≡ [] }
     requires is_split { T.is_split tester.old ≡ false }
     ensures tells { IfOk result (TellsStream line.entry (F.files shelf.old)
-        (tested_by T.Tester tester.new) (S.left stream.old)) }
+        (shown_by T.Tester tester.new) (S.left stream.old)) }
     ensures cause { IfOk result (IsCausedIn line.entry
         (met_tester T.Tester tester.old tester.new)) }
     ensures refused { IfOk result (LeavesRefused (met_tester T.Tester tester.old tester.new)) }
@@ -177,7 +177,7 @@ fn certify_over<R: Host, F: Shelf, T: Tester>(
     requires fresh { T.answers tester.old ≡ [] }
     requires is_split { T.is_split tester.old ≡ false }
     ensures tells { IfOk result (TellsOver line.entry (F.files shelf.old)
-        (tested_by T.Tester tester.new) history) }
+        (shown_by T.Tester tester.new) history) }
     ensures cause { IfOk result (IsCausedIn line.entry
         (met_tester T.Tester tester.old tester.new)) }
     ensures refused { IfOk result (LeavesRefused (met_tester T.Tester tester.old tester.new)) }
@@ -208,7 +208,7 @@ fn certify_file<R: Host, T: Tester>(
     requires fresh { T.answers tester.old ≡ [] }
     requires is_split { T.is_split tester.old ≡ false }
     ensures tells { IfOk result (TellsFile line.entry file.entry
-        (tested_by T.Tester tester.new) history) }
+        (shown_by T.Tester tester.new) history) }
     ensures cause { IfOk result (IsCausedIn line.entry
         (met_tester T.Tester tester.old tester.new)) }
     ensures refused { IfOk result (LeavesRefused (met_tester T.Tester tester.old tester.new)) }

@@ -5,7 +5,7 @@ ghost use Rattle.bf_answers.specs.Devices.{KeepsManner, met_tester};
 ghost use Rattle.bf_answers.specs.Ready.{IsStarted, verb_of};
 ghost use Rattle.bf_answers.specs.Steps.{HasPlan};
 ghost use Rattle.bf_certify.specs.Tells.{IsOfSearch, TellsPlanned, TellsRun, TellsSearch};
-ghost use Rattle.bf_output.specs.Tested.{tested_by};
+ghost use Rattle.bf_output.specs.Shown.{shown_by};
 ghost use Rattle.bf_searches.specs.Lines.{IsCausedIn, IsUsedIn, IsUsedToTest};
 
 use crate::ended::answer_run;
@@ -29,7 +29,7 @@ pub(crate) fn certify_search<R: Host, T: Tester>(
     requires asked { verb_of started.means ≡ line.request.now.verb }
     requires fresh { T.answers tester.old ≡ [] }
     requires is_split { T.is_split tester.old ≡ false }
-    ensures tells { IfOk result (TellsSearch line.entry started (tested_by T.Tester tester.new)) }
+    ensures tells { IfOk result (TellsSearch line.entry started (shown_by T.Tester tester.new)) }
     ensures cause { IfOk result (IsCausedIn line.entry
         (met_tester T.Tester tester.old tester.new)) }
     ensures of_search { IfOk result IsOfSearch }
@@ -68,7 +68,7 @@ fn certify_by_command<R: Host, T: Tester>(
     requires started { IsStarted started }
     requires fresh { T.answers tester.old ≡ [] }
     requires is_split { T.is_split tester.old ≡ false }
-    ensures tells { IfOk result (TellsRun line.entry started (tested_by T.Tester tester.new)) }
+    ensures tells { IfOk result (TellsRun line.entry started (shown_by T.Tester tester.new)) }
     ensures cause { IfOk result (IsCaused true (met_tester T.Tester tester.old tester.new)) }
     ensures of_search { IfOk result IsOfSearch }
     ensures used { IsUsedToTest line.entry (met_tester T.Tester tester.old tester.new) }
@@ -90,7 +90,7 @@ fn certify_run<R: Host, T: Tester>(
     requires started { IsStarted started }
     requires fresh { T.answers tester.old ≡ [] }
     requires is_split { T.is_split tester.old ≡ false }
-    ensures tells { IfOk result (TellsRun line.entry started (tested_by T.Tester tester.new)) }
+    ensures tells { IfOk result (TellsRun line.entry started (shown_by T.Tester tester.new)) }
     ensures cause { IfOk result (IsCaused true (met_tester T.Tester tester.old tester.new)) }
     ensures of_search { IfOk result IsOfSearch }
     ensures manner { KeepsManner T.Tester tester.old tester.new }

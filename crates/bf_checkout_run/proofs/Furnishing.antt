@@ -12,7 +12,7 @@ use Rattle.bf_tester.specs.Grounds.{Ground}
 use Rattle.bf_words.specs.declared.request.Request.{Request}
 use Rattle.bf_output.specs.Output.{Given, IsOver, given_to}
 use Rattle.bf_output.specs.Refusals.{refusal}
-use Rattle.bf_output.specs.Tested.{Tested}
+use Rattle.bf_output.specs.Shown.{TesterShown}
 use Rattle.bf_output.specs.Told.{Told}
 use Rattle.bf_answers.specs.declared.answer.Answer.{Answer}
 use Rattle.bf_answers.specs.declared.answer.Fault.{Fault}
@@ -72,7 +72,7 @@ furnished_for left content grounds (Ok (Search started)) may same = grounds_load
 -- ---- a workshop that is furnished
 
 -- what a workshop shows, by its tester and its folder
-abbrev pub shown : {T D : Type 0} → Ghosts T → folder.Ghosts D → Shop T D → Tested
+abbrev pub shown : {T D : Type 0} → Ghosts T → folder.Ghosts D → Shop T D → TesterShown
 shown testers folders shop = record {
   plan = testers.told shop.tester;
   command = testers.command shop.tester;

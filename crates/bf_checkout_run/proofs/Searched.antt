@@ -3,7 +3,7 @@ use Rattle.std.proofs.Common.{◌≡◌, ◌≢◌, ℕ, Bool, List, [], Option,
 use Rattle.bf_output.specs.declared.status.Status.{Status}
 use Rattle.bf_output.specs.declared.status.Status.TheVariants as status
 use Rattle.bf_output.specs.Output.{Given, IsSearched, IsUsedIf, given_to, is_run, reads, reads_stream}
-use Rattle.bf_output.specs.Tested.{Tested}
+use Rattle.bf_output.specs.Shown.{TesterShown}
 use Rattle.bf_words.specs.declared.request.Request.{Request}
 use Rattle.bf_words.specs.declared.request.WordFault.{WordFault}
 use Rattle.bf_words.specs.declared.request.WordFault.TheVariants.{At, NoMemory}
@@ -32,12 +32,12 @@ IsReadyFor met request ready =
     AllTold request met.words ready (λ tested told. IsCheckedOut request (given_to met.words met.shelf.files tested) met.source.left told)
 
 -- a tester as it was before its tests, and after them
-abbrev pub between : Tested → Tested → TesterMet
+abbrev pub between : TesterShown → TesterShown → TesterMet
 between before after = record { before = before; after = after }
 
 module _ (met : Met) (request : Request) (result : Status) where
   -- a search was concluded, by a tester that nothing was asked of before
-  pub searched : (started : Started) (ready : Result Ready Fault) (found : Ready) (mid : Tested) → mid ≡ met.tester.before → ready ≡ Ok found
+  pub searched : (started : Started) (ready : Result Ready Fault) (found : Ready) (mid : TesterShown) → mid ≡ met.tester.before → ready ≡ Ok found
       → found ≡ Search started → IfOk ready (IsReadyFor met request) → IfOk ready (IsSound request)
       → (result ≢ status.ReadFault) × (result ≢ status.ShelfFault)
       → IsConcluded (IsCausedTold (is_run request.verb) (between mid met.tester.after)
@@ -47,7 +47,7 @@ module _ (met : Met) (request : Request) (result : Status) where
       let output : IsReadyFor met request (Search started) =
       subst (IsReadyFor met request) of (subst (λ (r : Result Ready Fault). IfOk r (IsReadyFor met request)) is tells) in
       let begun =
-      subst (λ (t : Tested). IsConcluded (IsCausedTold (is_run request.verb) (between t met.tester.after)
+      subst (λ (t : TesterShown). IsConcluded (IsCausedTold (is_run request.verb) (between t met.tester.after)
       (IsSearched request.verb request met.words met.tester.after started.history (begun_of started.first))) met.sink.before met.sink.after result)
       same told in
       written_output (checking_out (Ok request) met) met result own.0 own.1
@@ -79,14 +79,14 @@ module _ (met : Met) (request : Request) (result : Status) where
 -- ---- the tests
 
 -- a test fault of a tester that nothing was asked of before
-pub test_since : (asks : Bool) (mid before after : Tested) (result : Status) → mid ≡ before → HasTestCause asks (between mid after) result
+pub test_since : (asks : Bool) (mid before after : TesterShown) (result : Status) → mid ≡ before → HasTestCause asks (between mid after) result
     → HasTestCause asks (between before after) result
-test_since asks mid before after result same cause = subst (λ (t : Tested). HasTestCause asks (between t after) result) same cause
+test_since asks mid before after result same cause = subst (λ (t : TesterShown). HasTestCause asks (between t after) result) same cause
 
 -- it is used as since then
-pub used_since : (asks : Bool) (request : Request) (words : List (List ℕ)) (mid before after : Tested) → mid ≡ before → IsUsedIf asks request words mid after
+pub used_since : (asks : Bool) (request : Request) (words : List (List ℕ)) (mid before after : TesterShown) → mid ≡ before → IsUsedIf asks request words mid after
     → IsUsedIf asks request words before after
-used_since asks request words mid before after same used = subst (λ (t : Tested). IsUsedIf asks request words t after) same used
+used_since asks request words mid before after same used = subst (λ (t : TesterShown). IsUsedIf asks request words t after) same used
 
 -- ---- the words
 

@@ -2,7 +2,7 @@
 ghost use Rattle.std.specs.Prelude.{◌≡◌, ◌≢◌, false, [], Ok};
 ghost use Rattle.bf_io.specs.Causes.{Rose};
 ghost use Rattle.bf_output.specs.Output.{IsUsedFor, asks_file, reads, tests};
-ghost use Rattle.bf_output.specs.Tested.{tested_by};
+ghost use Rattle.bf_output.specs.Shown.{shown_by};
 ghost use Rattle.bf_answers.specs.Answers.{Answers, HasTestCause, IsComplete, IsUntestedIfRefused};
 ghost use Rattle.bf_answers.specs.Devices.{IsLeftUnless, met, met_shelf, met_sink, met_source, met_tester};
 ghost use Rattle.bf_answers.specs.Steps.{HasPlan};
@@ -60,7 +60,7 @@ pub fn checkout<R: Host, S: Source, F: Shelf, U: FolderTester<D>, D: Folder, K: 
         HasTestCause (tests (asked_by words.now)) shops result }
     // What the words do not ask for is left as it was, and so is the workshop by a refusal.
     ensures used { let by = ⟦<Workshop<U, D> as Tester>⟧ in
-        IsUsedFor (asked_by words.now) words.now (tested_by by shop.old) (tested_by by shop.new) }
+        IsUsedFor (asked_by words.now) words.now (shown_by by shop.old) (shown_by by shop.new) }
     ensures unread { IsLeftUnless (reads (asked_by words.now)) stream.old stream.new }
     ensures unloaded { IsLeftUnless (asks_file (asked_by words.now)) shelf.old shelf.new }
     ensures unfurnished { IsLeftUnless (reads (asked_by words.now)) shop.old shop.new }

@@ -18,7 +18,8 @@ use Rattle.bf_output.specs.Inputs.{IsFiled, IsStreamed}
 use Rattle.bf_output.specs.Output.{Given}
 use Rattle.bf_output.specs.Refusals.{usage}
 use Rattle.bf_output.specs.Simulate.{plan_of, run_over}
-use Rattle.bf_output.specs.Tested.{Tested, IsTestedAs, told_of_run}
+use Rattle.bf_output.specs.Shown.{TesterShown}
+use Rattle.bf_output.specs.Tested.{IsTestedAs, told_of_run}
 use Rattle.bf_output.specs.Told.{Told}
 use Rattle.bf_commands.specs.Orders.{request_to_certify}
 
@@ -45,18 +46,18 @@ IsRunCertified history first run told = IsCertTold history first run run.end tol
 abbrev pub IsPlanCertified : Request → List (List ℕ) → History → Begun → Told → Type 0
 IsPlanCertified request words history first told = IsRunCertified history first (run_over history first (plan_of request words)) told
 
-abbrev pub IsTestCertified : Request → Tested → History → Begun → Told → Type 0
+abbrev pub IsTestCertified : Request → TesterShown → History → Begun → Told → Type 0
 IsTestCertified request tested history first told =
     IsTestedAs (λ legs run other. IsRunCertified history first run other) request tested history first told
 
-abbrev pub IsCertified : Verb → Request → List (List ℕ) → Tested → History → Begun → Told → Type 0
+abbrev pub IsCertified : Verb → Request → List (List ℕ) → TesterShown → History → Begun → Told → Type 0
 IsCertified Simulate request words tested history first told = IsPlanCertified request words history first told
 IsCertified RunVerb request words tested history first told = IsTestCertified request tested history first told
 IsCertified other request words tested history first told = ⊥
 
 -- ---- from the words on
 
-abbrev pub IsCertifiedFrom : Result Begun Told → Request → List (List ℕ) → Tested → History → Told → Type 0
+abbrev pub IsCertifiedFrom : Result Begun Told → Request → List (List ℕ) → TesterShown → History → Told → Type 0
 IsCertifiedFrom (Err refusal) request words tested history told = told ≡ refusal
 IsCertifiedFrom (Ok first) request words tested history told = IsCertified request.verb request words tested history first told
 

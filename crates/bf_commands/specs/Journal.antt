@@ -24,7 +24,8 @@ use Rattle.bf_output.specs.Beginning.{Begun, begun_with_skips, log_on}
 use Rattle.bf_output.specs.Inputs.{IsFiled, IsStreamed}
 use Rattle.bf_output.specs.Output.{Given}
 use Rattle.bf_output.specs.Refusals.{usage}
-use Rattle.bf_output.specs.Tested.{Tested, IsFrontIfTold, IsTested, IsTestCut, IsTestLost, command_of, run_on}
+use Rattle.bf_output.specs.Shown.{TesterShown, command_of}
+use Rattle.bf_output.specs.Tested.{IsFrontIfTold, IsTestedRun, IsTestCut, IsTestLost, run_on}
 use Rattle.bf_output.specs.Told.{Told}
 use Rattle.bf_commands.specs.declared.order.Order.TheVariants as order
 use Rattle.bf_commands.specs.Orders.{request_of}
@@ -101,7 +102,7 @@ pub record AreImages (disk : DiskMet) (identity : Oid) (len : ℕ) (MayPut : ℕ
   pub ever : (image : List ℕ) → disk.left image → disk.could_leave image ⊎ Continues identity len MayPut found image
 
 -- where the disk tells its bytes, so it is with the journal of a run on what its tester answered
-abbrev pub AreImagesOf : DiskMet → Oid → List Oid → Tested → List (Option Outcome) → List (Option Outcome) → Type 0
+abbrev pub AreImagesOf : DiskMet → Oid → List Oid → TesterShown → List (Option Outcome) → List (Option Outcome) → Type 0
 AreImagesOf disk identity names tested found table =
     IfSome disk.before (λ _. AreImages disk identity (length names) (MayBePut names tested.answers) tested.is_lenient found table)
 
@@ -129,7 +130,7 @@ IsLogFront history first run written =
     (written ≡ []) ⊎ ((entries : List Entry) × GoesOn entries run.entries × (written ≡ log_on history first entries))
 
 -- the disk failed behind the lines of some legs, of a run on what the tester answered
-pub record IsJournalCut (disk : DiskMet) (tested : Tested) (history : History) (first : Begun) (table : List (Option Outcome)) (told : Told) : Type 0 where
+pub record IsJournalCut (disk : DiskMet) (tested : TesterShown) (history : History) (first : Begun) (table : List (Option Outcome)) (told : Told) : Type 0 where
   pub failed : HasDiskFailed disk
   pub known : IsKnown history.names tested.plan tested.answers table
   pub planned : IsFrontIfTold tested.plan history first (run_on history first table)
@@ -138,22 +139,22 @@ pub record IsJournalCut (disk : DiskMet) (tested : Tested) (history : History) (
   pub tells : told ≡ journal_fault written
 
 -- a run as `run` tells it, or cut short by the disk; what was found and each outcome of it are in each image of the disk
-abbrev pub IsRunKept : DiskMet → Oid → List (Option Outcome) → Request → Tested → History → Begun → Told → Type 0
+abbrev pub IsRunKept : DiskMet → Oid → List (Option Outcome) → Request → TesterShown → History → Begun → Told → Type 0
 IsRunKept disk identity found request tested history first told =
-    ((is : IsTested request tested history first told) × AreImagesOf disk identity history.names tested found is.table)
+    ((is : IsTestedRun request tested history first told) × AreImagesOf disk identity history.names tested found is.table)
     ⊎ (((is : IsTestCut request tested history first told) × AreImagesOf disk identity history.names tested found is.table)
     ⊎ (((is : IsTestLost tested history first told) × AreImagesOf disk identity history.names tested found is.table)
     ⊎ ((table : List (Option Outcome)) × IsJournalCut disk tested history first table told
     × AreImagesOf disk identity history.names tested found table)))
 
-abbrev pub IsOpenedTold : Opened → DiskMet → Oid → Request → Tested → History → Begun → Told → Type 0
+abbrev pub IsOpenedTold : Opened → DiskMet → Oid → Request → TesterShown → History → Begun → Told → Type 0
 IsOpenedTold (Kept found) disk identity request tested history first told = IsRunKept disk identity found request tested history first told
 IsOpenedTold (Other kept) disk identity request tested history first told = (told ≡ journal_refused kept) × IfSome disk.before (IsLeftAlone disk)
 IsOpenedTold Failed disk identity request tested history first told =
     (told ≡ journal_fault []) × IfSome disk.before (IsOpenedAt disk identity (length history.names))
 
 -- the journal is opened once the search has begun
-abbrev pub IsJournalled : DiskMet → Request → List (List ℕ) → Tested → History → Begun → Told → Type 0
+abbrev pub IsJournalled : DiskMet → Request → List (List ℕ) → TesterShown → History → Begun → Told → Type 0
 IsJournalled disk request words tested history first told =
     (opened : Opened)
     × Opens disk (identity_of history request words) (length history.names) opened

@@ -2,7 +2,7 @@
 use Rattle.std.specs.Prelude.{ℕ, Bool, false, List, Option, Some, None}
 use Rattle.bf_output.specs.declared.status.Status.{Status}
 use Rattle.bf_output.specs.Output.{IsUsedFor, asks_file, reads}
-use Rattle.bf_output.specs.Tested.{Tested}
+use Rattle.bf_output.specs.Shown.{TesterShown}
 use Rattle.bf_tester.specs.declared.answer.Answer.{Answer}
 use Rattle.bf_words.specs.Words.{request, word_at}
 use Rattle.bf_answers.specs.Answers.{Answers, Command, HasTestCause, IsComplete, IsUntested}
@@ -27,9 +27,9 @@ order_in words = order_of (word_at words 0)
 
 pub record Asks : Type 0 where
   pub stream : Bool  -- its bytes
-  pub file : Bool    -- one of the shelf
-  pub shop : Bool    -- folders to test in
-  pub disk : Bool    -- that keeps a journal
+  pub file : Bool  -- one of the shelf
+  pub shop : Bool  -- folders to test in
+  pub disk : Bool  -- that keeps a journal
 
 -- by its words, at each order; a line without one asks as `bisect_main` does
 abbrev pub asks_of : Option Order → List (List ℕ) → Asks
@@ -79,9 +79,9 @@ pub record FarmMet : Type 1 where
   pub shop : TesterMet
   pub disk : DiskMet
   pub recalled : List Answer
-  pub recalling : Tested
+  pub recalling : TesterShown
 
-abbrev pub farm_met : Met → TesterMet → DiskMet → List Answer → Tested → FarmMet
+abbrev pub farm_met : Met → TesterMet → DiskMet → List Answer → TesterShown → FarmMet
 farm_met met shop disk recalled recalling = record {
   met = met;
   shop = shop;
@@ -97,12 +97,12 @@ in_folders farm = record farm.met { tester = farm.shop }
 -- ---- what it has to do
 
 pub record Duty : Type 1 where
-  pub command : Command            -- what is told, and what it may ask for
-  pub met : Met                    -- what this command meets
-  pub Logs : Status → Type 0       -- what is said of the log that it prints
-  pub Uses : Type 0                -- what becomes of the tester
-  pub UsesShop : Type 0            -- and of the workshop
-  pub Recalls : Type 0             -- what the tester remembers in the end
+  pub command : Command  -- what is told, and what it may ask for
+  pub met : Met  -- what this command meets
+  pub Logs : Status → Type 0  -- what is said of the log that it prints
+  pub Uses : Type 0  -- what becomes of the tester
+  pub UsesShop : Type 0  -- and of the workshop
+  pub Recalls : Type 0  -- what the tester remembers in the end
 
 -- at each order; a line without one has that of `bisect_main`
 abbrev pub duty_of : Option Order → FarmMet → Duty
@@ -145,8 +145,8 @@ duty_of (Some Journal) farm = record {
   Uses = IsUsedFor (request_to_journal farm.met.words) farm.met.words farm.recalling farm.met.tester.after;
   UsesShop = IsUntested farm.shop;
   Recalls =
-    IsRecalledBy farm.disk (request_to_journal farm.met.words) farm.met.words farm.met.source.left
-    farm.met.tester.after.answers farm.recalled;
+      IsRecalledBy farm.disk (request_to_journal farm.met.words) farm.met.words farm.met.source.left
+      farm.met.tester.after.answers farm.recalled;
 }
 duty_of (Some Many) farm = record {
   command = to_many farm.met;

@@ -1,7 +1,7 @@
 //! The top call of all commands.
 ghost use Rattle.std.specs.Prelude.{◌≡◌, [], false};
 ghost use Rattle.bf_io.specs.Causes.{Rose};
-ghost use Rattle.bf_output.specs.Tested.{tested_by};
+ghost use Rattle.bf_output.specs.Shown.{shown_by};
 ghost use Rattle.bf_answers.specs.Answers.{IsUntestedIfRefused};
 ghost use Rattle.bf_answers.specs.Devices.{IsLeftUnless, met, met_shelf, met_sink, met_source, met_tester};
 ghost use Rattle.bf_checkout.specs.Checkouts.{grounds_of};
@@ -74,7 +74,7 @@ pub fn farm_main<
         (met_tester ⟦<Workshop<U, D> as Tester>⟧ shop.old shop.new)
         (met_disk J.Disk disk.old disk.new)
         tester.new.remembered
-        (tested_by ⟦<Recall<T> as Tester>⟧ (remembering tester.old tester.new.remembered)) in
+        (shown_by ⟦<Recall<T> as Tester>⟧ (remembering tester.old tester.new.remembered)) in
         IsDone (duty_in farm) result }
     ensures unasked { AreUnasked tester.new.remembered (T.answers tester.new.inner) }
     ensures tested_in { AreTestedIn shop.new.content
@@ -162,7 +162,7 @@ fn carry_out<
         (met_tester ⟦<Workshop<U, D> as Tester>⟧ shop.old shop.new)
         (met_disk J.Disk disk.old disk.new)
         tester.new.remembered
-        (tested_by ⟦<Recall<T> as Tester>⟧ (remembering tester.old tester.new.remembered)) in
+        (shown_by ⟦<Recall<T> as Tester>⟧ (remembering tester.old tester.new.remembered)) in
         IsDone (duty_of asked.entry.order farm) result }
     ensures grounds { let grounds = grounds_of shop.new.content in
         HasGroundsOf (S.left stream.old) (U.answers shop.new.tester) grounds }

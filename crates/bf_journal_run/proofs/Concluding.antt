@@ -27,7 +27,7 @@ use Rattle.bf_oid.specs.declared.object.Oid.{Oid}
 use Rattle.bf_output.specs.Beginning.{Begun}
 use Rattle.bf_output.specs.declared.status.Status.{Status}
 use Rattle.bf_output.specs.declared.status.Status.TheVariants as status
-use Rattle.bf_output.specs.Tested.{Tested}
+use Rattle.bf_output.specs.Shown.{TesterShown}
 use Rattle.bf_output.specs.Told.{Told}
 use Rattle.bf_search.specs.declared.outcomes.Outcome.{Outcome}
 use Rattle.bf_search.specs.Outcomes.{outcomes_of_table}
@@ -104,7 +104,7 @@ module _ {J : Type 0} (by : Ghosts J) where
       at None settled left = tt
       at (Some bytes) settled left = record { now = settled; ever = left.each }
 
-  module _ (old mid new : J) (journal : Keeping) (meant : Oid) (names : List Oid) (tested : Tested) (table : List (Option Outcome))
+  module _ (old mid new : J) (journal : Keeping) (meant : Oid) (names : List Oid) (tested : TesterShown) (table : List (Option Outcome))
       (own : journal.identity ≡ meant) (long : length journal.kept ≡ length names) where
     abbrev MayPut : ℕ → Outcome → Type 0
     MayPut p x = MayBePut names tested.answers p x
@@ -157,7 +157,7 @@ module _ {J : Type 0} (by : Ghosts J) where
             record { now = λ image may. kept_image image (lasting.now image may); ever = all.each }
 
 -- what a kept run tells is no refusal
-pub never_refused : (disk : DiskMet) (identity : Oid) (found : List (Option Outcome)) (request : Request) (words : List (List ℕ)) (tested : Tested) (history : History) (first : Begun)
+pub never_refused : (disk : DiskMet) (identity : Oid) (found : List (Option Outcome)) (request : Request) (words : List (List ℕ)) (tested : TesterShown) (history : History) (first : Begun)
     → HasEnds first.search → NeverRefuses (IsRunKept disk identity found request tested history first)
 never_refused disk identity found request words tested history first ends = λ told is refused. by told is refused
   where

@@ -15,7 +15,8 @@ use Rattle.bf_io.proofs.Told.{Appends-trans, AppendsFront-none}
 use Rattle.bf_output.proofs.Runs.{front_if_told}
 use Rattle.bf_output.specs.Beginning.{Begun}
 use Rattle.bf_output.specs.Simulate.{cut_short, out_of_memory}
-use Rattle.bf_output.specs.Tested.{Tested, run_on}
+use Rattle.bf_output.specs.Shown.{TesterShown}
+use Rattle.bf_output.specs.Tested.{run_on}
 use Rattle.bf_runs.specs.declared.case.Search.{Search as Searched}
 use Rattle.bf_runs.specs.Legs.{IsKnown}
 use Rattle.bf_search.specs.declared.outcomes.Outcome.{Outcome}
@@ -33,7 +34,7 @@ use Rattle.bf_journal_run.specs.Legs.{IsCutByMemory, IsCutByWrite, IsEndedKept, 
 
 -- What was written so far of a run that has come to its next leg: nothing, or all that it tells so far. Each image that a crash
 -- might have left is of what is known by then.
-pub record HasComeKept (Leaves : List (Option Outcome) → Type 0) (search : Searched) (request : Request) (tested : Tested) (remembered : List Answered) (opened : List (Option Outcome)) (first : Begun)
+pub record HasComeKept (Leaves : List (Option Outcome) → Type 0) (search : Searched) (request : Request) (tested : TesterShown) (remembered : List Answered) (opened : List (Option Outcome)) (first : Begun)
     (before after : Option (List ℕ)) (kept : List (Option Outcome)) (running : Running) : Type 0 where
   pub written : List ℕ
   pub gained : Appends before after written
@@ -44,7 +45,7 @@ pub record HasComeKept (Leaves : List (Option Outcome) → Type 0) (search : Sea
 -- ---- what cuts a run short
 
 -- what was written are the lines of whole legs, or none
-log_front : (request : Request) (tested : Tested) (history : History) (first : Begun) (written : List ℕ) (running : Running)
+log_front : (request : Request) (tested : TesterShown) (history : History) (first : Begun) (written : List ℕ) (running : Running)
     → IsRunning request tested history first written running → (written ≡ []) ⊎ (running.telling.text ≡ [])
     → IsLogFront history first (run_on history first running.standing.table) written
 log_front request tested history first written running is (inl none) = inl none
@@ -58,7 +59,7 @@ log_front request tested history first written running is (inr told) =
 module _ (images : List (Option Outcome) → Type 0) (disk : DiskMet) (search : Searched) (request : Request) (first : Begun) (written : List ℕ)
     (running : Running) (before : Option (List ℕ)) where
   -- memory ran out before anything more was written
-  lost_by : (tested later : Tested) (mid after : Option (List ℕ)) → IsKnown search.history.now.names later.plan later.answers running.standing.table
+  lost_by : (tested later : TesterShown) (mid after : Option (List ℕ)) → IsKnown search.history.now.names later.plan later.answers running.standing.table
       → IsRunning request tested search.history.now first written running
       → Appends before mid written → AppendsFront mid after running.telling.text → images running.standing.table
       → IsCutByMemory images later search.history.now first before after
@@ -77,7 +78,7 @@ module _ (images : List (Option Outcome) → Type 0) (disk : DiskMet) (search : 
       }
 
   -- a write failed
-  cut_by : (tested : Tested) (mid after : Option (List ℕ)) → IsRunning request tested search.history.now first written running → Appends before mid written
+  cut_by : (tested : TesterShown) (mid after : Option (List ℕ)) → IsRunning request tested search.history.now first written running → Appends before mid written
       → AppendsFront mid after running.telling.text → images running.standing.table → IsCutByWrite images request tested search.history.now first before after
   cut_by tested mid after is gained front kept =
       let table = running.standing.table in
@@ -95,7 +96,7 @@ module _ (images : List (Option Outcome) → Type 0) (disk : DiskMet) (search : 
       }
 
   -- the lines of a leg could not be written
-  pub unwritten : (tested : Tested) (mid after : Option (List ℕ)) (fault : SinkFault) → IsRunning request tested search.history.now first written running
+  pub unwritten : (tested : TesterShown) (mid after : Option (List ℕ)) (fault : SinkFault) → IsRunning request tested search.history.now first written running
       → Appends before mid written → AppendsFront mid after running.telling.text → images running.standing.table
       → IsEndedKept images disk request tested search.history.now first before after (Err (cut_of_sink fault))
   unwritten tested mid after sinks.Failed is gained front kept = cut_by tested mid after is gained front kept
@@ -153,7 +154,7 @@ failed_since first before now result cut le is only e =
     rose_since first before now le (only.failed (is ∙ ap (λ (c : Cut). Err c) e))
 
 -- the lines so far were written
-pub flushed_kept : (Leaves : List (Option Outcome) → Type 0) (search : Searched) (request : Request) (tested : Tested) (remembered : List Answered) (opened kept : List (Option Outcome)) (first : Begun)
+pub flushed_kept : (Leaves : List (Option Outcome) → Type 0) (search : Searched) (request : Request) (tested : TesterShown) (remembered : List Answered) (opened kept : List (Option Outcome)) (first : Begun)
     (before mid after : Option (List ℕ)) (written : List ℕ) (running : Running) (text : List ℕ)
     → IsKeptRun search request tested remembered opened first written kept running → Appends before mid written
     → Appends mid after running.telling.text → text ≡ [] → Leaves running.standing.table

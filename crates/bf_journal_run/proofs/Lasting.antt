@@ -6,7 +6,7 @@ use Rattle.bf_journal.specs.Disk.{LeavesOnly, Only}
 use Rattle.bf_journal.specs.declared.disk.Disk.{Ghosts}
 use Rattle.bf_journal.specs.Journal.{Keeping, FitsBytes, StandsFor}
 use Rattle.bf_oid.specs.declared.object.Oid.{Oid}
-use Rattle.bf_output.specs.Tested.{Tested}
+use Rattle.bf_output.specs.Shown.{TesterShown}
 use Rattle.bf_search.specs.declared.outcomes.Outcome.{Outcome}
 use Rattle.bf_search.specs.Outcomes.{outcomes_of_table}
 use Rattle.bf_state.specs.Runs.{IsPartOf}
@@ -36,7 +36,7 @@ module _ {J : Type 0} (by : Ghosts J) where
       (Continues journal.identity (length journal.kept) More journal.kept) same (on_within by old mid first found May More within so_far) leg
       (λ image on. continues_over first journal found More image run part (only_within May More found journal.kept within only) on)
 
-  module _ (first journal : Keeping) (names : List Oid) (tested : Tested) (found table : List (Option Outcome)) (run : IsSameRun first journal)
+  module _ (first journal : Keeping) (names : List Oid) (tested : TesterShown) (found table : List (Option Outcome)) (run : IsSameRun first journal)
       (since : KeepsSince found table journal.kept) (all : KeepsAll tested.is_lenient journal.kept table) (answered : TableIn names tested.answers table) where
     abbrev MayPut : ℕ → Outcome → Type 0
     MayPut p x = MayBePut names tested.answers p x
@@ -120,7 +120,7 @@ module _ {J : Type 0} (by : Ghosts J) where
       (since_part found table journal.kept since) (since_only found table journal.kept since) so_far leg
 
   -- and the disk fits the journal then
-  pub kept_leg : (old mid new : J) (first journal after : Keeping) (names : List Oid) (tested : Tested) (found table more : List (Option Outcome))
+  pub kept_leg : (old mid new : J) (first journal after : Keeping) (names : List Oid) (tested : TesterShown) (found table more : List (Option Outcome))
       → is_some (by.told mid) ≡ is_some (by.told old) → is_some (by.told new) ≡ is_some (by.told mid) → IsSameRun first journal → IsSameRun journal after
       → KeepsSince found table journal.kept → LeavesOn by old mid first found (IsToKeep table) → TableIn names tested.answers more
       → IsKeptOn (LeavesOn by mid new journal journal.kept) tested.is_lenient found after.kept table more

@@ -14,7 +14,7 @@ use Rattle.bf_journal.specs.declared.journal.JournalFault.TheVariants as journal
 use Rattle.bf_oid.specs.declared.object.Oid.{Oid}
 use Rattle.bf_output.proofs.Runs.{front_if_told}
 use Rattle.bf_output.specs.Beginning.{Begun}
-use Rattle.bf_output.specs.Tested.{Tested}
+use Rattle.bf_output.specs.Shown.{TesterShown}
 use Rattle.bf_output.specs.Traces.{course_of}
 use Rattle.bf_journal.specs.Recalling.{KeepsRemembered}
 use Rattle.bf_runs.proofs.Sequences.{Keeps}
@@ -165,7 +165,7 @@ module _ (Leaves : (ℕ → Outcome → Type 0) → Type 0) (search : Searched) 
 
 -- ---- whatever search it is
 
-pub leg_caused : (before : ℕ) (after : Tested) (history : History) (telling : Telling) (report : Report) (result : Result Gone Cut)
+pub leg_caused : (before : ℕ) (after : TesterShown) (history : History) (telling : Telling) (report : Report) (result : Result Gone Cut)
     → HasFault before after.faults after.failed report → IfOk result (IsToldLeg history telling report) → IfOk result (HasGoneCause before after)
 leg_caused before after history telling report (Ok gone) fault told = goes_cause {E = Cut} before after history report told.told (Ok gone) fault told.on told.over
 leg_caused before after history telling report (Err cut) fault told = tt

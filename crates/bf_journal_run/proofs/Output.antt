@@ -21,7 +21,7 @@ use Rattle.bf_output.specs.declared.status.Status.TheVariants as status
 use Rattle.bf_output.specs.Inputs.{IsStreamed, IsToldOver}
 use Rattle.bf_output.specs.Output.{IsUsedFor, IsUsedIf, asks_file, given_to, is_run, reads, reads_stream, tests}
 use Rattle.bf_output.specs.Refusals.{usage}
-use Rattle.bf_output.specs.Tested.{Tested, IsUsed}
+use Rattle.bf_output.specs.Shown.{TesterShown, IsUsed}
 use Rattle.bf_output.specs.Told.{Told}
 use Rattle.bf_journal.specs.Recalling.{IsPassedOn, Recalling, remembering}
 use Rattle.bf_journal.specs.Remembered.{outcome_at}
@@ -39,7 +39,7 @@ use Rattle.bf_journal_run.specs.Preparing.{IsBegunAs, IsBegunBehind, IsBegunLoad
 
 -- ---- what is ready, by the definitions
 
-from_begun : (disk : DiskMet) (line : Line) (files : Option (List ShelfFile)) (tested : Tested) (begun : Result Begun Told) (history : History)
+from_begun : (disk : DiskMet) (line : Line) (files : Option (List ShelfFile)) (tested : TesterShown) (begun : Result Begun Told) (history : History)
     (ready : Ready) (told : Told) → IsBegunAs begun history ready → TellsReady disk line.request.now line.words.now tested ready told
     → IsJournalFrom disk begun line.request.now (given_to line.words.now files tested) history told
 from_begun disk line files tested begun history (ToldAnswer answer) told is tells =
@@ -48,21 +48,21 @@ from_begun disk line files tested begun history (Search started) told (is, same)
     subst (λ (b : Result Begun Told). IsJournalFrom disk b line.request.now (given_to line.words.now files tested) history told) (sym is)
     (subst (λ (h : History). IsJournalled disk line.request.now line.words.now tested h (begun_of started.first) told) same tells)
 
-behind : (replay : Option ℕ) (disk : DiskMet) (line : Line) (files : Option (List ShelfFile)) (tested : Tested) (history : History) (ready : Ready) (told : Told)
+behind : (replay : Option ℕ) (disk : DiskMet) (line : Line) (files : Option (List ShelfFile)) (tested : TesterShown) (history : History) (ready : Ready) (told : Told)
     → IsBegunBehind replay line files history ready → TellsReady disk line.request.now line.words.now tested ready told
     → IsJournalBehind disk replay line.request.now (given_to line.words.now files tested) history told
 behind None disk line files tested history ready told begun tells = from_begun disk line files tested _ history ready told begun tells
 behind (Some i) disk line None tested history ready told begun tells = tt
 behind (Some i) disk line (Some files) tested history ready told begun tells = from_begun disk line (Some files) tested _ history ready told begun tells
 
-loaded : (disk : DiskMet) (line : Line) (files : Option (List ShelfFile)) (tested : Tested) (result : Result History ImportFault) (ready : Ready) (told : Told)
+loaded : (disk : DiskMet) (line : Line) (files : Option (List ShelfFile)) (tested : TesterShown) (result : Result History ImportFault) (ready : Ready) (told : Told)
     → IsBegunLoaded line files result ready → TellsReady disk line.request.now line.words.now tested ready told
     → IsToldOver (IsJournalOver disk line.request.now (given_to line.words.now files tested)) result told
 loaded disk line files tested (Ok history) ready told begun tells = behind line.request.now.replay disk line files tested history ready told begun tells
 loaded disk line files tested (Err fault) (ToldAnswer answer) told begun tells = tells ∙ begun
 loaded disk line files tested (Err fault) (Search started) told begun tells = absurd begun
 
-streamed : (disk : DiskMet) (line : Line) (files : Option (List ShelfFile)) (tested : Tested) (left : Option (List ℕ)) (ready : Ready) (told : Told)
+streamed : (disk : DiskMet) (line : Line) (files : Option (List ShelfFile)) (tested : TesterShown) (left : Option (List ℕ)) (ready : Ready) (told : Told)
     → IsBegunStream line files left ready → TellsReady disk line.request.now line.words.now tested ready told
     → IsStreamed (IsJournalOver disk line.request.now (given_to line.words.now files tested)) left told
 streamed disk line files tested None ready told begun tells = tt
@@ -192,13 +192,13 @@ unasked_none remembered below none = λ k d low. ap (λ (r : List Answered). out
 
 -- ---- the tester, by the words
 
-pub used_for : (words : List (List ℕ)) (request : Request) (before after : Tested) → request_to_journal words ≡ Ok request → request.verb ≡ Run
+pub used_for : (words : List (List ℕ)) (request : Request) (before after : TesterShown) → request_to_journal words ≡ Ok request → request.verb ≡ Run
     → IsUsed request words before after → IsUsedFor (request_to_journal words) words before after
 used_for words request before after read run used =
     subst (λ (r : Result Request ℕ). IsUsedFor r words before after) (sym read)
     (subst (λ (v : Verb). IsUsedIf (is_run v) request words before after) (sym run) used)
 
-pub refused_used : (read : Result Request ℕ) (words : List (List ℕ)) (before after : Tested) → after ≡ before → IsUsedFor read words before after
+pub refused_used : (read : Result Request ℕ) (words : List (List ℕ)) (before after : TesterShown) → after ≡ before → IsUsedFor read words before after
 refused_used (Err word) words before after same = same
 refused_used (Ok request) words before after same = by (is_run request.verb)
   where

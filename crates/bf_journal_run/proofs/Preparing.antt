@@ -1,6 +1,6 @@
 -- A tester that remembers what a journal kept, and takes its command.
 use Rattle.std.proofs.Common.{◌≡◌, ◌||◌, inl, inr, ℕ, List, [], ◌++◌, Option, sym, ap, ◌∙◌, subst}
-use Rattle.bf_output.specs.Tested.{Tested, IsUsed, command_of, tested_by}
+use Rattle.bf_output.specs.Shown.{TesterShown, IsUsed, command_of, shown_by}
 use Rattle.bf_journal.specs.Recalling.{Recalling, remembering}
 use Rattle.bf_search.specs.declared.outcomes.Outcome.{Outcome}
 use Rattle.bf_tester.specs.declared.answer.Answer.{Answer as Answered}
@@ -16,17 +16,17 @@ remembered_kept old mid kept none is = ap (λ t. t.remembered) is ∙ ap (λ (r 
 
 -- before it took the command
 pub before_prepared : {T : Type 0} (by : Ghosts T) (old mid new : Recalling T) (kept : List Answered) → old.remembered ≡ [] → mid ≡ remembering old kept
-    → new.remembered ≡ mid.remembered → tested_by (recall_by by) (remembering old new.remembered) ≡ tested_by (recall_by by) mid
+    → new.remembered ≡ mid.remembered → shown_by (recall_by by) (remembering old new.remembered) ≡ shown_by (recall_by by) mid
 before_prepared by old mid new kept none is same =
-    ap (tested_by (recall_by by))
+    ap (shown_by (recall_by by))
     (remembering_once old new kept none (same ∙ ap (λ t. t.remembered) is) ∙ sym is)
 
-pub used_by : (request : Request) (words : List (List ℕ)) (before mid prepared after : Tested) → before ≡ mid
+pub used_by : (request : Request) (words : List (List ℕ)) (before mid prepared after : TesterShown) → before ≡ mid
     → prepared.command ≡ command_of request words → prepared.is_lenient ≡ (mid.is_lenient || request.lenient)
     → PreparesTold request.lenient mid.plan prepared.plan → after.plan ≡ prepared.plan → after.command ≡ prepared.command
     → after.is_lenient ≡ prepared.is_lenient → after.is_split ≡ mid.is_split → IsUsed request words before after
 used_by request words before mid prepared after same command lenient plan plan_kept command_kept lenient_kept split =
-    subst (λ (b : Tested). IsUsed request words b after) (sym same)
+    subst (λ (b : TesterShown). IsUsed request words b after) (sym same)
     (inr (record {
       command = command_kept ∙ command;
       is_lenient = lenient_kept ∙ lenient;
@@ -35,7 +35,7 @@ used_by request words before mid prepared after same command lenient plan plan_k
     }))
 
 -- for want of memory it took none
-pub unused_by : (request : Request) (words : List (List ℕ)) (before mid after : Tested) → before ≡ mid → after.plan ≡ mid.plan → after.command ≡ mid.command
+pub unused_by : (request : Request) (words : List (List ℕ)) (before mid after : TesterShown) → before ≡ mid → after.plan ≡ mid.plan → after.command ≡ mid.command
     → after.is_lenient ≡ mid.is_lenient → after.answers ≡ mid.answers → after.faults ≡ mid.faults → after.failed ≡ mid.failed
     → after.is_split ≡ mid.is_split → IsUsed request words before after
 unused_by request words before mid after same plan command lenient answers faults failed split = inl (all ∙ sym same)

@@ -9,7 +9,8 @@ use Rattle.bf_journal.specs.Journal.{Keeping, FitsBytes}
 use Rattle.bf_output.proofs.Runs.{front_if_told}
 use Rattle.bf_output.specs.Beginning.{Begun, log_on}
 use Rattle.bf_output.specs.Simulate.{out_of_memory}
-use Rattle.bf_output.specs.Tested.{Tested, run_on}
+use Rattle.bf_output.specs.Shown.{TesterShown}
+use Rattle.bf_output.specs.Tested.{run_on}
 use Rattle.bf_runs.proofs.Fresh.{none_known}
 use Rattle.bf_runs.proofs.Known.{nothing_known_yet}
 use Rattle.bf_runs.specs.declared.case.Search.{Search as Searched}
@@ -49,7 +50,7 @@ since_opened : (opened table : List (Option Outcome)) → ((p : ℕ) → outcome
 since_opened opened table none = λ p. sym (ap (kept_of (outcomes_of_table opened p)) (none p) ∙ kept_none (outcomes_of_table opened p))
 
 -- the first leg of a run whose journal was opened
-pub kept_begun : (search : Searched) (request : Request) (tested : Tested) (remembered : List Answered) (opened : List (Option Outcome)) (first : Begun)
+pub kept_begun : (search : Searched) (request : Request) (tested : TesterShown) (remembered : List Answered) (opened : List (Option Outcome)) (first : Begun)
     (running : Running)
     → request.leg ≡ search.leg → request.workers ≡ search.workers → length search.history.now.names ≡ length opened
     → remembered ≡ answers_of search.history.now.names opened → tested.answers ≡ []
@@ -68,7 +69,7 @@ kept_begun search request tested remembered opened first running leg workers lon
     }
 
 -- memory ran out before anything was tested
-pub nothing_kept : {J : Type 0} (by : Ghosts J) (disk : J) (journal : Keeping) (request : Request) (tested : Tested) (history : History) (first : Begun)
+pub nothing_kept : {J : Type 0} (by : Ghosts J) (disk : J) (journal : Keeping) (request : Request) (tested : TesterShown) (history : History) (first : Begun)
     (held : Option (List ℕ)) → ((disk : J) (image : List ℕ) → by.left_since disk (by.moment disk) image → by.may_leave disk image)
     → IfSome (by.told disk) (λ bytes. Only bytes (by.may_leave disk)) → IfSome (by.told disk) (FitsBytes journal)
     → IsEndedKept (AreLasting by disk disk journal history.names tested journal.kept) (met_disk by disk disk) request tested history first held held

@@ -14,7 +14,7 @@ use Rattle.bf_grammar.specs.Limits.{standard_limits}
 use Rattle.bf_history.specs.Imports.{MayImport}
 use Rattle.bf_history.specs.Meanings.{History}
 use Rattle.bf_output.specs.Output.{asks_file, reads, tests}
-use Rattle.bf_output.specs.Tested.{Tested}
+use Rattle.bf_output.specs.Shown.{TesterShown}
 use Rattle.bf_output.specs.Told.{Told}
 use Rattle.bf_output.specs.declared.status.Status.{Status}
 use Rattle.bf_journal.specs.Remembered.{outcome_at}
@@ -54,7 +54,7 @@ AreUnasked recalled below = All (λ a. outcome_at recalled a.place ≡ None) bel
 -- ---- what is told of what is ready
 
 -- an answer as it is, or what the journal makes of a search
-abbrev pub TellsReady : DiskMet → Request → List (List ℕ) → Tested → Ready → Told → Type 0
+abbrev pub TellsReady : DiskMet → Request → List (List ℕ) → TesterShown → Ready → Told → Type 0
 TellsReady disk request words tested (ToldAnswer answer) told = told ≡ told_of answer
 TellsReady disk request words tested (Search started) told = IsJournalled disk request words tested started.history (begun_of started.first) told
 

@@ -10,7 +10,7 @@ use Rattle.bf_search.specs.declared.outcomes.Outcome.{Outcome}
 use Rattle.bf_search.specs.declared.outcomes.Verdict.{Verdict}
 use Rattle.bf_search.specs.declared.outcomes.Verdict.TheVariants.{Mark, Abort}
 use Rattle.bf_search.specs.Outcomes.{outcomes_of_table, verdict_of}
-use Rattle.bf_output.specs.Tested.{Tested}
+use Rattle.bf_output.specs.Shown.{TesterShown}
 use Rattle.bf_tester.specs.declared.answer.Answer.{Answer}
 
 -- ---- what the tester is to remember
@@ -78,10 +78,10 @@ LeavesOn by old new journal found MayPut =
     IfSome (by.told old) (λ _. LeavesOnly by.moment by.left_since old new (Continues journal.identity (length journal.kept) MayPut found))
 
 -- The same of a run on what its tester answered, and each image that a crash may leave at the end keeps all that is known.
-pub record Lasts {J : Type 0} (by : Ghosts J) (old new : J) (journal : Keeping) (names : List Oid) (tested : Tested) (found table : List (Option Outcome)) : Type 0 where
+pub record Lasts {J : Type 0} (by : Ghosts J) (old new : J) (journal : Keeping) (names : List Oid) (tested : TesterShown) (found table : List (Option Outcome)) : Type 0 where
   pub now : (image : List ℕ) → by.may_leave new image
       → IsKeptIn journal.identity (length journal.kept) (MayBePut names tested.answers) tested.is_lenient found table image
   pub ever : LeavesOnly by.moment by.left_since old new (Continues journal.identity (length journal.kept) (MayBePut names tested.answers) found)
 
-abbrev pub AreLasting : {J : Type 0} → Ghosts J → J → J → Keeping → List Oid → Tested → List (Option Outcome) → List (Option Outcome) → Type 0
+abbrev pub AreLasting : {J : Type 0} → Ghosts J → J → J → Keeping → List Oid → TesterShown → List (Option Outcome) → List (Option Outcome) → Type 0
 AreLasting by old new journal names tested found table = IfSome (by.told old) (λ _. Lasts by old new journal names tested found table)

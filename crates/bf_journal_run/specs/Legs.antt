@@ -9,7 +9,8 @@ use Rattle.bf_io.specs.Told.{Appends, AppendsFront}
 use Rattle.bf_journal.specs.declared.disk.Disk.{Ghosts}
 use Rattle.bf_journal.specs.Journal.{Keeping}
 use Rattle.bf_output.specs.Beginning.{Begun}
-use Rattle.bf_output.specs.Tested.{Tested, IsTested, IsTestCut, IsTestLost}
+use Rattle.bf_output.specs.Shown.{TesterShown}
+use Rattle.bf_output.specs.Tested.{IsTestedRun, IsTestCut, IsTestLost}
 use Rattle.bf_output.specs.Told.{Told}
 use Rattle.bf_runs.specs.declared.case.Search.{Search as Searched}
 use Rattle.bf_runs.specs.Legs.{IsKnown}
@@ -41,7 +42,7 @@ met_disk by before after = record {
 
 -- A run has come so far, and the journal keeps what is known by then: of each place what it kept when it was opened, which the
 -- tester remembers, or else what was tested.
-pub record IsKeptRun (search : Searched) (request : Request) (tested : Tested) (remembered : List Answered) (opened : List (Option Outcome))
+pub record IsKeptRun (search : Searched) (request : Request) (tested : TesterShown) (remembered : List Answered) (opened : List (Option Outcome))
     (first : Begun) (written : List ℕ) (kept : List (Option Outcome)) (running : Running) : Type 0 where
   pub leg : request.leg ≡ search.leg
   pub workers : request.workers ≡ search.workers
@@ -75,7 +76,7 @@ IsLedKept Leaves search request tester remembered opened first written kept know
     IsKeptRun search request tester.after remembered opened first written kept running
     × IsKeptOn Leaves tester.after.is_lenient opened kept known running.standing.table
 IsLedKept Leaves search request tester remembered opened first written kept known (Ok (Over answer)) =
-    (is : IsTested request tester.after search.history.now first (record { status = answer.status; text = written ++ answer.text }))
+    (is : IsTestedRun request tester.after search.history.now first (record { status = answer.status; text = written ++ answer.text }))
     × IsKeptOn Leaves tester.after.is_lenient opened kept known is.table
 IsLedKept Leaves search request tester remembered opened first written kept known (Err Journal) =
     IsKnown search.history.now.names tester.after.plan tester.after.answers known
@@ -96,15 +97,15 @@ LeadsKeptOn by disk disk_now search running tester before after old new result =
 -- ---- from the first leg to the end
 
 -- what was written and this answer are what a kept run tells
-pub record IsToldKept (images : List (Option Outcome) → Type 0) (request : Request) (tested : Tested) (history : History) (first : Begun)
+pub record IsToldKept (images : List (Option Outcome) → Type 0) (request : Request) (tested : TesterShown) (history : History) (first : Begun)
     (before after : Option (List ℕ)) (answer : Answer) : Type 0 where
   pub written : List ℕ
   pub gained : Appends before after written
-  pub is : IsTested request tested history first (record { status = answer.status; text = written ++ answer.text })
+  pub is : IsTestedRun request tested history first (record { status = answer.status; text = written ++ answer.text })
   pub kept : images is.table
 
 -- a run that the disk cut short, behind the lines of its legs
-pub record IsCutByDisk (images : List (Option Outcome) → Type 0) (disk : DiskMet) (tested : Tested) (history : History) (first : Begun)
+pub record IsCutByDisk (images : List (Option Outcome) → Type 0) (disk : DiskMet) (tested : TesterShown) (history : History) (first : Begun)
     (before after : Option (List ℕ)) : Type 0 where
   pub table : List (Option Outcome)
   pub written : List ℕ
@@ -113,14 +114,14 @@ pub record IsCutByDisk (images : List (Option Outcome) → Type 0) (disk : DiskM
   pub kept : images table
 
 -- one that a write cut short, and one that want of memory did: a front of its log was written
-pub record IsCutByWrite (images : List (Option Outcome) → Type 0) (request : Request) (tested : Tested) (history : History) (first : Begun)
+pub record IsCutByWrite (images : List (Option Outcome) → Type 0) (request : Request) (tested : TesterShown) (history : History) (first : Begun)
     (before after : Option (List ℕ)) : Type 0 where
   pub told : Told
   pub is : IsTestCut request tested history first told
   pub front : AppendsFront before after told.text
   pub kept : images is.table
 
-pub record IsCutByMemory (images : List (Option Outcome) → Type 0) (tested : Tested) (history : History) (first : Begun)
+pub record IsCutByMemory (images : List (Option Outcome) → Type 0) (tested : TesterShown) (history : History) (first : Begun)
     (before after : Option (List ℕ)) : Type 0 where
   pub told : Told
   pub is : IsTestLost tested history first told
@@ -128,7 +129,7 @@ pub record IsCutByMemory (images : List (Option Outcome) → Type 0) (tested : T
   pub kept : images is.table
 
 -- what a kept run tells, or what it wrote before it was cut short
-abbrev pub IsEndedKept : (List (Option Outcome) → Type 0) → DiskMet → Request → Tested → History → Begun → Option (List ℕ) → Option (List ℕ)
+abbrev pub IsEndedKept : (List (Option Outcome) → Type 0) → DiskMet → Request → TesterShown → History → Begun → Option (List ℕ) → Option (List ℕ)
     → Result Answer Cut → Type 0
 IsEndedKept images disk request tested history first before after (Ok answer) = IsToldKept images request tested history first before after answer
 IsEndedKept images disk request tested history first before after (Err Journal) = IsCutByDisk images disk tested history first before after

@@ -7,7 +7,7 @@ ghost use Rattle.bf_io.specs.Causes.{FailsOnlyAt};
 ghost use Rattle.bf_journal.specs.Journal.{Fits};
 ghost use Rattle.bf_journal_run.specs.Kept.{IsSameRun};
 ghost use Rattle.bf_journal_run.specs.Legs.{EndsKept, IsToldLeg, LeadsKeptOn};
-ghost use Rattle.bf_output.specs.Tested.{tested_by};
+ghost use Rattle.bf_output.specs.Shown.{shown_by};
 ghost use Rattle.bf_search.specs.Within.{IsEndingWithin, IsEntryWithin};
 ghost use Rattle.bf_searches.specs.Searching.{IsGoneCaused, IsLegReady, LeavesReady};
 
@@ -33,7 +33,7 @@ fn go_on_kept<R: Host, T: Tester, J: Disk>(
 ) -> Result<Gone, Cut>
     requires reach { search.reach.now ≡ search.history.now.parents }
     requires ready { IsLegReady search.history.now
-        (tested_by ⟦<Recall<T> as Tester>⟧ tester.old) running }
+        (shown_by ⟦<Recall<T> as Tester>⟧ tester.old) running }
     requires is_split { T.is_split tester.old.inner ≡ false }
     requires len { length journal.old.kept ≡ length search.history.now.parents }
     requires sound { journal.old.is_sound ≡ true }
@@ -89,7 +89,7 @@ pub(crate) fn go_through<R: Host, T: Tester, J: Disk, K: Sink>(
 ) -> Result<Answer, Cut>
     requires reach { search.reach.now ≡ search.history.now.parents }
     requires ready { IsLegReady search.history.now
-        (tested_by ⟦<Recall<T> as Tester>⟧ tester.old) running }
+        (shown_by ⟦<Recall<T> as Tester>⟧ tester.old) running }
     requires is_split { T.is_split tester.old.inner ≡ false }
     requires len { length journal.kept ≡ length search.history.now.parents }
     requires sound { journal.is_sound ≡ true }

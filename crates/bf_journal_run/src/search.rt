@@ -13,7 +13,7 @@ ghost use Rattle.bf_journal.specs.Journal.{Fits, IsAsOpened};
 ghost use Rattle.bf_journal_run.specs.Kept.{AreLasting, answers_of};
 ghost use Rattle.bf_journal_run.specs.Legs.{IsEndedKept, met_disk};
 ghost use Rattle.bf_journal_run.specs.Searching.{ConcludesKept, IsRecalledIn, IsRefusedOnly, SaysKept};
-ghost use Rattle.bf_output.specs.Tested.{IsUsed, tested_by};
+ghost use Rattle.bf_output.specs.Shown.{IsUsed, shown_by};
 ghost use Rattle.bf_journal.specs.Recalling.{remembering};
 
 use crate::cut::Cut;
@@ -85,7 +85,7 @@ fn run_kept<R: Host, T: Tester, J: Disk, K: Sink>(
     requires len { length journal.kept ≡ length started.history.parents }
     requires sound { journal.is_sound ≡ true }
     requires fits { Fits J.told J.may_leave disk.old journal }
-    ensures told { let tested = tested_by ⟦<Recall<T> as Tester>⟧ tester.new in
+    ensures told { let tested = shown_by ⟦<Recall<T> as Tester>⟧ tester.new in
         IsEndedKept (AreLasting J.Disk disk.old disk.new journal started.history.names
         tested journal.kept) (met_disk J.Disk disk.old disk.new) line.entry.request.now
         tested started.history (begun_of started.first) (K.held out.old) (K.held out.new) result }
@@ -130,7 +130,7 @@ fn search_kept<R: Host, T: Tester, J: Disk, K: Sink>(
     requires len { length journal.kept ≡ length started.history.parents }
     requires sound { journal.is_sound ≡ true }
     requires fits { Fits J.told J.may_leave disk.old journal }
-    ensures told { let tested = tested_by ⟦<Recall<T> as Tester>⟧ tester.new in
+    ensures told { let tested = shown_by ⟦<Recall<T> as Tester>⟧ tester.new in
         IsEndedKept (AreLasting J.Disk disk.old disk.new journal started.history.names
         tested journal.kept) (met_disk J.Disk disk.old disk.new) line.entry.request.now
         tested started.history (begun_of started.first) (K.held out.old) (K.held out.new) result }
@@ -139,8 +139,8 @@ fn search_kept<R: Host, T: Tester, J: Disk, K: Sink>(
     ensures write { FailsOnlyAt Cut.Output (K.faults out.old) (K.faults out.new) result }
     ensures failed { FailsOnlyAt Cut.Journal (J.faults disk.old) (J.faults disk.new) result }
     ensures used { IsUsed line.entry.request.now line.entry.words.now
-        (tested_by ⟦<Recall<T> as Tester>⟧ (remembering tester.old tester.new.remembered))
-        (tested_by ⟦<Recall<T> as Tester>⟧ tester.new) }
+        (shown_by ⟦<Recall<T> as Tester>⟧ (remembering tester.old tester.new.remembered))
+        (shown_by ⟦<Recall<T> as Tester>⟧ tester.new) }
     ensures recalled { (tester.new ≡ tester.old)
         ⊎ (tester.new.remembered ≡ answers_of started.history.names journal.kept) }
     ensures is_split { T.is_split tester.new.inner ≡ false }
@@ -192,8 +192,8 @@ pub(crate) fn search<R: Host, T: Tester, J: Disk, K: Sink>(
     ensures disk { result ≡ Status.JournalFault → Rose (J.faults disk.old) (J.faults disk.new) }
     ensures refused { IsRefusedOnly result (J.told disk.new ≡ J.told disk.old) }
     ensures used { IsUsed line.entry.request.now line.entry.words.now
-        (tested_by ⟦<Recall<T> as Tester>⟧ (remembering tester.old tester.new.remembered))
-        (tested_by ⟦<Recall<T> as Tester>⟧ tester.new) }
+        (shown_by ⟦<Recall<T> as Tester>⟧ (remembering tester.old tester.new.remembered))
+        (shown_by ⟦<Recall<T> as Tester>⟧ tester.new) }
     ensures recalled { IsRecalledIn (met_disk J.Disk disk.old disk.new) line.entry started.history
         tester.new.answers tester.new.remembered }
     ensures is_split { T.is_split tester.new.inner ≡ false }

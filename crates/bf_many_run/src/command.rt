@@ -2,7 +2,7 @@
 ghost use Rattle.std.specs.Prelude.{◌≡◌, ◌≢◌, ℕ, ◌≤◌, length, Some, IfOk, IfErr, IfSome, IsErrOf, IsTrue};
 ghost use Rattle.bf_io.specs.Causes.{FailsOnlyAt, Rose};
 ghost use Rattle.bf_output.specs.Logs.{file_or_refusal};
-ghost use Rattle.bf_output.specs.Tested.{Tested};
+ghost use Rattle.bf_output.specs.Shown.{TesterShown};
 ghost use Rattle.bf_answers.specs.Answers.{Answers, IsComplete, IsWholeAnswer};
 ghost use Rattle.bf_answers.specs.Devices.{IsLeftUnless, met_shelf, met_sink, met_source, met_untested};
 ghost use Rattle.bf_begin.specs.Files.{given_of};
@@ -43,11 +43,11 @@ pub fn many<R: Host, S: Source, F: Shelf, K: Sink>(
     shelf: &mut F,
     out: &mut K,
 ) -> Status
-    ensures answers { (tested : Tested) →
+    ensures answers { (tested : TesterShown) →
         let met = met_untested words.now (met_source S.Source stream.old stream.new)
         (met_shelf F.Shelf shelf.old shelf.new) tested (met_sink K.Sink out.old out.new) in
         Answers (to_many met) met result }
-    ensures complete { (tested : Tested) →
+    ensures complete { (tested : TesterShown) →
         let met = met_untested words.now (met_source S.Source stream.old stream.new)
         (met_shelf F.Shelf shelf.old shelf.new) tested (met_sink K.Sink out.old out.new) in
         IsComplete (to_many met) met result }

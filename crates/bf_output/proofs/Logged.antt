@@ -38,7 +38,8 @@ use Rattle.bf_output.specs.Inputs.{file_of}
 use Rattle.bf_output.specs.Refusals.{name_refused, no_content, refused_at, waiting, refusal, too_large, log_refused}
 use Rattle.bf_output.specs.Returning.{FileGiven}
 use Rattle.bf_output.specs.Simulate.{IsRunTold, IsSimulated, plan_of, run_over}
-use Rattle.bf_output.specs.Tested.{Tested, IsTested, run_on, told_of_run}
+use Rattle.bf_output.specs.Shown.{TesterShown}
+use Rattle.bf_output.specs.Tested.{IsTestedRun, run_on, told_of_run}
 use Rattle.bf_output.specs.Told.{Told}
 use Rattle.bf_output.specs.Traces.{traced_if}
 use Rattle.bf_output.proofs.Returning.{log_gives_back, goes_on_from_start, goes_on_from_parts}
@@ -180,20 +181,20 @@ traced_begins true history first legs run told is =
     (_, ap (λ (t : Told). t.text) is ∙ append_assoc (log_on history first run.entries) _ _)
 
 -- a search on these outcomes, and the log that a text begins with
-abbrev Searched : Verb → Request → List (List ℕ) → Tested → History → Begun → List ℕ → Type 0
+abbrev Searched : Verb → Request → List (List ℕ) → TesterShown → History → Begun → List ℕ → Type 0
 Searched verb request words tested history first text =
     (known : Outcomes) × AreOutcomesOf verb request words tested history known
     × BeginsWith (log_on history first (one_at_a_time history.parents first.search known 0).entries) text
 
-tested_begins : (request : Request) (words : List (List ℕ)) (tested : Tested) (history : History) (first : Begun) (told : Told)
-    → IsTested request tested history first told → Searched Run request words tested history first told.text
+tested_begins : (request : Request) (words : List (List ℕ)) (tested : TesterShown) (history : History) (first : Begun) (told : Told)
+    → IsTestedRun request tested history first told → Searched Run request words tested history first told.text
 tested_begins request words tested history first told is = (
   outcomes_of_table is.table,
   (is.table, is.over.known, refl {a = outcomes_of_table is.table}),
   traced_begins request.trace history first is.legs (run_on history first is.table) told is.tells,
 )
 
-searched_begins : (verb : Verb) (request : Request) (words : List (List ℕ)) (tested : Tested) (history : History) (first : Begun) (told : Told)
+searched_begins : (verb : Verb) (request : Request) (words : List (List ℕ)) (tested : TesterShown) (history : History) (first : Begun) (told : Told)
     → EndsSearch told.status → IsSearched verb request words tested history first told
     → Searched verb request words tested history first told.text
 searched_begins Simulate request words tested history first told ends is = (
@@ -221,7 +222,7 @@ over_stream Replay request given stream told e is = absurd (cc)
 over_stream Gen request given stream told e is = absurd (cc)
 over_stream Sample request given stream told e is = absurd (cc)
 
-from_beginning : (verb : Verb) (request : Request) (words : List (List ℕ)) (tested : Tested) (file : FileGiven) (history : History) (told : Told)
+from_beginning : (verb : Verb) (request : Request) (words : List (List ℕ)) (tested : TesterShown) (file : FileGiven) (history : History) (told : Told)
     → searches verb ≡ true → IsOverFile verb request words tested file history told
     → IsSearchedFrom (begun_with_skips request words file history) verb request words tested history told
 from_beginning Simulate request words tested file history told e is = is
@@ -233,7 +234,7 @@ from_beginning Sample request words tested file history told e is = absurd (cc)
 
 -- ---- the whole
 
-module _ (request : Request) (words : List (List ℕ)) (read : asked.request words ≡ Ok request) (tested : Tested) (bytes : List ℕ)
+module _ (request : Request) (words : List (List ℕ)) (read : asked.request words ≡ Ok request) (tested : TesterShown) (bytes : List ℕ)
     (told : Told) (ends : EndsSearch told.status) where
   returning : (file : FileGiven) (history : History) (first : Begun) → Loads bytes standard_limits (Ok history)
       → begun_with_skips request words file history ≡ Ok first

@@ -42,7 +42,8 @@ use Rattle.bf_output.specs.Replay.{replay_told}
 use Rattle.bf_output.specs.Sample.{sampled}
 use Rattle.bf_output.specs.Simulate.{IsRunTold, IsSimulated, plan_of, ran, run_over}
 use Rattle.bf_output.specs.declared.status.Status.TheVariants as status
-use Rattle.bf_output.specs.Tested.{Tested, IsTested, IsFrontIfTold, run_on, told_of_run}
+use Rattle.bf_output.specs.Shown.{TesterShown}
+use Rattle.bf_output.specs.Tested.{IsTestedRun, IsFrontIfTold, run_on, told_of_run}
 use Rattle.bf_output.specs.Traces.{course_of, traced_if}
 use Rattle.bf_output.proofs.Unused.{no_leg, none_used, same_end}
 use Rattle.bf_output.specs.Told.{Told, told_by}
@@ -72,7 +73,7 @@ run_text request words history first told untraced whole (inl is) =
 run_text request words history first told untraced whole (inr cut) = absurd (whole (ap (λ (t : Told). t.status) cut))
 
 module _ (told other : Told) (whole : told.status ≢ status.WriteFault) (also_whole : other.status ≢ status.WriteFault)
-    (words : List (List ℕ)) (files : List ShelfFile) (tested : Tested) where
+    (words : List (List ℕ)) (files : List ShelfFile) (tested : TesterShown) where
   abbrev given : Given
   given = given_to words (Some files) tested
 
@@ -140,8 +141,8 @@ unused history first =
     none_used history.parents (outcomes_of_table (nothing history)) (none_known (length history.parents)) first.search 0
 
 -- the run on no answer at all
-nothing_tested : (request : Request) (tested : Tested) (history : History) (first : Begun) → tested.answers ≡ []
-    → IsTested request tested history first (traced_if request.trace history (one_failed history first)
+nothing_tested : (request : Request) (tested : TesterShown) (history : History) (first : Begun) → tested.answers ≡ []
+    → IsTestedRun request tested history first (traced_if request.trace history (one_failed history first)
     (told_of_run history first (run_on history first (nothing history))))
 unfolding LegsLead
 nothing_tested request tested history first none = record {
@@ -187,7 +188,7 @@ nothing_tested request tested history first none = record {
       ended = λ closed. sym (seq_ends_alike history.parents first.search (outcomes_of_table (nothing history)) (outcomes_of_plan plan) 0 (part plan) closed);
     }
 
-module _ (words : List (List ℕ)) (files : List ShelfFile) (tested : Tested) (none : tested.answers ≡ []) where
+module _ (words : List (List ℕ)) (files : List ShelfFile) (tested : TesterShown) (none : tested.answers ≡ []) where
   abbrev some_given : Given
   some_given = given_to words (Some files) tested
 

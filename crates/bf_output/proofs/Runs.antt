@@ -13,7 +13,8 @@ use Rattle.bf_words.specs.declared.request.Request.{Request}
 use Rattle.bf_output.specs.Beginning.{Begun, commits_of, log_on}
 use Rattle.bf_output.specs.Simulate.{IsRunTold, IsSimulated, plan_of, ran, run_over, status_of_end}
 use Rattle.bf_terms.specs.Texts.{answer_lines}
-use Rattle.bf_output.specs.Tested.{Tested, IsTested, IsFrontIfTold, run_on, status_at_end, lines_at_end, told_of_run, is_test_fault}
+use Rattle.bf_output.specs.Shown.{TesterShown}
+use Rattle.bf_output.specs.Tested.{IsTestedRun, IsFrontIfTold, run_on, status_at_end, lines_at_end, told_of_run, is_test_fault}
 use Rattle.bf_output.specs.Traces.{traced, traced_if}
 use Rattle.bf_output.specs.Told.{Told}
 
@@ -42,8 +43,8 @@ status_of_traced : (is_asked : Bool) (history : History) (legs : Legs) (told : T
 status_of_traced false history legs told = refl
 status_of_traced true history legs told = refl
 
-pub run_told : (request : Request) (tested : Tested) (plan : List Outcome) (history : History) (first : Begun) (told : Told) → tested.plan ≡ Some plan
-    → IsTested request tested history first told → is_test_fault told.status ≡ false
+pub run_told : (request : Request) (tested : TesterShown) (plan : List Outcome) (history : History) (first : Begun) (told : Told) → tested.plan ≡ Some plan
+    → IsTestedRun request tested history first told → is_test_fault told.status ≡ false
     → (legs : Legs) × (told ≡ traced_if request.trace history legs (ran history first (run_over history first plan)))
 run_told request tested plan history first told e is h =
     let run = run_on history first is.table in
@@ -77,8 +78,8 @@ front_if_told (Some plan) history first table follows =
     }
 
 -- a run whose outcomes are those that words write is told as the command `simulate` tells it
-pub simulated_run : (request : Request) (words : List (List ℕ)) (tested : Tested) (history : History) (first : Begun) (told : Told)
-    → tested.plan ≡ Some (plan_of request words) → IsTested request tested history first told → is_test_fault told.status ≡ false
+pub simulated_run : (request : Request) (words : List (List ℕ)) (tested : TesterShown) (history : History) (first : Begun) (told : Told)
+    → tested.plan ≡ Some (plan_of request words) → IsTestedRun request tested history first told → is_test_fault told.status ≡ false
     → IsSimulated request words history first told
 simulated_run request words tested history first told e is h = inl (by_flag request.trace is.tells)
   where

@@ -10,7 +10,8 @@ use Rattle.bf_output.specs.declared.status.Status.TheVariants.{WriteFault}
 use Rattle.bf_output.specs.Beginning.{Begun}
 use Rattle.bf_output.specs.Output.{IsOutput, given_to, tests, traces}
 use Rattle.bf_output.specs.Simulate.{ran, run_over}
-use Rattle.bf_output.specs.Tested.{Tested, IsTested, is_test_fault}
+use Rattle.bf_output.specs.Shown.{TesterShown}
+use Rattle.bf_output.specs.Tested.{IsTestedRun, is_test_fault}
 use Rattle.bf_output.specs.Told.{Told}
 use Rattle.bf_output.specs.Traces.{traced_if}
 
@@ -18,7 +19,7 @@ use Rattle.bf_output.specs.Traces.{traced_if}
 -- asked for, and nothing cuts it short.
 abbrev pub HasOneOutput : Type 0
 HasOneOutput =
-    (words : List (List ℕ)) (files : List ShelfFile) (tested : Tested) (bytes : List ℕ) (told other : Told)
+    (words : List (List ℕ)) (files : List ShelfFile) (tested : TesterShown) (bytes : List ℕ) (told other : Told)
     → tests (request words) ≡ false
     → traces (request words) ≡ false
     → told.status ≢ WriteFault
@@ -30,7 +31,7 @@ HasOneOutput =
 -- They have an output, whatever the tester answers later; without a trace one can be named.
 abbrev pub HasSomeOutput : Type 0
 HasSomeOutput =
-    (words : List (List ℕ)) (files : List ShelfFile) (tested : Tested) (bytes : List ℕ)
+    (words : List (List ℕ)) (files : List ShelfFile) (tested : TesterShown) (bytes : List ℕ)
     → tested.answers ≡ []
     → traces (request words) ≡ false
     → (told : Told) × IsOutput (given_to words (Some files) tested) (Some bytes) told
@@ -38,8 +39,8 @@ HasSomeOutput =
 -- Where outcomes are told, every run whose tests do not fail tells the log and the answer of the run over these.
 abbrev pub HasOneRun : Type 0
 HasOneRun =
-    (request : Request) (tested : Tested) (plan : List Outcome) (history : History) (first : Begun) (told : Told)
+    (request : Request) (tested : TesterShown) (plan : List Outcome) (history : History) (first : Begun) (told : Told)
     → tested.plan ≡ Some plan
-    → IsTested request tested history first told
+    → IsTestedRun request tested history first told
     → is_test_fault told.status ≡ false
     → (legs : Legs) × (told ≡ traced_if request.trace history legs (ran history first (run_over history first plan)))

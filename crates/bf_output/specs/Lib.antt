@@ -7,6 +7,7 @@ pub mod Simulate
 pub mod Next
 pub mod Gen
 pub mod Sample
+pub mod Shown
 pub mod Tested
 pub mod Inputs
 pub mod Output

@@ -12,38 +12,22 @@ use Rattle.bf_words.specs.declared.request.Request.{Request}
 use Rattle.bf_words.specs.declared.verb.Verb.{Verb}
 use Rattle.bf_words.specs.declared.verb.Verb.TheVariants as verb
 use Rattle.bf_output.specs.declared.status.Status.{Status}
-use Rattle.bf_output.specs.declared.status.Status.TheVariants as status
 use Rattle.bf_output.specs.Beginning.{Begun, begun_with_skips, log_on}
 use Rattle.bf_output.specs.Inputs.{file_of}
 use Rattle.bf_output.specs.Returning.{FileGiven, LogGivesBack, GoesOnFromStart, GoesOnFromParts}
 use Rattle.bf_output.specs.Simulate.{plan_of}
-use Rattle.bf_output.specs.Tested.{Tested}
+use Rattle.bf_output.specs.Statuses.{Stage, Refused, Unread, Ended, Cut, stage_of}
+use Rattle.bf_output.specs.Shown.{TesterShown}
 
 -- the statuses with which a search ends that needs no test any more
 abbrev pub EndsSearch : Status → Type 0
-EndsSearch status.Done = Unit {0}
-EndsSearch (status.Usage word) = ⊥
-EndsSearch status.OnlySkipped = Unit {0}
-EndsSearch status.MergeBaseBad = Unit {0}
-EndsSearch status.GoodNotAncestor = Unit {0}
-EndsSearch status.BothSides = Unit {0}
-EndsSearch status.Aborted = Unit {0}
-EndsSearch (status.StreamRefused line refusal) = ⊥
-EndsSearch (status.NameRefused word fault) = ⊥
-EndsSearch (status.TooLarge what) = ⊥
-EndsSearch (status.LogRefused line) = ⊥
-EndsSearch (status.TestFault place) = ⊥
-EndsSearch status.ReadFault = ⊥
-EndsSearch status.WriteFault = ⊥
-EndsSearch status.ShelfFault = ⊥
-EndsSearch status.NoMemory = ⊥
-EndsSearch status.NoFile = ⊥
-EndsSearch status.Waiting = ⊥
-EndsSearch (status.NoContent line) = ⊥
-EndsSearch (status.CertRefused line) = ⊥
-EndsSearch (status.JournalRefused kept) = ⊥
-EndsSearch status.JournalFault = ⊥
-EndsSearch (status.ListRefused line) = ⊥
+EndsSearch status = IsEnd (stage_of status)
+  where
+    IsEnd : Stage → Type 0
+    IsEnd Refused = ⊥
+    IsEnd Unread = ⊥
+    IsEnd Ended = Unit {0}
+    IsEnd Cut = ⊥
 
 -- What the shelf gives for the word of --replay: nothing where the words have none, and else, where it tells its files,
 -- the one of that name.
@@ -71,7 +55,7 @@ pub record IsLogOf (file : FileGiven) (history : History) (first : Begun) (known
   pub from_parts : file ≡ None → GoesOnFromParts history first known run
 
 -- the outcomes of a search: those of the plan that the words write, or those that its tester answered
-abbrev pub AreOutcomesOf : Verb → Request → List (List ℕ) → Tested → History → Outcomes → Type 0
+abbrev pub AreOutcomesOf : Verb → Request → List (List ℕ) → TesterShown → History → Outcomes → Type 0
 AreOutcomesOf verb.Simulate request words tested history known = known ≡ outcomes_of_plan (plan_of request words)
 AreOutcomesOf verb.Run request words tested history known =
     (table : List (Option Outcome)) × IsKnown history.names tested.plan tested.answers table × (known ≡ outcomes_of_table table)
@@ -81,7 +65,7 @@ AreOutcomesOf verb.Gen request words tested history known = ⊥
 AreOutcomesOf verb.Sample request words tested history known = ⊥
 
 -- the search of these words, over the history of these bytes and behind this file, printed its log
-pub record IsLogged (request : Request) (words : List (List ℕ)) (tested : Tested) (file : FileGiven) (bytes text : List ℕ)
+pub record IsLogged (request : Request) (words : List (List ℕ)) (tested : TesterShown) (file : FileGiven) (bytes text : List ℕ)
     : Type 0 where
   pub history : History
   pub loads : Loads bytes standard_limits (Ok history)

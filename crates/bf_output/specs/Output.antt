@@ -17,25 +17,26 @@ use Rattle.bf_output.specs.Refusals.{usage}
 use Rattle.bf_output.specs.Replay.{replay_told}
 use Rattle.bf_output.specs.Sample.{sampled}
 use Rattle.bf_output.specs.Simulate.{IsSimulated}
-use Rattle.bf_output.specs.Tested.{Tested, IsTested, IsTestCut, IsTestLost, IsUsed}
+use Rattle.bf_output.specs.Shown.{TesterShown, IsUsed}
+use Rattle.bf_output.specs.Tested.{IsTestedRun, IsTestCut, IsTestLost}
 use Rattle.bf_output.specs.Told.{Told, told_by}
 
 -- what the program is given beside its stream: its words, the files of its shelf, and what its tester shows
 pub record Given : Type 0 where
   pub words : List (List ℕ)
   pub files : Option (List ShelfFile)  -- where the shelf tells them
-  pub tested : Tested
+  pub tested : TesterShown
 
-abbrev pub given_to : List (List ℕ) → Option (List ShelfFile) → Tested → Given
+abbrev pub given_to : List (List ℕ) → Option (List ShelfFile) → TesterShown → Given
 given_to words files tested = record { words = words; files = files; tested = tested }
 
 -- ---- over a history
 
 -- what a search tells that has begun: over a plan that is written, or by tests; the other commands begin none
-abbrev pub IsSearched : Verb → Request → List (List ℕ) → Tested → History → Begun → Told → Type 0
+abbrev pub IsSearched : Verb → Request → List (List ℕ) → TesterShown → History → Begun → Told → Type 0
 IsSearched Simulate request words tested history first told = IsSimulated request words history first told
 IsSearched Run request words tested history first told =
-    IsTested request tested history first told
+    IsTestedRun request tested history first told
     ⊎ (IsTestCut request tested history first told ⊎ IsTestLost tested history first told)
 IsSearched Next request words tested history first told = ⊥
 IsSearched Replay request words tested history first told = ⊥
@@ -43,12 +44,12 @@ IsSearched Gen request words tested history first told = ⊥
 IsSearched Sample request words tested history first told = ⊥
 
 -- a search that did not begin is refused
-abbrev pub IsSearchedFrom : Result Begun Told → Verb → Request → List (List ℕ) → Tested → History → Told → Type 0
+abbrev pub IsSearchedFrom : Result Begun Told → Verb → Request → List (List ℕ) → TesterShown → History → Told → Type 0
 IsSearchedFrom (Err refusal) verb request words tested history told = told ≡ refusal
 IsSearchedFrom (Ok first) verb request words tested history told = IsSearched verb request words tested history first told
 
 -- what a command answers over a history and the file that it is given; `gen` looks at none
-abbrev pub IsOverFile : Verb → Request → List (List ℕ) → Tested → Option (Result (List ℕ) LoadFault) → History → Told → Type 0
+abbrev pub IsOverFile : Verb → Request → List (List ℕ) → TesterShown → Option (Result (List ℕ) LoadFault) → History → Told → Type 0
 IsOverFile Simulate request words tested file history told =
     IsSearchedFrom (begun_with_skips request words file history) Simulate request words tested history told
 IsOverFile Run request words tested file history told =
@@ -133,10 +134,10 @@ traces (Err word) = false
 traces (Ok request) = request.trace
 
 -- the tester is used as the words say, where they ask for tests; else it is as it was
-abbrev pub IsUsedIf : Bool → Request → List (List ℕ) → Tested → Tested → Type 0
+abbrev pub IsUsedIf : Bool → Request → List (List ℕ) → TesterShown → TesterShown → Type 0
 IsUsedIf false request words before after = after ≡ before
 IsUsedIf true request words before after = IsUsed request words before after
 
-abbrev pub IsUsedFor : Result Request ℕ → List (List ℕ) → Tested → Tested → Type 0
+abbrev pub IsUsedFor : Result Request ℕ → List (List ℕ) → TesterShown → TesterShown → Type 0
 IsUsedFor (Err word) words before after = after ≡ before
 IsUsedFor (Ok request) words before after = IsUsedIf (is_run request.verb) request words before after

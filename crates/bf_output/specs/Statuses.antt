@@ -1,4 +1,4 @@
--- The numbers with which the program ends, and the words of its refusals.
+-- The numbers and the stages with which the program ends, and the words of its refusals.
 use Rattle.std.specs.Prelude.{ℕ, List, ◌++◌, codes}
 use Rattle.std.specs.Fmt.{decimal}
 use Rattle.bf_grammar.specs.declared.fault.Limit.{Limit}
@@ -37,6 +37,38 @@ number_of (CertRefused line) = 20
 number_of (JournalRefused kept) = 21
 number_of JournalFault = 22
 number_of (ListRefused line) = 23
+
+-- at which stage a call came to its end
+pub data Stage : Type 0 where
+  Refused : Stage  -- what it was given is refused, or there is too little of it: before a search
+  Unread : Stage  -- a device gave no stream, or no file: before a search
+  Ended : Stage  -- its search came to an end, or its command did what it was asked
+  Cut : Stage  -- a test, a write or a journal failed, or memory ran out
+
+abbrev pub stage_of : Status → Stage
+stage_of Done = Ended
+stage_of (Usage word) = Refused
+stage_of OnlySkipped = Ended
+stage_of MergeBaseBad = Ended
+stage_of GoodNotAncestor = Ended
+stage_of BothSides = Ended
+stage_of Aborted = Ended
+stage_of (StreamRefused line refusal) = Refused
+stage_of (NameRefused word fault) = Refused
+stage_of (TooLarge what) = Refused
+stage_of (LogRefused line) = Refused
+stage_of (TestFault place) = Cut
+stage_of ReadFault = Unread
+stage_of WriteFault = Cut
+stage_of ShelfFault = Unread
+stage_of NoMemory = Cut
+stage_of NoFile = Refused
+stage_of Waiting = Refused
+stage_of (NoContent line) = Refused
+stage_of (CertRefused line) = Refused
+stage_of (JournalRefused kept) = Refused
+stage_of JournalFault = Cut
+stage_of (ListRefused line) = Refused
 
 abbrev pub words_of_kind : StreamKind → List ℕ
 words_of_kind kind.Syntax = codes "syntax"

@@ -1,5 +1,5 @@
 -- A search whose commits are tested: what it answers by the answers that a tester gave.
-use Rattle.std.specs.Prelude.{◌≡◌, ℕ, ◌≤◌, Bool, true, false, ◌||◌, List, [], ◌++◌, drop, map, Option, Some, None, IfSome, ◌⊎◌}
+use Rattle.std.specs.Prelude.{◌≡◌, ℕ, ◌≤◌, Bool, true, false, List, ◌++◌, map, Option, IfSome}
 use Rattle.bf_farm.specs.Answering.{pair_of}
 use Rattle.bf_history.specs.Meanings.{History}
 use Rattle.bf_log.specs.Trace.{failed_test_line}
@@ -9,38 +9,15 @@ use Rattle.bf_search.specs.Outcomes.{outcomes_of_table}
 use Rattle.bf_search.specs.Run.{End, Answered, Leg, Open, Aborted, Run, one_at_a_time}
 use Rattle.bf_state.specs.Runs.{GoesOn, is_open}
 use Rattle.bf_tester.specs.declared.answer.Answer.{Answer}
-use Rattle.bf_tester.specs.declared.tester.Tester.{Ghosts}
-use Rattle.bf_tester.specs.Plans.{PreparesTold}
 use Rattle.bf_terms.specs.Texts.{Commits, Sides, answer_lines}
 use Rattle.bf_words.specs.declared.request.Request.{Request}
 use Rattle.bf_output.specs.declared.status.Status.{Status}
 use Rattle.bf_output.specs.declared.status.Status.TheVariants as status
 use Rattle.bf_output.specs.Beginning.{Begun, commits_of, log_on}
+use Rattle.bf_output.specs.Shown.{TesterShown}
 use Rattle.bf_output.specs.Simulate.{run_over, status_of_end, cut_short, out_of_memory}
 use Rattle.bf_output.specs.Told.{Told}
 use Rattle.bf_output.specs.Traces.{course_of, traced_if}
-
--- what a tester shows: the outcomes by place, where it tells them, how it tests, the answers that it gave, and its faults
-pub record Tested : Type 0 where
-  pub plan : Option (List Outcome)
-  pub command : List (List ℕ)
-  pub is_lenient : Bool
-  pub answers : List Answer
-  pub faults : ℕ
-  pub failed : Option ℕ
-  pub is_split : Bool
-
--- what a tester shows, by the ghost members of its type
-abbrev pub tested_by : {T : Type 0} → Ghosts T → T → Tested
-tested_by by t = record {
-  plan = by.told t;
-  command = by.command t;
-  is_lenient = by.is_lenient t;
-  answers = by.answers t;
-  faults = by.faults t;
-  failed = by.failed t;
-  is_split = by.is_split t;
-}
 
 -- the run on what is known
 abbrev pub run_on : History → Begun → List (Option Outcome) → Run
@@ -77,7 +54,7 @@ IsFrontIfTold told history first run = IfSome told (λ plan. IsFrontOf run (run_
 
 -- What is known is answered by the tester, with the names of the commits; one worker tested what the run asked for, and
 -- nothing else. The run on what is known is told, or the events of its legs with it.
-pub record IsTestedAs (IsTold : Legs → Run → Told → Type 0) (request : Request) (tested : Tested) (history : History)
+pub record IsTestedAs (IsTold : Legs → Run → Told → Type 0) (request : Request) (tested : TesterShown) (history : History)
     (first : Begun) (told : Told) : Type 0 where
   pub table : List (Option Outcome)
   pub legs : Legs
@@ -89,8 +66,8 @@ pub record IsTestedAs (IsTold : Legs → Run → Told → Type 0) (request : Req
 abbrev pub IsLogTold : Request → History → Begun → Legs → Run → Told → Type 0
 IsLogTold request history first legs run told = told ≡ traced_if request.trace history legs (told_of_run history first run)
 
-abbrev pub IsTested : Request → Tested → History → Begun → Told → Type 0
-IsTested request tested history first told = IsTestedAs (IsLogTold request history first) request tested history first told
+abbrev pub IsTestedRun : Request → TesterShown → History → Begun → Told → Type 0
+IsTestedRun request tested history first told = IsTestedAs (IsLogTold request history first) request tested history first told
 
 -- the answers are the first that a run used, in its order
 pub record AreFirstUsed (answers : List Answer) (run : Run) : Type 0 where
@@ -98,7 +75,7 @@ pub record AreFirstUsed (answers : List Answer) (run : Run) : Type 0 where
   pub begins : run.used ≡ map pair_of answers ++ rest
 
 -- A search that a write cut short after a leg: the log of the run on what its tester answered was due.
-pub record IsTestCut (request : Request) (tested : Tested) (history : History) (first : Begun) (cut : Told) : Type 0 where
+pub record IsTestCut (request : Request) (tested : TesterShown) (history : History) (first : Begun) (cut : Told) : Type 0 where
   pub table : List (Option Outcome)
   pub known : IsKnown history.names tested.plan tested.answers table
   pub planned : IsFrontIfTold tested.plan history first (run_on history first table)
@@ -106,32 +83,11 @@ pub record IsTestCut (request : Request) (tested : Tested) (history : History) (
   pub tells : cut ≡ cut_short history first (run_on history first table)
 
 -- One that want of memory cut short: the log of the run on what its tester answered was due, too.
-pub record IsTestLost (tested : Tested) (history : History) (first : Begun) (lost : Told) : Type 0 where
+pub record IsTestLost (tested : TesterShown) (history : History) (first : Begun) (lost : Told) : Type 0 where
   pub table : List (Option Outcome)
   pub known : IsKnown history.names tested.plan tested.answers table
   pub planned : IsFrontIfTold tested.plan history first (run_on history first table)
   pub tells : lost ≡ out_of_memory history first (run_on history first table)
-
--- ---- the tester itself
-
--- the words after `--`
-abbrev pub command_of : Request → List (List ℕ) → List (List ℕ)
-command_of request words = tail_from words request.tail
-  where
-    tail_from : List (List ℕ) → Option ℕ → List (List ℕ)
-    tail_from words None = []
-    tail_from words (Some i) = drop i words
-
--- the tester took the command and the reading of its outcomes, before it tested
-pub record IsPrepared (request : Request) (words : List (List ℕ)) (before after : Tested) : Type 0 where
-  pub command : after.command ≡ command_of request words
-  pub is_lenient : after.is_lenient ≡ (before.is_lenient || request.lenient)
-  pub plan : PreparesTold request.lenient before.plan after.plan
-  pub is_split : after.is_split ≡ before.is_split
-
--- it is as it was, or it tested as the words say
-abbrev pub IsUsed : Request → List (List ℕ) → Tested → Tested → Type 0
-IsUsed request words before after = (after ≡ before) ⊎ IsPrepared request words before after
 
 -- whether a status says that a test could not be made
 abbrev pub is_test_fault : Status → Bool

@@ -7,7 +7,7 @@ use Rattle.bf_history.specs.Meanings.{History}
 use Rattle.bf_words.specs.declared.request.Request.{Request}
 use Rattle.bf_output.specs.Output.{given_to, IsOver, IsOverFile, IsOverLog, IsOverStream}
 use Rattle.bf_output.specs.Refusals.{refusal}
-use Rattle.bf_output.specs.Tested.{Tested}
+use Rattle.bf_output.specs.Shown.{TesterShown}
 use Rattle.bf_output.specs.Told.{Told}
 use Rattle.bf_io.specs.declared.shelf.LoadFault.{LoadFault}
 use Rattle.bf_io.specs.declared.shelf.ShelfFile.{ShelfFile}

@@ -2,7 +2,7 @@
 use Rattle.std.specs.Prelude.{◌≡◌, Bool, Some}
 use Rattle.bf_output.specs.Output.{IsUsedIf, is_run}
 use Rattle.bf_output.specs.Simulate.{plan_of}
-use Rattle.bf_output.specs.Tested.{IsUsed}
+use Rattle.bf_output.specs.Shown.{IsUsed}
 use Rattle.bf_tester.specs.declared.tester.Tester.{Ghosts}
 use Rattle.bf_output.specs.declared.status.Status.{Status}
 use Rattle.bf_answers.specs.Answers.{HasTestCause, IsCaused}

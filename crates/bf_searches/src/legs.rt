@@ -3,7 +3,7 @@ ghost use Rattle.std.specs.Prelude.{◌≡◌, ◌≤◌, false, true, [], lengt
 ghost use Rattle.bf_farm.specs.Testers.{HasAnswersOf};
 ghost use Rattle.bf_state.specs.Ends.{HasEnds};
 ghost use Rattle.bf_io.specs.Causes.{FailsOnlyAt};
-ghost use Rattle.bf_output.specs.Tested.{tested_by};
+ghost use Rattle.bf_output.specs.Shown.{shown_by};
 ghost use Rattle.bf_answers.specs.Answers.{IsCaused};
 ghost use Rattle.bf_answers.specs.Devices.{KeepsManner, met_sink, met_tester};
 ghost use Rattle.bf_searches.specs.Searching.{BeginsRun, IsGoneCaused, IsLegReady, LeadsOnWith, LeadsOverWith, LeadsRunOn, LeavesFewer, LeavesReady};
@@ -94,7 +94,7 @@ pub fn go_on<R: Host, T: Tester>(
     tester: &mut T,
 ) -> Result<Gone, AllocError>
     requires reach { search.reach.now ≡ search.history.now.parents }
-    requires ready { IsLegReady search.history.now (tested_by T.Tester tester.old) running }
+    requires ready { IsLegReady search.history.now (shown_by T.Tester tester.old) running }
     requires is_split { T.is_split tester.old ≡ false }
     ensures goes { LeadsRunOn search.entry running
         (met_tester T.Tester tester.old tester.new) result }
@@ -127,7 +127,7 @@ fn go_through<R: Host, T: Tester, K: Sink>(
     out: &mut K,
 ) -> Result<Answer, SinkFault>
     requires reach { search.reach.now ≡ search.history.now.parents }
-    requires ready { IsLegReady search.history.now (tested_by T.Tester tester.old) running }
+    requires ready { IsLegReady search.history.now (shown_by T.Tester tester.old) running }
     requires is_split { T.is_split tester.old ≡ false }
     ensures told { TellsRest search.entry running (met_tester T.Tester tester.old tester.new)
         (met_sink K.Sink out.old out.new) result }
@@ -160,9 +160,9 @@ pub fn run_legs<R: Host, T: Tester, K: Sink>(
     requires started { IsStarted started }
     requires fresh { T.answers tester.old ≡ [] }
     requires is_split { T.is_split tester.old ≡ false }
-    ensures told { IfOk result (TellsRun line.entry started (tested_by T.Tester tester.new)
+    ensures told { IfOk result (TellsRun line.entry started (shown_by T.Tester tester.new)
         (met_sink K.Sink out.old out.new)) }
-    ensures cut { CutsRun line.entry started (tested_by T.Tester tester.new)
+    ensures cut { CutsRun line.entry started (shown_by T.Tester tester.new)
         (met_sink K.Sink out.old out.new) result }
     ensures cause { IfOk result (IsCaused true (met_tester T.Tester tester.old tester.new)) }
     ensures write { FailsOnlyAt SinkFault.Failed (K.faults out.old) (K.faults out.new) result }

@@ -1,8 +1,8 @@
 //! Searches: the commands `simulate` and `run`.
 ghost use Rattle.std.specs.Prelude.{◌≡◌, ◌≢◌, true, false, [], IfOk};
 ghost use Rattle.bf_io.specs.Causes.{FailsOnlyAt, Rose};
-ghost use Rattle.bf_output.specs.Tested as tested;
-ghost use Rattle.bf_output.specs.Tested.{Tested, tested_by};
+ghost use Rattle.bf_output.specs.Shown as shown;
+ghost use Rattle.bf_output.specs.Shown.{TesterShown, shown_by};
 ghost use Rattle.bf_answers.specs.Answers.{IsCaused, IsWholeAnswer};
 ghost use Rattle.bf_answers.specs.Devices.{met_sink, met_tester};
 ghost use Rattle.bf_searches.specs.Lines.{HasTestCauseIn, IsCausedIn, IsUsedIn, IsUsedToTest};
@@ -20,7 +20,7 @@ use bf_tester::{Host, Tester};
 
 /// The words of the command that tests.
 pub fn command_of<'a>(line: Line<'a>) -> &'a [Word]
-    ensures { result.now ≡ tested.command_of line.entry.request.now line.entry.words.now }
+    ensures { result.now ≡ shown.command_of line.entry.request.now line.entry.words.now }
 {
     match line.request.tail {
         Some(tail) => line.words.get(tail as usize..).unwrap_or_default(),
@@ -71,9 +71,9 @@ fn search_by<R: Host, T: Tester, K: Sink>(
     requires fresh { T.answers tester.old ≡ [] }
     requires is_split { T.is_split tester.old ≡ false }
     ensures told { IfOk result (TellsSearch line.entry.request.now.verb line.entry started
-        (tested_by T.Tester tester.new) (met_sink K.Sink out.old out.new)) }
+        (shown_by T.Tester tester.new) (met_sink K.Sink out.old out.new)) }
     ensures cut { CutsSearch line.entry.request.now.verb line.entry started
-        (tested_by T.Tester tester.new) (met_sink K.Sink out.old out.new) result }
+        (shown_by T.Tester tester.new) (met_sink K.Sink out.old out.new) result }
     ensures cause { IfOk result (IsCausedIn line.entry
         (met_tester T.Tester tester.old tester.new)) }
     ensures write { FailsOnlyAt SinkFault.Failed (K.faults out.old) (K.faults out.new) result }
@@ -96,9 +96,9 @@ pub fn search_by_plan<R: Host, K: Sink>(
 ) -> Result<Answer, SinkFault>
     requires plan { HasPlan line.request.now line.words.now }
     requires started { IsStarted started }
-    ensures told { (tested : Tested) → IfOk result (TellsSearch Verb.Simulate line.entry started
-        tested (met_sink K.Sink out.old out.new)) }
-    ensures cut { (tested : Tested) → CutsSearch Verb.Simulate line.entry started
+    ensures told { (tested : TesterShown) → IfOk result (TellsSearch Verb.Simulate line.entry
+        started tested (met_sink K.Sink out.old out.new)) }
+    ensures cut { (tested : TesterShown) → CutsSearch Verb.Simulate line.entry started
         tested (met_sink K.Sink out.old out.new) result }
     ensures whole { IfOk result IsWholeAnswer }
     ensures write { FailsOnlyAt SinkFault.Failed (K.faults out.old) (K.faults out.new) result }
@@ -119,9 +119,9 @@ pub fn search_by_command<R: Host, T: Tester, K: Sink>(
     requires fresh { T.answers tester.old ≡ [] }
     requires is_split { T.is_split tester.old ≡ false }
     ensures told { IfOk result (TellsSearch Verb.Run line.entry started
-        (tested_by T.Tester tester.new) (met_sink K.Sink out.old out.new)) }
+        (shown_by T.Tester tester.new) (met_sink K.Sink out.old out.new)) }
     ensures cut { CutsSearch Verb.Run line.entry started
-        (tested_by T.Tester tester.new) (met_sink K.Sink out.old out.new) result }
+        (shown_by T.Tester tester.new) (met_sink K.Sink out.old out.new) result }
     ensures cause { IfOk result (IsCaused true (met_tester T.Tester tester.old tester.new)) }
     ensures write { FailsOnlyAt SinkFault.Failed (K.faults out.old) (K.faults out.new) result }
     ensures used { IsUsedToTest line.entry (met_tester T.Tester tester.old tester.new) }

@@ -5,7 +5,7 @@ use Rattle.bf_answers.specs.Tellings.{told_of}
 use Rattle.bf_certify.proofs.Asking.{accepted, search_reads}
 use Rattle.bf_commands.specs.Certify.{IsCertifyFor}
 use Rattle.bf_output.specs.Output.{IsUsedFor, asks_file, given_to, reads, tests}
-use Rattle.bf_output.specs.Tested.{tested_by}
+use Rattle.bf_output.specs.Shown.{shown_by}
 use Rattle.bf_words.specs.declared.request.Request.{Request}
 use Rattle.bf_certify.proofs.command.answer.Goals as goal
 
@@ -23,7 +23,7 @@ certify_stream-requires-clause-plain g c = λ κs within. (accepted c.args.words
 
 pub returns-in-Ok-clause-tells : goal.returns-in-Ok-clause-tells
 returns-in-Ok-clause-tells g c =
-    let given = given_to c.args.words.now (g.F.Shelf.files c.args.shelf.now) (tested_by g.T.Tester c.certify_stream.new.tester) in
+    let given = given_to c.args.words.now (g.F.Shelf.files c.args.shelf.now) (shown_by g.T.Tester c.certify_stream.new.tester) in
     subst (λ (r : Result Request ℕ). IfOk c.certify_stream.result (λ a. IsCertifyFor r given (g.S.Source.left c.args.stream.now) (told_of a)))
     (sym c.in-Ok.ensures) c.certify_stream.ensures.tells
 
@@ -41,8 +41,8 @@ returns-in-Ok-clause-loads g c = λ e. ap asks_file c.in-Ok.ensures ∙ c.certif
 
 pub returns-in-Ok-clause-used : goal.returns-in-Ok-clause-used
 returns-in-Ok-clause-used g c =
-    let before = tested_by g.T.Tester c.args.tester.now in
-    let after = tested_by g.T.Tester c.certify_stream.new.tester in
+    let before = shown_by g.T.Tester c.args.tester.now in
+    let after = shown_by g.T.Tester c.certify_stream.new.tester in
     subst (λ (r : Result Request ℕ). IsUsedFor r c.args.words.now before after) (sym c.in-Ok.ensures) c.certify_stream.ensures.used
 
 pub returns-in-Ok-clause-unread : goal.returns-in-Ok-clause-unread

@@ -9,7 +9,7 @@ use Rattle.bf_journal_run.proofs.Concluding.{unopened_only, untouched_only}
 use Rattle.bf_journal_run.specs.Legs.{met_disk}
 use Rattle.bf_journal_run.proofs.Output.{remembering_none, said_no_disk, unasked, unasked_none, untested_concluded}
 use Rattle.bf_journal_run.proofs.Recalled.{recall_by}
-use Rattle.bf_output.specs.Tested.{tested_by}
+use Rattle.bf_output.specs.Shown.{shown_by}
 use Rattle.bf_journal_run.proofs.command.conclude.Goals as goal
 
 pub returns-in-Ok-Search-clause-told : goal.returns-in-Ok-Search-clause-told
@@ -71,7 +71,7 @@ returns-in-Ok-Told-clause-disk g c = λ e.
     absurd (said_no_disk (met_sink g.K.Sink c.args.out.now c.say_answer.new.out) c.say_answer.result (Ok c.in-Ok-Told.answer) sound c.say_answer.ensures.told e)
 
 pub returns-in-Ok-Told-clause-used : goal.returns-in-Ok-Told-clause-used
-returns-in-Ok-Told-clause-used g c = inl (ap (tested_by (recall_by g.T.Tester)) (sym (remembering_none c.args.tester.now c.requires.remembers)))
+returns-in-Ok-Told-clause-used g c = inl (ap (shown_by (recall_by g.T.Tester)) (sym (remembering_none c.args.tester.now c.requires.remembers)))
 
 pub returns-in-Ok-Told-clause-recalled : goal.returns-in-Ok-Told-clause-recalled
 returns-in-Ok-Told-clause-recalled g c =
@@ -98,7 +98,7 @@ returns-in-Err-clause-disk g c = λ e.
     c.say_answer-in-Err.ensures.told e)
 
 pub returns-in-Err-clause-used : goal.returns-in-Err-clause-used
-returns-in-Err-clause-used g c = inl (ap (tested_by (recall_by g.T.Tester)) (sym (remembering_none c.args.tester.now c.requires.remembers)))
+returns-in-Err-clause-used g c = inl (ap (shown_by (recall_by g.T.Tester)) (sym (remembering_none c.args.tester.now c.requires.remembers)))
 
 pub returns-in-Err-clause-recalled : goal.returns-in-Err-clause-recalled
 returns-in-Err-clause-recalled g c =

@@ -11,7 +11,7 @@ use Rattle.bf_journal_run.proofs.Asking.{run_asked}
 use Rattle.bf_journal_run.proofs.Output.{answered, reads_always, recalled, refused_any, remembering_none, tests_run, used_for, refused_used, refused_recalled, unasked_none}
 use Rattle.bf_journal_run.proofs.Recalled.{recall_by}
 use Rattle.bf_output.specs.Output.{asks_file}
-use Rattle.bf_output.specs.Tested.{tested_by}
+use Rattle.bf_output.specs.Shown.{shown_by}
 use Rattle.bf_words.specs.declared.request.Request.{Request}
 use Rattle.bf_journal_run.proofs.command.journal.Given.{Over}
 use Rattle.bf_journal_run.proofs.command.journal.Goals as goal
@@ -120,7 +120,7 @@ returns-in-Err-clause-disk g c = λ e. absurd (c.refuse_words.ensures.no_disk e)
 pub returns-in-Err-clause-used : goal.returns-in-Err-clause-used
 returns-in-Err-clause-used g c =
     refused_used (request_to_journal c.args.words.now) c.args.words.now _ _
-    (ap (tested_by (recall_by g.T.Tester)) (sym (remembering_none c.args.tester.now c.requires.remembers)))
+    (ap (shown_by (recall_by g.T.Tester)) (sym (remembering_none c.args.tester.now c.requires.remembers)))
 
 pub returns-in-Err-clause-recalled : goal.returns-in-Err-clause-recalled
 returns-in-Err-clause-recalled g c =

@@ -15,7 +15,7 @@ use Rattle.bf_journal_run.proofs.Keeping.{nothing_since, since_only, since_part}
 use Rattle.bf_journal_run.proofs.Lasting.{kept_leg, lasts_cut, leg_since}
 use Rattle.bf_journal_run.proofs.Leading.{err_as, err_other}
 use Rattle.bf_journal_run.proofs.Recalled.{recall_by}
-use Rattle.bf_output.specs.Tested.{tested_by}
+use Rattle.bf_output.specs.Shown.{shown_by}
 use Rattle.bf_runs.specs.Legs.{IsReady}
 use Rattle.bf_search.specs.declared.outcomes.Outcome.{Outcome}
 use Rattle.bf_searches.proofs.Going.{cause_since}
@@ -133,7 +133,7 @@ loop-preserved g c = record {
       let come = c.loop.invariant.come request opened first is in
       let (next, on) = rw c.in-On.is at (c.in_ok-answer.ensures.goes request opened first come.written come.is) in
       flushed_kept (λ (table : List (Option Outcome)). LeavesOn g.J.Disk c.args.disk.now c.go_on_kept.new.disk c.args.journal opened (IsToKeep table))
-      c.args.search request (tested_by (recall_by g.T.Tester) c.go_on_kept.new.tester) c.go_on_kept.new.tester.remembered opened
+      c.args.search request (shown_by (recall_by g.T.Tester) c.go_on_kept.new.tester) c.go_on_kept.new.tester.remembered opened
       c.go_on_kept.new.journal.kept first (g.K.Sink.held c.args.out.now) (g.K.Sink.held c.loop.out) (g.K.Sink.held c.write_and_flush.new.out) come.written
       c.in-On.next c.clear.new.self next come.gained (rw c.as_slice.ensures at c.in_ok-write_and_flush.ensures.whole) c.clear.ensures
       (leg_since g.J.Disk c.args.disk.now c.loop.disk c.go_on_kept.new.disk c.args.journal c.loop.journal opened c.loop.running.standing.table

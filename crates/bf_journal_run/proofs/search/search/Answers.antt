@@ -12,7 +12,7 @@ use Rattle.bf_journal_run.specs.Legs.{met_disk}
 use Rattle.bf_journal_run.proofs.Concluding.{another_refused, caused_no_write, fault_refused, images_of_run, kept_concluded, never_refused, of_another, of_failed, opened_at, run_refused, said_disk, said_own, said_test, said_write}
 use Rattle.bf_journal_run.proofs.Recalled.{recall_by}
 use Rattle.bf_oid.specs.declared.object.Oid.{Oid}
-use Rattle.bf_output.specs.Tested.{tested_by}
+use Rattle.bf_output.specs.Shown.{shown_by}
 use Rattle.bf_journal.specs.Recalling.{Recalling}
 use Rattle.bf_journal_run.proofs.search.search.Given.{Over}
 use Rattle.bf_journal_run.proofs.search.search.Goals as goal
@@ -31,7 +31,7 @@ run_in g c = identity_of c.args.started.history c.args.line.request.now c.args.l
 concluded_run : (g : Over) (c : goal.After-say_kept g)
     → IsConcluded (IsCausedTold true (met_tester (recall_by g.T.Tester) c.args.tester.now c.search_kept-answer.new.tester)
     (IsRunKept (met_disk g.J.Disk c.args.disk.now c.search_kept-answer.new.disk) (run_in g c) c.in-Ok.journal.kept c.args.line.request.now
-    (tested_by (recall_by g.T.Tester) c.search_kept-answer.new.tester) c.args.started.history (begun_of c.args.started.first)))
+    (shown_by (recall_by g.T.Tester) c.search_kept-answer.new.tester) c.args.started.history (begun_of c.args.started.first)))
     (g.K.Sink.held c.args.out.now) (g.K.Sink.held c.say_kept.new.out) c.say_kept.result
 concluded_run g c =
     let history = c.args.started.history in

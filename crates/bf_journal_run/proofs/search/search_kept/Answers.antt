@@ -14,12 +14,12 @@ use Rattle.bf_oid.specs.declared.object.Oid.{Oid}
 use Rattle.bf_journal.specs.Recalling.{Recalling, remembering}
 use Rattle.bf_journal.specs.Remembered.{AreNew}
 use Rattle.bf_tester.specs.declared.answer.Answer.{Answer as Answered}
-use Rattle.bf_output.specs.Tested.{tested_by}
+use Rattle.bf_output.specs.Shown.{shown_by}
 use Rattle.bf_journal_run.proofs.search.search_kept.Goals as goal
 
 pub returns-in_err-kept-clause-told : goal.returns-in_err-kept-clause-told
 returns-in_err-kept-clause-told g c =
-    let tested = tested_by (recall_by g.T.Tester) c.args.tester.now in
+    let tested = shown_by (recall_by g.T.Tester) c.args.tester.now in
     let disk = met_disk g.J.Disk c.args.disk.now c.args.disk.now in
     let journal = c.args.journal in
     err_as (IsEndedKept (AreLasting g.J.Disk c.args.disk.now c.args.disk.now journal c.args.started.history.names tested journal.kept) disk c.args.line.request.now tested
@@ -29,7 +29,7 @@ returns-in_err-kept-clause-told g c =
     (g.K.Sink.held c.args.out.now) g.met.J.Disk.only_now c.requires.fits.settled c.requires.fits.bytes)
 
 pub returns-in_err-kept-clause-used : goal.returns-in_err-kept-clause-used
-returns-in_err-kept-clause-used g c = inl (ap (tested_by (recall_by g.T.Tester)) (sym (remembering_none c.args.tester.now c.requires.remembers)))
+returns-in_err-kept-clause-used g c = inl (ap (shown_by (recall_by g.T.Tester)) (sym (remembering_none c.args.tester.now c.requires.remembers)))
 
 pub remember-requires-clause-new : goal.remember-requires-clause-new
 remember-requires-clause-new g c = λ κs within.
@@ -39,7 +39,7 @@ remember-requires-clause-new g c = λ κs within.
 
 pub returns-in_err-remember-clause-told : goal.returns-in_err-remember-clause-told
 returns-in_err-remember-clause-told g c =
-    let tested = tested_by (recall_by g.T.Tester) c.remember.new.self in
+    let tested = shown_by (recall_by g.T.Tester) c.remember.new.self in
     let disk = met_disk g.J.Disk c.args.disk.now c.args.disk.now in
     let journal = c.args.journal in
     err_as (IsEndedKept (AreLasting g.J.Disk c.args.disk.now c.args.disk.now journal c.args.started.history.names tested journal.kept) disk c.args.line.request.now tested
@@ -52,12 +52,12 @@ pub returns-in_err-remember-clause-used : goal.returns-in_err-remember-clause-us
 returns-in_err-remember-clause-used g c =
     let old = c.args.tester.now in
     let same = c.in_err-remember.ensures.err in
-    inl (ap (tested_by (recall_by g.T.Tester))
+    inl (ap (shown_by (recall_by g.T.Tester))
     (same ∙ sym (ap (λ (r : List Answered). remembering old r) (ap (λ (t : Recalling _). t.remembered) same) ∙ remembering_none old c.requires.remembers)))
 
 pub returns-in_err-prepare-clause-told : goal.returns-in_err-prepare-clause-told
 returns-in_err-prepare-clause-told g c =
-    let tested = tested_by (recall_by g.T.Tester) c.prepare.new.self in
+    let tested = shown_by (recall_by g.T.Tester) c.prepare.new.self in
     let disk = met_disk g.J.Disk c.args.disk.now c.args.disk.now in
     let journal = c.args.journal in
     err_as (IsEndedKept (AreLasting g.J.Disk c.args.disk.now c.args.disk.now journal c.args.started.history.names tested journal.kept) disk c.args.line.request.now tested
@@ -106,7 +106,7 @@ pub returns-clause-used : goal.returns-clause-used
 returns-clause-used g c =
     let ok = c.in_ok-remember.ensures.ok in
     let manner = c.run_kept.ensures.manner in
-    used_by c.args.line.request.now c.args.line.words.now _ _ (tested_by (recall_by g.T.Tester) c.prepare.new.self) _
+    used_by c.args.line.request.now c.args.line.words.now _ _ (shown_by (recall_by g.T.Tester) c.prepare.new.self) _
     (before_prepared g.T.Tester c.args.tester.now c.remember.new.self c.run_kept.new.tester c.as_slice.result.now c.requires.remembers ok
     (ap (λ (m : Manner). m.recalled) manner ∙ c.prepare.ensures.recalled))
     (c.in_ok-prepare.ensures.command ∙ c.command_of.ensures) c.in_ok-prepare.ensures.read c.in_ok-prepare.ensures.told

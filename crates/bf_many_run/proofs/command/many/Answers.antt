@@ -1,5 +1,5 @@
 use Rattle.std.proofs.Common.{[], false, None, refl}
-use Rattle.bf_output.specs.Tested.{Tested}
+use Rattle.bf_output.specs.Shown.{TesterShown}
 use Rattle.bf_answers.specs.Devices.{Met, met_shelf, met_sink, met_source, met_untested}
 use Rattle.bf_answers.proofs.Answering.{read_cause, shelf_cause}
 use Rattle.bf_answers.proofs.Complete.{complete}
@@ -9,13 +9,13 @@ use Rattle.bf_many_run.proofs.command.many.Given.{Over}
 use Rattle.bf_many_run.proofs.command.many.Goals as goal
 
 -- what the call met, where a tester shows this
-abbrev met_in : (g : Over) → goal.After-say_answer g → Tested → Met
+abbrev met_in : (g : Over) → goal.After-say_answer g → TesterShown → Met
 met_in g c tested =
     met_untested c.args.words.now (met_source g.S.Source c.args.stream.now c.answer-answer.new.stream)
     (met_shelf g.F.Shelf c.args.shelf.now c.answer-answer.new.shelf) tested (met_sink g.K.Sink c.args.out.now c.say_answer.new.out)
 
 -- some tester
-abbrev nothing_tested : Tested
+abbrev nothing_tested : TesterShown
 nothing_tested = record { plan = None; command = []; is_lenient = false; answers = []; faults = 0; failed = None; is_split = false }
 
 pub returns-clause-answers : goal.returns-clause-answers
