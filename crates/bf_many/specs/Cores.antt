@@ -3,15 +3,15 @@ use Rattle.std.specs.Prelude.{◌≡◌, ℕ, ◌≤◌, Bool, true, false, List
 use Rattle.std.specs.List.{AllZip, slice_get}
 use Rattle.std.specs.Option.{is_some, option_map_or}
 use Rattle.bf_search.specs.declared.farm.Event.{Event}
-use Rattle.bf_search.specs.declared.farm.Event.TheVariants.{Claim, Post, Give}
-use Rattle.bf_search.specs.Farm.{stands, step}
+use Rattle.bf_search.specs.declared.farm.Event.TheVariants.{Claim}
+use Rattle.bf_search.specs.Farm.{stands}
 use Rattle.bf_state.specs.Ends.{HasEnds}
-use Rattle.bf_core.specs.Machine.{Machine, IsConsumed, IsStep, IsSameButNodes, AreWithdrawn, KeepsGuesses, LeavesRefused, StaysBeside, setting_of, farm_of}
+use Rattle.bf_core.specs.Machine.{Machine, IsConsumed, IsStep, IsSameButNodes, AreWithdrawn, KeepsGuesses, StaysBeside, setting_of, farm_of}
 use Rattle.bf_many.specs.declared.answers.ManyEvent.{ManyEvent}
 use Rattle.bf_many.specs.declared.answers.ManyPick.{ManyPick}
 use Rattle.bf_many.specs.declared.answers.ManyPick.TheVariants.{Work, NotYet, Ended}
 use Rattle.bf_many.specs.declared.search.Search.{Search}
-use Rattle.bf_many.specs.Many.{FarmMachine, IsIllegal, IsManyStep, has_place, is_busy}
+use Rattle.bf_many.specs.Many.{FarmMachine, IsManyStep, has_place}
 
 -- the farm machine of a core
 abbrev pub machine_of : Machine → FarmMachine
@@ -67,10 +67,10 @@ StaysBesideAt old k p new = ChangesOne (λ before after. StaysBeside before p af
 abbrev pub KeepsGuessesAt : List Machine → ℕ → List Machine → Type 0
 KeepsGuessesAt old k new = ChangesOne KeepsGuesses old k new
 
--- where it is done a core did this event, which was legal; otherwise it is not legal, and leaves what a refused one does
+-- where it is done a core did this event, which was legal; otherwise nothing but nodes has changed
 abbrev pub DoesIf : Machine → Event → Machine → Bool → Type 0
 DoesIf old event new true = IsStep old event new
-DoesIf old event new false = (step (setting_of old) (farm_of old) event ≡ None) × LeavesRefused old event new
+DoesIf old event new false = IsSameButNodes old new
 
 -- whether this claim stands in a search
 abbrev pub is_claimed : List Machine → ℕ → ℕ → ℕ → Bool
@@ -102,19 +102,7 @@ Picks old worker new Ended = AreSameButNodes old new
 abbrev pub AreWithdrawnIn : List Machine → ℕ → List ℕ → Type 0
 AreWithdrawnIn cores k workers = (core : Machine) → slice_get cores k ≡ Some core → AreWithdrawn core workers
 
--- What a refused claim leaves: nothing but nodes has changed, and none is lost. That of a worker who has a claim has
--- changed nothing.
-pub record LeaveClaim (old : List Machine) (worker : ℕ) (new : List Machine) : Type 0 where
-  pub nodes : AreSameButNodes old new
-  pub at_once : is_busy (machines_of old) worker ≡ true → new ≡ old
-
--- what a refused event leaves: a post and a giving back change nothing
-abbrev pub LeaveRefused : List Machine → Event → List Machine → Type 0
-LeaveRefused old (Claim worker p) new = LeaveClaim old worker new
-LeaveRefused old (Post worker p outcome) new = new ≡ old
-LeaveRefused old (Give worker p) new = new ≡ old
-
--- where it is done the event was legal; otherwise it is not legal, and leaves what a refused one does
+-- where it is done the event was legal; otherwise nothing but nodes has changed
 abbrev pub StepsIf : List Machine → ManyEvent → List Machine → Bool → Type 0
 StepsIf old e new true = IsManyStep (machines_of old) e (machines_of new)
-StepsIf old e new false = IsIllegal (machines_of old) e × LeaveRefused old e.event new
+StepsIf old e new false = AreSameButNodes old new

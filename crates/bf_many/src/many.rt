@@ -136,9 +136,8 @@ impl<'r> ManyCore<'r> {
         self.cores[search as usize].give(worker, place);
     }
 
-    /// Does an event where it is legal, and answers whether it is. Otherwise all is as before; a claim of a
-    /// worker without one may have added nodes. After want of memory all but nodes is as before. No node is
-    /// lost.
+    /// Does an event where it is legal, and answers whether it is. Otherwise, and after want of memory,
+    /// all is as before, and no node is lost.
     pub(crate) fn apply(&mut self, e: ManyEvent) -> Result<bool, AllocError>
         ensures done { IfOk result (StepsIf self.old e self.new) }
         ensures err { OnErr result (AreSameButNodes self.old self.new) }
