@@ -2,12 +2,12 @@
 //! and `check`, which says whether a file is a certificate that holds.
 #![tactic(auto)]
 
-mod check;
+mod checking;
 mod command;
 mod ended;
 pub mod laws;
 mod search;
 mod words;
 
-pub use check::check;
+pub use checking::check;
 pub use command::certify;

@@ -1,6 +1,6 @@
 use Rattle.bf_commands.specs.Check.{IsChecked}
 use Rattle.bf_answers.proofs.Streamed.{refused, streamed}
-use Rattle.bf_certify.proofs.check.check_stream.Goals as goal
+use Rattle.bf_certify.proofs.checking.check_stream.Goals as goal
 
 pub returns-in-Ok-clause-tells : goal.returns-in-Ok-clause-tells
 returns-in-Ok-clause-tells g c =
