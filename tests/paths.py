@@ -12,6 +12,8 @@ them again, and the numbers of commits that it tells as left are those behind ma
 of git bisect run. What differs is told with its reason, which is looked for in this order:
 
 bad end: no commit that changes the paths is bad. git has no answer then, and git farmdawn names the bad end and says so.
+bad end, too: only skipped commits are left of those that change the paths. git lists them alone, and git farmdawn lists them with
+the bad end, of which it says that it changes none of the paths: the first bad commit may be one that git's list has not.
 anew: git simplifies merges again from the marks that it has, and so tested a commit that its first list had not.
 unlisted: git is at the commit that git farmdawn names, a merge, and ends without an answer, as it takes that for one that changes
 none of the paths. It looks at parents that no good commit reaches, and at those that are good ends; which a good commit reaches it
@@ -38,6 +40,7 @@ from repositories import CALM, Question, call, git, put_file, random_parents, ra
 
 NAMES = ["a", "in/b", "in/deep/c d", "in/ümläut", "-x", "*", "in/[a]", ":(top)q", "it's \"so\"", "back\\slash"]
 UNCHANGED = "changes none of them; the same line without --path"
+LEFT = "changes none of these paths; the same line without --path"
 
 
 def quoted(path):
@@ -122,6 +125,8 @@ def faults(folder, question, paths, tool):
         yield "it tested a commit that changes none of the paths"
     if (UNCHANGED in tool.told) != (tool.answer == question.bad and question.bad not in first):
         yield "it told of the bad end where it must not, or the other way round"
+    if (LEFT in tool.told) != (isinstance(tool.answer, frozenset) and question.bad in tool.answer.difference(first)):
+        yield "it told of the bad end among skipped ones where it must not, or the other way round"
     if isinstance(tool.answer, str) and tool.answer != question.bad and not is_right(folder, question, paths, tool):
         yield "its answer does not follow from its log"
 
@@ -181,6 +186,8 @@ def against_git(folder, question, paths, tool, theirs, changes):
         return "same answer" if tool.answer else "no answer in both"
     if UNCHANGED in tool.told and theirs.answer is None:
         return "bad end"
+    if LEFT in tool.told and tool.answer.difference([question.bad]) == theirs.answer and sorted(tool.marks) == sorted(theirs.marks):
+        return "bad end, too"
     if not {name for _, name in theirs.marks} <= set(first):
         return "anew"
     if lists_none(question, tool, theirs) and is_right(folder, question, paths, tool):
@@ -209,6 +216,9 @@ def replayed(folder, text, question):
     found = git(folder, "rev-parse", f"refs/bisect/{question.terms[0]}")
     call(folder, "git", "bisect", "reset")
     return found
+
+
+EXPLAINED = ("same answer", "no answer in both", "refused", "bad end", "bad end, too", "unlisted", "both right")
 
 
 def try_one(number, arguments):
@@ -248,7 +258,7 @@ def main():
         numbers = range(arguments.first, arguments.first + arguments.count)
         for number, question, paths, tool, theirs, wrong, beside in pool.map(lambda n: try_one(n, arguments), numbers):
             counts[beside] += 1
-            if wrong or beside not in ("same answer", "no answer in both", "refused", "bad end", "unlisted", "both right"):
+            if wrong or beside not in EXPLAINED:
                 print(f"{number}: {beside} {wrong}: {question} {paths}\n  git farmdawn {tool}\n  git bisect run {theirs}", flush=True)
             failures += bool(wrong) or beside == "DIFFERENT"
     print(", ".join(f"{key}: {count}" for key, count in sorted(counts.items())))
