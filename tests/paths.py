@@ -25,22 +25,19 @@ which git farmdawn counts a bad end that changes none of the paths.
 
 Where the verdicts are bad from one commit on, and that one changes the paths, no difference is right but anew and unlisted.
 """
-import argparse
 import collections
 import os
 import random
 import re
-import shutil
 import subprocess
-import sys
-import tempfile
-from concurrent.futures import ThreadPoolExecutor
 
+import trials
 from repositories import CALM, Question, call, git, put_file, random_parents, random_question, read_answer, read_log, verdicts
 
 NAMES = ["a", "in/b", "in/deep/c d", "in/ümläut", "-x", "*", "in/[a]", ":(top)q", "it's \"so\"", "back\\slash"]
 UNCHANGED = "changes none of them; the same line without --path"
 LEFT = "changes none of these paths; the same line without --path"
+EXPLAINED = ("same answer", "no answer in both", "refused", "bad end", "bad end, too", "unlisted", "both right")
 
 
 def quoted(path):
@@ -218,52 +215,39 @@ def replayed(folder, text, question):
     return found
 
 
-EXPLAINED = ("same answer", "no answer in both", "refused", "bad end", "bad end, too", "unlisted", "both right")
-
-
-def try_one(number, arguments):
-    choice = random.Random(f"paths {arguments.seed} {number}")
-    work = tempfile.mkdtemp()
+def try_one(number, work, seed):
+    choice = random.Random(f"paths {seed} {number}")
     folder = os.path.join(work, "repository")
-    try:
-        names, statuses, plain, paths, parents = make_repository(choice, folder)
-        question = random_question(choice, names, plain, "verdict")._replace(skips=[])
-        question = question._replace(plain=plain)
-        known = [path for path in paths if git(folder, "rev-list", "-1", "--full-history", question.bad, *question.goods, "--", f":(literal){path}")]
-        inside = choice.choice(["in", ".", "."])
-        tool, text = by_tool(folder, question, paths, inside)
-        if known != paths:
-            wrong = [] if (tool.status, text) == (1, "") and "no commit has this path" in tool.told else ["a path that no commit has is not told"]
-            return number, question, paths, tool, None, wrong, "refused"
-        theirs = by_git(folder, question, paths)
-        wrong = [*faults(folder, question, paths, tool), *go_on(folder, question, tool, inside, names, parents)]
-        culprits = [name for name, status in zip(names, statuses) if status and not any(
-            statuses[names.index(parent)] for parent in git(folder, "rev-list", "--parents", "-n", "1", name)[1:])]
-        changes = plain and all(name in listed(folder, question, paths, question.bad, question.goods) for name in culprits)
-        beside = against_git(folder, question, paths, tool, theirs, changes)
-        if tool.status in (0, 2) and beside not in ("bad end", "unlisted") and replayed(folder, text, question) != last_bad(question, tool):
-            wrong.append("git comes to another commit by the log")
-        return number, question, paths, tool, theirs, wrong, beside
-    finally:
-        shutil.rmtree(work, ignore_errors=True)
+    names, statuses, plain, paths, parents = make_repository(choice, folder)
+    question = random_question(choice, names, plain, "verdict")._replace(skips=[])
+    question = question._replace(plain=plain)
+    known = [path for path in paths if git(folder, "rev-list", "-1", "--full-history", question.bad, *question.goods, "--", f":(literal){path}")]
+    inside = choice.choice(["in", ".", "."])
+    tool, text = by_tool(folder, question, paths, inside)
+    if known != paths:
+        wrong = [] if (tool.status, text) == (1, "") and "no commit has this path" in tool.told else ["a path that no commit has is not told"]
+        return question, paths, tool, None, wrong, "refused"
+    theirs = by_git(folder, question, paths)
+    wrong = [*faults(folder, question, paths, tool), *go_on(folder, question, tool, inside, names, parents)]
+    culprits = [name for name, status in zip(names, statuses) if status and not any(
+        statuses[names.index(parent)] for parent in git(folder, "rev-list", "--parents", "-n", "1", name)[1:])]
+    changes = plain and all(name in listed(folder, question, paths, question.bad, question.goods) for name in culprits)
+    beside = against_git(folder, question, paths, tool, theirs, changes)
+    if tool.status in (0, 2) and beside not in ("bad end", "unlisted") and replayed(folder, text, question) != last_bad(question, tool):
+        wrong.append("git comes to another commit by the log")
+    return question, paths, tool, theirs, wrong, beside
 
 
 def main():
-    parser = argparse.ArgumentParser(usage=__doc__)
-    for option, default in (("--seed", 1), ("--count", 50), ("--from", 0), ("--jobs", 1)):
-        parser.add_argument(option, type=int, default=default, dest=option.strip("-").replace("from", "first"))
-    arguments = parser.parse_args()
+    arguments = trials.read_arguments(__doc__, 50, jobs=1)
     counts, failures = collections.Counter(), 0
-    with ThreadPoolExecutor(arguments.jobs) as pool:
-        numbers = range(arguments.first, arguments.first + arguments.count)
-        for number, question, paths, tool, theirs, wrong, beside in pool.map(lambda n: try_one(n, arguments), numbers):
-            counts[beside] += 1
-            if wrong or beside not in EXPLAINED:
-                print(f"{number}: {beside} {wrong}: {question} {paths}\n  git farmdawn {tool}\n  git bisect run {theirs}", flush=True)
-            failures += bool(wrong) or beside == "DIFFERENT"
-    print(", ".join(f"{key}: {count}" for key, count in sorted(counts.items())))
-    print(f"{arguments.count} repositories: {arguments.count - failures} right, {failures} wrong")
-    sys.exit(1 if failures else 0)
+    for number, (question, paths, tool, theirs, wrong, beside) in trials.try_all(arguments, lambda number, work: try_one(number, work, arguments.seed)):
+        counts[beside] += 1
+        if wrong or beside not in EXPLAINED:
+            print(f"{number}: {beside} {wrong}: {question} {paths}\n  git farmdawn {tool}\n  git bisect run {theirs}", flush=True)
+        failures += bool(wrong) or beside == "DIFFERENT"
+    print(trials.counted(counts))
+    trials.end(arguments, "repositories", failures)
 
 
 if __name__ == "__main__":
