@@ -9,7 +9,8 @@ its first test. All start alike, so that what one test more costs is the differe
 of their numbers of tests. Where a control group can be made, as by root, the times count from the moment at which the first
 test begins: over many commits the start takes so long that its own differences would hide the rest. What `git checkout` and
 `git clean` cost, as a test runs them, is taken off, and so is what the program costs, which weighs all commits that are left
-for each question: once for the tests, and once for the log.
+for each question: once for the tests, and once for the log. It is run alone by tests that wait a fifth of a second, as it looks
+further ahead where tests take their time.
 
 With --lengths, searches by tests that wait so long are timed by the clock instead, beside `git bisect run`: which says from
 which length of a test on several workers are faster, and means something on a quiet machine alone.
@@ -164,9 +165,14 @@ class Searches:
         return min(costs, key=lambda cost: cost.late)
 
     def program(self, workers, command, due=(0,)):
-        """Seconds of the program alone, over the same commits."""
-        return min(spent_by([self.environment["FARMDAWN"], "run", "--workers", str(workers), "main", f"main~{self.commits - 1}",
-                             "--", *command], self.folder, due=due, given=self.stream) for _ in range(self.runs))
+        """The cost of the program alone, over the same commits, of the cheapest of some runs."""
+        costs, lines = [], os.path.join(self.folder, "..", "lines")
+        for _ in range(self.runs):
+            open(lines, "w").close()
+            spent = spent_by([self.environment["FARMDAWN"], "run", "--workers", str(workers), "main", f"main~{self.commits - 1}",
+                              "--", "sh", "-c", f'echo >>"$0"; {command}', lines], self.folder, due=due, given=self.stream)
+            costs.append(Cost(spent, spent, os.path.getsize(lines)))
+        return min(costs, key=lambda cost: cost.processor / cost.tests)
 
     def bisect(self, command):
         """Seconds of `git bisect run`, which tests one commit after the other."""
@@ -180,12 +186,14 @@ def measure(searches, workers, checkout):
     """Tells what one test more costs than a search of one test, and the whole search."""
     start = searches.search(1, STOPPING, due=(6,))
     print(f"  git bisect run true: {searches.bisect(['true']):.2f} s; a search of one test {start.processor:.2f} s", flush=True)
-    begun = searches.program(1, STOPPING, due=(6,))
-    follower = searches.program(1, ["true"]) - begun
+    shell = spent_each(["sh", "-c", "exec sleep 0"], searches.folder)
+    begun = searches.program(1, "exit 255", due=(6,))
+    follower = 1000 * (searches.program(1, "exit 0").processor - begun.processor)
     for count in workers:
         whole = searches.search(count, ["true"])
         more = whole.tests - start.tests
-        program = 1000 * (searches.program(count, ["true"]) - begun + follower) / more
+        alone = searches.program(count, "exec sleep 0.2")
+        program = 1000 * (alone.processor - begun.processor) / (alone.tests - 1) - shell + follower / more
         own = 1000 * (whole.late - start.late) / more - checkout - program
         print(f"  {count} workers: {own:.0f} ms, and the program {program:.0f} ms; {whole.processor:.2f} s ({whole.tests})", flush=True)
 
