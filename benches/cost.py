@@ -6,8 +6,11 @@ Usage: benches/cost.py [--commits N,..] [--workers N,..] [--runs N] [--lengths S
 Makes lines of so many commits with one file each in a temporary folder, and searches them with a test of nothing, `true`:
 so each test is good, and nearly all that is measured is the search's own. Another search over the same commits is stopped by
 its first test. All start alike, so that what one test more costs is the difference of their processor times, divided by that
-of their numbers of tests. What `git checkout` and `git clean` cost, as a test runs them, is taken off, and so is what
-the program costs, which weighs all commits that are left for each question: once for the tests, and once for the log.
+of their numbers of tests. Where a control group can be made, as by root, the times count from the moment at which the first
+test begins: over many commits the start takes so long that its own differences would hide the rest. What `git checkout` and
+`git clean` cost, as a test runs them, is taken off, and so is what the program costs, which weighs all commits that are left
+for each question: once for the tests, and once for the log. It is run alone by tests that wait a fifth of a second, as it looks
+further ahead where tests take their time.
 
 With --lengths, searches by tests that wait so long are timed by the clock instead, beside `git bisect run`: which says from
 which length of a test on several workers are faster, and means something on a quiet machine alone.
@@ -17,7 +20,9 @@ machine adds to them, since processors that share a core slow each other: so the
 stand above the table. The program is FARMDAWN or the one that a proved build left, the scripts are those of this checkout.
 """
 import argparse
+import atexit
 import ctypes
+import glob
 import os
 import resource
 import shutil
@@ -37,6 +42,7 @@ STOPPING = ["sh", "-c", "exit 255"]
 @dataclass
 class Cost:
     processor: float    # seconds, of all processes
+    late: float         # those from the first test on, where that is known
     tests: int          # how many were begun
 
 
@@ -49,12 +55,54 @@ def used():
     return usage.ru_utime + usage.ru_stime
 
 
-def spent_by(command, folder, environment=None, due=(0,), given=os.devnull):
-    """Seconds of processors that a command took, with all that it started: what outlived it is waited for here."""
+class Group:
+    """A control group of the kernel, which counts the time of all processes that were begun in it."""
+
+    def __init__(self):
+        self.folder = None
+        for above, self.counter in (("/sys/fs/cgroup/cpuacct", "cpuacct.usage"), ("/sys/fs/cgroup", "cpu.stat")):
+            folder = os.path.join(above, f"farmdawn-cost-{os.getpid()}")
+            try:
+                os.mkdir(folder)
+            except OSError:
+                continue
+            if os.path.exists(os.path.join(folder, self.counter)):
+                self.folder = folder
+                return
+            os.rmdir(folder)
+
+    def enter(self):
+        """Takes the process that calls it."""
+        if self.folder:
+            with open(os.path.join(self.folder, "cgroup.procs"), "w") as procs:
+                procs.write(str(os.getpid()))
+
+    def used(self):
+        """Seconds so far."""
+        with open(os.path.join(self.folder, self.counter)) as counter:
+            text = counter.read().split()
+        return int(text[0]) / 1e9 if len(text) == 1 else int(text[text.index("usage_usec") + 1]) / 1e6
+
+    def used_once(self, done, is_so):
+        """Seconds at the moment at which something is so, or at which the process that is done ends."""
+        while done.poll() is None and not is_so():
+            time.sleep(0.002)
+        return self.used()
+
+    def remove(self):
+        if self.folder:
+            os.rmdir(self.folder)
+
+
+def spent_by(command, folder, environment=None, due=(0,), given=os.devnull, group=None, is_late=None):
+    """Seconds of processors that a command took, with all that it started: what outlived it is waited for here. With a group,
+    they count from the moment on at which it is late."""
     before = used()
     with open(given, "rb") as text:
-        done = subprocess.run(command, cwd=folder, env=environment, stdin=text, stdout=subprocess.DEVNULL,
-                              stderr=subprocess.DEVNULL)
+        done = subprocess.Popen(command, cwd=folder, env=environment, stdin=text, stdout=subprocess.DEVNULL,
+                                stderr=subprocess.DEVNULL, preexec_fn=group.enter if group else None)
+    begun = group.used_once(done, is_late) if group else 0
+    done.wait()
     while True:
         try:
             os.wait()
@@ -62,7 +110,7 @@ def spent_by(command, folder, environment=None, due=(0,), given=os.devnull):
             break
     if done.returncode not in due:
         sys.exit(f"{' '.join(command)}: ended with status {done.returncode}")
-    return used() - before
+    return (used() - before, group.used() - begun) if group else used() - before
 
 
 def spent_each(command, folder, times=40):
@@ -94,8 +142,13 @@ def git_cost(folder):
 class Searches:
     """Searches of one repository, whose stream is in a file."""
 
-    def __init__(self, folder, stream, commits, environment, runs):
+    def __init__(self, folder, stream, commits, environment, runs, group):
         self.folder, self.stream, self.commits, self.environment, self.runs = folder, stream, commits, environment, runs
+        self.group = group if group.folder else None
+
+    def has_begun(self):
+        """Whether a test of the search that runs has begun."""
+        return any(os.path.getsize(times) for times in glob.glob(os.path.join(self.folder, ".git", "farmdawn", "run.*", "times")))
 
     def search(self, workers, command, due=(0,)):
         """The cost of the cheapest of some searches."""
@@ -103,16 +156,23 @@ class Searches:
         for _ in range(self.runs):
             logs = os.path.join(self.folder, "..", "logs")
             shutil.rmtree(logs, ignore_errors=True)
-            processor = spent_by(["git-farmdawn", "--fresh", "--workers", str(workers), "--log-dir", logs, "main",
-                                  f"main~{self.commits - 1}", "--", *command], self.folder, self.environment, due)
+            spent = spent_by(["git-farmdawn", "--fresh", "--workers", str(workers), "--log-dir", logs, "main",
+                              f"main~{self.commits - 1}", "--", *command], self.folder, self.environment, due,
+                             group=self.group, is_late=self.has_begun)
+            processor, late = spent if self.group else (spent, spent)
             # each test has an output of its own
-            costs.append(Cost(processor, len(os.listdir(logs))))
-        return min(costs, key=lambda cost: cost.processor)
+            costs.append(Cost(processor, late, len(os.listdir(logs))))
+        return min(costs, key=lambda cost: cost.late)
 
     def program(self, workers, command, due=(0,)):
-        """Seconds of the program alone, over the same commits."""
-        return min(spent_by([self.environment["FARMDAWN"], "run", "--workers", str(workers), "main", f"main~{self.commits - 1}",
-                             "--", *command], self.folder, due=due, given=self.stream) for _ in range(self.runs))
+        """The cost of the program alone, over the same commits, of the cheapest of some runs."""
+        costs, lines = [], os.path.join(self.folder, "..", "lines")
+        for _ in range(self.runs):
+            open(lines, "w").close()
+            spent = spent_by([self.environment["FARMDAWN"], "run", "--workers", str(workers), "main", f"main~{self.commits - 1}",
+                              "--", "sh", "-c", f'echo >>"$0"; {command}', lines], self.folder, due=due, given=self.stream)
+            costs.append(Cost(spent, spent, os.path.getsize(lines)))
+        return min(costs, key=lambda cost: cost.processor / cost.tests)
 
     def bisect(self, command):
         """Seconds of `git bisect run`, which tests one commit after the other."""
@@ -126,13 +186,15 @@ def measure(searches, workers, checkout):
     """Tells what one test more costs than a search of one test, and the whole search."""
     start = searches.search(1, STOPPING, due=(6,))
     print(f"  git bisect run true: {searches.bisect(['true']):.2f} s; a search of one test {start.processor:.2f} s", flush=True)
-    begun = searches.program(1, STOPPING, due=(6,))
-    follower = searches.program(1, ["true"]) - begun
+    shell = spent_each(["sh", "-c", "exec sleep 0"], searches.folder)
+    begun = searches.program(1, "exit 255", due=(6,))
+    follower = 1000 * (searches.program(1, "exit 0").processor - begun.processor)
     for count in workers:
         whole = searches.search(count, ["true"])
         more = whole.tests - start.tests
-        program = 1000 * (searches.program(count, ["true"]) - begun + follower) / more
-        own = 1000 * (whole.processor - start.processor) / more - checkout - program
+        alone = searches.program(count, "exec sleep 0.2")
+        program = 1000 * (alone.processor - begun.processor) / (alone.tests - 1) - shell + follower / more
+        own = 1000 * (whole.late - start.late) / more - checkout - program
         print(f"  {count} workers: {own:.0f} ms, and the program {program:.0f} ms; {whole.processor:.2f} s ({whole.tests})", flush=True)
 
 
@@ -167,6 +229,8 @@ def main():
     ctypes.CDLL(None).prctl(PR_SET_CHILD_SUBREAPER, 1, 0, 0, 0)
     environment = {**repository.CALM, "FARMDAWN": os.path.abspath(words.program),
                    "PATH": os.path.abspath(words.tools) + os.pathsep + os.environ["PATH"]}
+    group = Group()
+    atexit.register(group.remove)
     with tempfile.TemporaryDirectory() as work:
         if not words.lengths:
             print("own cost of a test beside git's checkout, of processors; the whole search (and its tests)", flush=True)
@@ -176,12 +240,12 @@ def main():
             repository.filled(folder, stream)
             if words.lengths:
                 print(f"{commits} commits, by the clock", flush=True)
-                compare(Searches(folder, stream, commits, environment, 1), words.workers, words.lengths)
+                compare(Searches(folder, stream, commits, environment, 1, group), words.workers, words.lengths)
                 continue
             checkout = git_cost(folder)
             print(f"{commits} commits: sh -c true {spent_each(['sh', '-c', 'true'], folder):.1f} ms, "
                   f"git rev-parse HEAD {spent_each(['git', 'rev-parse', 'HEAD'], folder):.1f} ms, checkout by git {checkout:.1f} ms")
-            measure(Searches(folder, stream, commits, environment, words.runs), words.workers, checkout)
+            measure(Searches(folder, stream, commits, environment, words.runs, group), words.workers, checkout)
 
 
 if __name__ == "__main__":

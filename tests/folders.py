@@ -12,15 +12,14 @@ must be that of `farmdawn run` with a command that asks git.
 
 The program is the one that FARMDAWN names, or the one that was built. The same seed and number make the same repository.
 """
-import argparse
 import os
 import random
-import shutil
 import signal
 import subprocess
 import sys
-import tempfile
 import time
+
+import trials
 
 TOP = os.path.dirname(os.path.dirname(os.path.abspath(__file__)))
 FARMDAWN = os.environ.get("FARMDAWN", os.path.join(TOP, "crates/farmdawn/out/farmdawn"))
@@ -153,52 +152,43 @@ def killed(choice, work, stream, words):
     return was_running
 
 
-def try_one(number, arguments):
+def try_one(number, work, seed):
     """What is wrong with the searches of a repository, and the numbers of folders and of runs that were killed."""
-    choice = random.Random(f"{arguments.seed} {number}")
-    work = tempfile.mkdtemp()
-    try:
-        first, repository, stream, log = (os.path.join(work, name) for name in ("first", "repository", "stream", "log"))
-        count = make_repository(choice, first)
-        exported = git(first, "fast-export", "--all")
-        # git 2.39 exports a file that becomes a folder so that the folder is removed with it: what git reads back is what counts.
-        made_of(repository, exported)
-        with open(stream, "wb") as out:
-            out.write(exported)
-        ends = ["main", f"main~{count - 1}"]
-        asks = ["run", *ends, "--", "sh", "-c", f'exit $(git -C "{repository}" show $1:verdict)', "x"]
-        due = started(work, stream, asks).communicate()[0]
-        compared = os.path.join(work, "compared.py")  # by another name: a word that is no UTF-8 is refused
-        os.symlink(os.path.abspath(__file__), compared)
-        test = ["--", sys.executable, compared, "--compare", repository, log]
-        wrong, kills = [], 0
-        for workers in ("1", "4", "4"):
-            words = ["checkout", "run", "--workers", workers, *ends, *test]
-            text = started(work, stream, words).communicate()[0]
-            wrong += [f"{workers} workers print something else"] if text != due else []
-            kills += killed(choice, work, stream, words)
-        lines = open(log).read().split("\n")[:-1]
-        wrong += [line for line in lines if not line.startswith("same ")]
-        return wrong, len(lines), kills
-    finally:
-        shutil.rmtree(work, ignore_errors=True)
+    choice = random.Random(f"{seed} {number}")
+    first, repository, stream, log = (os.path.join(work, name) for name in ("first", "repository", "stream", "log"))
+    count = make_repository(choice, first)
+    exported = git(first, "fast-export", "--all")
+    # git 2.39 exports a file that becomes a folder so that the folder is removed with it: what git reads back is what counts.
+    made_of(repository, exported)
+    with open(stream, "wb") as out:
+        out.write(exported)
+    ends = ["main", f"main~{count - 1}"]
+    asks = ["run", *ends, "--", "sh", "-c", f'exit $(git -C "{repository}" show $1:verdict)', "x"]
+    due = started(work, stream, asks).communicate()[0]
+    compared = os.path.join(work, "compared.py")  # by another name: a word that is no UTF-8 is refused
+    os.symlink(os.path.abspath(__file__), compared)
+    test = ["--", sys.executable, compared, "--compare", repository, log]
+    wrong, kills = [], 0
+    for workers in ("1", "4", "4"):
+        words = ["checkout", "run", "--workers", workers, *ends, *test]
+        text = started(work, stream, words).communicate()[0]
+        wrong += [f"{workers} workers print something else"] if text != due else []
+        kills += killed(choice, work, stream, words)
+    lines = open(log).read().split("\n")[:-1]
+    wrong += [line for line in lines if not line.startswith("same ")]
+    return wrong, len(lines), kills
 
 
 def main():
     if sys.argv[1:2] == ["--compare"]:
         compare(*sys.argv[2:])
-    parser = argparse.ArgumentParser(usage=__doc__)
-    for option, default in (("--seed", 1), ("--count", 50), ("--from", 0)):
-        parser.add_argument(option, type=int, default=default, dest=option.strip("-").replace("from", "first"))
-    arguments = parser.parse_args()
-    right, folders, kills = 0, 0, 0
-    for number in range(arguments.first, arguments.first + arguments.count):
-        wrong, compared, killed_here = try_one(number, arguments)
-        right, folders, kills = right + (not wrong), folders + compared, kills + killed_here
-        for line in wrong:
+    arguments = trials.read_arguments(__doc__, 50)
+    wrong, folders, kills = 0, 0, 0
+    for number, (faults, compared, killed_here) in trials.try_all(arguments, lambda number, work: try_one(number, work, arguments.seed)):
+        wrong, folders, kills = wrong + bool(faults), folders + compared, kills + killed_here
+        for line in faults:
             print(f"{number}: {line}", flush=True)
-    print(f"{arguments.count} repositories: {right} right, {arguments.count - right} wrong; {folders} folders compared, {kills} runs killed")
-    sys.exit(0 if right == arguments.count and folders else 1)
+    trials.end(arguments, "repositories", wrong or int(not folders), more=f"; {folders} folders compared, {kills} runs killed")
 
 
 main()

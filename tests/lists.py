@@ -10,12 +10,11 @@ alone is told.
 
 The program is the one that FARMDAWN names, or the one that was built. The same seed and number make the same list.
 """
-import argparse
 import os
 import random
 import subprocess
-import sys
-import tempfile
+
+import trials
 
 TOP = os.path.dirname(os.path.dirname(os.path.abspath(__file__)))
 FARMDAWN = os.environ.get("FARMDAWN", os.path.join(TOP, "crates/farmdawn/out/farmdawn"))
@@ -50,7 +49,7 @@ def told_one_by_one(lines, stream):
     return status, text
 
 
-def try_one(number, seed):
+def try_one(number, folder, seed):
     """What is wrong with a list, or nothing."""
     choice = random.Random(f"{seed} {number}")
     count = choice.randrange(2, 40)
@@ -64,27 +63,21 @@ def try_one(number, seed):
     elif choice.random() < 0.02:
         lines = ["main main~1 gb"] * choice.choice([65, 70])
         wanted = 23, b"list refused at line 65\n"
-    with tempfile.TemporaryDirectory() as folder:
-        with open(os.path.join(folder, "list"), "w") as out:
-            out.write("\n".join(lines) + ("\n" if lines and choice.random() < 0.8 or lines and not lines[-1] else ""))
-        workers = choice.choice([1, 2, 3, 4, 8, 64])
-        got = said(["many", str(workers), "list"], stream, folder)
+    with open(os.path.join(folder, "list"), "w") as out:
+        out.write("\n".join(lines) + ("\n" if lines and choice.random() < 0.8 or lines and not lines[-1] else ""))
+    workers = choice.choice([1, 2, 3, 4, 8, 64])
+    got = said(["many", str(workers), "list"], stream, folder)
     return None if got == wanted else f"{workers} workers, {len(lines)} lines: {got[0]} in place of {wanted[0]}"
 
 
 def main():
-    parser = argparse.ArgumentParser(usage=__doc__)
-    for option, default in (("--seed", 1), ("--count", 100), ("--from", 0)):
-        parser.add_argument(option, type=int, default=default, dest=option.strip("-").replace("from", "first"))
-    arguments = parser.parse_args()
+    arguments = trials.read_arguments(__doc__, 100)
     wrong = 0
-    for number in range(arguments.first, arguments.first + arguments.count):
-        found = try_one(number, arguments.seed)
+    for number, found in trials.try_all(arguments, lambda number, folder: try_one(number, folder, arguments.seed)):
         if found:
             wrong += 1
             print(f"{number}: {found}", flush=True)
-    print(f"{arguments.count} lists: {arguments.count - wrong} right, {wrong} wrong")
-    sys.exit(1 if wrong else 0)
+    trials.end(arguments, "lists", wrong)
 
 
 main()

@@ -5,17 +5,15 @@ needed.py [--seed N] [--count N] [--from N] [--jobs N] [--checkouts]
 The histories have merges, and tests that skip or stop the search, each with a length of its own. FARMDAWN names the program. With
 --checkouts tests run in checkouts; without it a stand-in for farmdawn-worktree reads what they end with, so that a search takes
 little more than its tests."""
-import argparse
 import collections
 import os
 import random
 import re
 import shutil
 import subprocess
-import sys
 import tempfile
-from concurrent.futures import ThreadPoolExecutor
 
+import trials
 from repositories import CALM, FARMDAWN, TOP, call, git
 
 # what a test of a commit does: a line of the file of its name has the seconds that it takes, and its status
@@ -121,38 +119,29 @@ def most_at_once(told):
     return most
 
 
-def try_one(number, arguments, tools):
-    choice = random.Random(f"{arguments.seed} {number}")
-    work = tempfile.mkdtemp()
+def try_one(number, work, seed, tools):
+    choice = random.Random(f"{seed} {number}")
     folder, table = os.path.join(work, "repository"), os.path.join(work, "table")
-    try:
-        names, parents = make_repository(choice, folder)
-        write_table(choice, table, names, parents)
-        search = random_search(choice, names)
-        due = farmdawn(folder, tools, table, search, 1, AT_ONCE="1", FARMDAWN_NEEDED="never")
-        got = farmdawn(folder, tools, table, search, search.workers, FARMDAWN_NEEDED="0")
-        left = [name for name in os.listdir(os.path.join(folder, ".git", "farmdawn")) if name.startswith("run.")]
-        left += git(folder, "worktree", "list", "--porcelain")[6:]
-        return number, search, due, got, left
-    finally:
-        shutil.rmtree(work, ignore_errors=True)
+    names, parents = make_repository(choice, folder)
+    write_table(choice, table, names, parents)
+    search = random_search(choice, names)
+    due = farmdawn(folder, tools, table, search, 1, AT_ONCE="1", FARMDAWN_NEEDED="never")
+    got = farmdawn(folder, tools, table, search, search.workers, FARMDAWN_NEEDED="0")
+    left = [name for name in os.listdir(os.path.join(folder, ".git", "farmdawn")) if name.startswith("run.")]
+    left += git(folder, "worktree", "list", "--porcelain")[6:]
+    return search, due, got, left
 
 
 def main():
-    parser = argparse.ArgumentParser(usage=__doc__)
-    for option, default in (("--seed", 1), ("--count", 50), ("--from", 0), ("--jobs", 4)):
-        parser.add_argument(option, type=int, default=default, dest=option.strip("-").replace("from", "first"))
-    parser.add_argument("--checkouts", action="store_true")
-    arguments = parser.parse_args()
+    arguments = trials.read_arguments(__doc__, 50, jobs=4, flags=["checkouts"])
     counts, statuses, wrong = collections.Counter(), collections.Counter(), 0
-    with tempfile.TemporaryDirectory() as room, ThreadPoolExecutor(arguments.jobs) as pool:
+    with tempfile.TemporaryDirectory() as room:
         tools = os.path.join(room, "tools")
         shutil.copytree(os.path.join(TOP, "tools"), tools)
         if not arguments.checkouts:
             with open(os.path.join(tools, "farmdawn-worktree"), "w") as file:
                 file.write(STAND_IN)
-        numbers = range(arguments.first, arguments.first + arguments.count)
-        for number, search, due, got, left in pool.map(lambda n: try_one(n, arguments, tools), numbers):
+        for number, (search, due, got, left) in trials.try_all(arguments, lambda number, work: try_one(number, work, arguments.seed, tools)):
             ended, repeated = len(re.findall("^no longer needed", got[2], re.M)), count_repeated(got[2])
             counts.update({"tests": got[2].count(": testing "), "ended": ended, "tested again": repeated,
                            "searches with an ended test": ended > 0, "with one tested again": repeated > 0})
@@ -162,10 +151,9 @@ def main():
                 print(f"{number}: {search} left: {left}\n---- one worker\n{due[0]}\n{due[1]}{due[2]}"
                       f"---- with tests ended\n{got[0]}\n{got[1]}{got[2]}", flush=True)
             wrong += not same
-    print("statuses: " + ", ".join(f"{key}: {count}" for key, count in sorted(statuses.items())))
-    print(", ".join(f"{key}: {count}" for key, count in counts.items()))
-    print(f"{arguments.count} searches: {arguments.count - wrong} as one worker, {wrong} wrong")
-    sys.exit(1 if wrong else 0)
+    print("statuses: " + trials.counted(statuses))
+    print(trials.counted(counts))
+    trials.end(arguments, "searches", wrong, right="as one worker")
 
 
 if __name__ == "__main__":

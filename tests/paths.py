@@ -12,6 +12,8 @@ them again, and the numbers of commits that it tells as left are those behind ma
 of git bisect run. What differs is told with its reason, which is looked for in this order:
 
 bad end: no commit that changes the paths is bad. git has no answer then, and git farmdawn names the bad end and says so.
+bad end, too: only skipped commits are left of those that change the paths. git lists them alone, and git farmdawn lists them with
+the bad end, of which it says that it changes none of the paths: the first bad commit may be one that git's list has not.
 anew: git simplifies merges again from the marks that it has, and so tested a commit that its first list had not.
 unlisted: git is at the commit that git farmdawn names, a merge, and ends without an answer, as it takes that for one that changes
 none of the paths. It looks at parents that no good commit reaches, and at those that are good ends; which a good commit reaches it
@@ -23,21 +25,19 @@ which git farmdawn counts a bad end that changes none of the paths.
 
 Where the verdicts are bad from one commit on, and that one changes the paths, no difference is right but anew and unlisted.
 """
-import argparse
 import collections
 import os
 import random
 import re
-import shutil
 import subprocess
-import sys
-import tempfile
-from concurrent.futures import ThreadPoolExecutor
 
+import trials
 from repositories import CALM, Question, call, git, put_file, random_parents, random_question, read_answer, read_log, verdicts
 
 NAMES = ["a", "in/b", "in/deep/c d", "in/ümläut", "-x", "*", "in/[a]", ":(top)q", "it's \"so\"", "back\\slash"]
 UNCHANGED = "changes none of them; the same line without --path"
+LEFT = "changes none of these paths; the same line without --path"
+EXPLAINED = ("same answer", "no answer in both", "refused", "bad end", "bad end, too", "unlisted", "both right")
 
 
 def quoted(path):
@@ -122,6 +122,8 @@ def faults(folder, question, paths, tool):
         yield "it tested a commit that changes none of the paths"
     if (UNCHANGED in tool.told) != (tool.answer == question.bad and question.bad not in first):
         yield "it told of the bad end where it must not, or the other way round"
+    if (LEFT in tool.told) != (isinstance(tool.answer, frozenset) and question.bad in tool.answer.difference(first)):
+        yield "it told of the bad end among skipped ones where it must not, or the other way round"
     if isinstance(tool.answer, str) and tool.answer != question.bad and not is_right(folder, question, paths, tool):
         yield "its answer does not follow from its log"
 
@@ -181,6 +183,8 @@ def against_git(folder, question, paths, tool, theirs, changes):
         return "same answer" if tool.answer else "no answer in both"
     if UNCHANGED in tool.told and theirs.answer is None:
         return "bad end"
+    if LEFT in tool.told and tool.answer.difference([question.bad]) == theirs.answer and sorted(tool.marks) == sorted(theirs.marks):
+        return "bad end, too"
     if not {name for _, name in theirs.marks} <= set(first):
         return "anew"
     if lists_none(question, tool, theirs) and is_right(folder, question, paths, tool):
@@ -211,49 +215,39 @@ def replayed(folder, text, question):
     return found
 
 
-def try_one(number, arguments):
-    choice = random.Random(f"paths {arguments.seed} {number}")
-    work = tempfile.mkdtemp()
+def try_one(number, work, seed):
+    choice = random.Random(f"paths {seed} {number}")
     folder = os.path.join(work, "repository")
-    try:
-        names, statuses, plain, paths, parents = make_repository(choice, folder)
-        question = random_question(choice, names, plain, "verdict")._replace(skips=[])
-        question = question._replace(plain=plain)
-        known = [path for path in paths if git(folder, "rev-list", "-1", "--full-history", question.bad, *question.goods, "--", f":(literal){path}")]
-        inside = choice.choice(["in", ".", "."])
-        tool, text = by_tool(folder, question, paths, inside)
-        if known != paths:
-            wrong = [] if (tool.status, text) == (1, "") and "no commit has this path" in tool.told else ["a path that no commit has is not told"]
-            return number, question, paths, tool, None, wrong, "refused"
-        theirs = by_git(folder, question, paths)
-        wrong = [*faults(folder, question, paths, tool), *go_on(folder, question, tool, inside, names, parents)]
-        culprits = [name for name, status in zip(names, statuses) if status and not any(
-            statuses[names.index(parent)] for parent in git(folder, "rev-list", "--parents", "-n", "1", name)[1:])]
-        changes = plain and all(name in listed(folder, question, paths, question.bad, question.goods) for name in culprits)
-        beside = against_git(folder, question, paths, tool, theirs, changes)
-        if tool.status in (0, 2) and beside not in ("bad end", "unlisted") and replayed(folder, text, question) != last_bad(question, tool):
-            wrong.append("git comes to another commit by the log")
-        return number, question, paths, tool, theirs, wrong, beside
-    finally:
-        shutil.rmtree(work, ignore_errors=True)
+    names, statuses, plain, paths, parents = make_repository(choice, folder)
+    question = random_question(choice, names, plain, "verdict")._replace(skips=[])
+    question = question._replace(plain=plain)
+    known = [path for path in paths if git(folder, "rev-list", "-1", "--full-history", question.bad, *question.goods, "--", f":(literal){path}")]
+    inside = choice.choice(["in", ".", "."])
+    tool, text = by_tool(folder, question, paths, inside)
+    if known != paths:
+        wrong = [] if (tool.status, text) == (1, "") and "no commit has this path" in tool.told else ["a path that no commit has is not told"]
+        return question, paths, tool, None, wrong, "refused"
+    theirs = by_git(folder, question, paths)
+    wrong = [*faults(folder, question, paths, tool), *go_on(folder, question, tool, inside, names, parents)]
+    culprits = [name for name, status in zip(names, statuses) if status and not any(
+        statuses[names.index(parent)] for parent in git(folder, "rev-list", "--parents", "-n", "1", name)[1:])]
+    changes = plain and all(name in listed(folder, question, paths, question.bad, question.goods) for name in culprits)
+    beside = against_git(folder, question, paths, tool, theirs, changes)
+    if tool.status in (0, 2) and beside not in ("bad end", "unlisted") and replayed(folder, text, question) != last_bad(question, tool):
+        wrong.append("git comes to another commit by the log")
+    return question, paths, tool, theirs, wrong, beside
 
 
 def main():
-    parser = argparse.ArgumentParser(usage=__doc__)
-    for option, default in (("--seed", 1), ("--count", 50), ("--from", 0), ("--jobs", 1)):
-        parser.add_argument(option, type=int, default=default, dest=option.strip("-").replace("from", "first"))
-    arguments = parser.parse_args()
+    arguments = trials.read_arguments(__doc__, 50, jobs=1)
     counts, failures = collections.Counter(), 0
-    with ThreadPoolExecutor(arguments.jobs) as pool:
-        numbers = range(arguments.first, arguments.first + arguments.count)
-        for number, question, paths, tool, theirs, wrong, beside in pool.map(lambda n: try_one(n, arguments), numbers):
-            counts[beside] += 1
-            if wrong or beside not in ("same answer", "no answer in both", "refused", "bad end", "unlisted", "both right"):
-                print(f"{number}: {beside} {wrong}: {question} {paths}\n  git farmdawn {tool}\n  git bisect run {theirs}", flush=True)
-            failures += bool(wrong) or beside == "DIFFERENT"
-    print(", ".join(f"{key}: {count}" for key, count in sorted(counts.items())))
-    print(f"{arguments.count} repositories: {arguments.count - failures} right, {failures} wrong")
-    sys.exit(1 if failures else 0)
+    for number, (question, paths, tool, theirs, wrong, beside) in trials.try_all(arguments, lambda number, work: try_one(number, work, arguments.seed)):
+        counts[beside] += 1
+        if wrong or beside not in EXPLAINED:
+            print(f"{number}: {beside} {wrong}: {question} {paths}\n  git farmdawn {tool}\n  git bisect run {theirs}", flush=True)
+        failures += bool(wrong) or beside == "DIFFERENT"
+    print(trials.counted(counts))
+    trials.end(arguments, "repositories", failures)
 
 
 if __name__ == "__main__":

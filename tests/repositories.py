@@ -19,16 +19,14 @@ ends a run with success, and without an answer, where a second merge base is to 
 
 The program is the one that FARMDAWN names, or the one that was built. The same seed and number make the same repository.
 """
-import argparse
 import collections
 import os
 import random
 import re
 import shutil
 import subprocess
-import sys
-import tempfile
-from concurrent.futures import ThreadPoolExecutor
+
+import trials
 
 TOP = os.path.dirname(os.path.dirname(os.path.abspath(__file__)))
 FARMDAWN = os.environ.get("FARMDAWN", os.path.join(TOP, "crates/farmdawn/out/farmdawn"))
@@ -275,50 +273,39 @@ def against_git(folder, question, tool, theirs):
     return "one of them met a bad merge base" if tool.status == 3 or theirs.status == 3 else "DIFFERENT"
 
 
-def try_one(number, arguments):
+def try_one(number, work, arguments):
     choice = random.Random(f"{arguments.seed} {number}")
-    work = tempfile.mkdtemp()
     folder = os.path.join(work, "repository")
-    try:
-        test = choice.choice(list(TESTS)[1:] if arguments.files or choice.random() < 0.5 else ["verdict"])
-        names, statuses, plain = make_repository(choice, folder, test)
-        question = random_question(choice, names, plain, test)
-        tool, whole, theirs = by_tool(folder, question), by_whole(folder, question, dict(zip(names, statuses))), by_git(folder, question)
-        same = same_search(folder, question, tool, whole)
-        beside = against_git(folder, question, tool, theirs)
-        left = git(folder, "worktree", "list", "--porcelain").count("worktree") > 1
-        if arguments.keep and (not same or beside == "DIFFERENT"):
-            shutil.copytree(folder, os.path.join(arguments.keep, str(number)), dirs_exist_ok=True)
-        return number, question, tool, whole, theirs, same, beside, left
-    finally:
-        shutil.rmtree(work, ignore_errors=True)
+    test = choice.choice(list(TESTS)[1:] if arguments.files or choice.random() < 0.5 else ["verdict"])
+    names, statuses, plain = make_repository(choice, folder, test)
+    question = random_question(choice, names, plain, test)
+    tool, whole, theirs = by_tool(folder, question), by_whole(folder, question, dict(zip(names, statuses))), by_git(folder, question)
+    same = same_search(folder, question, tool, whole)
+    beside = against_git(folder, question, tool, theirs)
+    left = git(folder, "worktree", "list", "--porcelain").count("worktree") > 1
+    if arguments.keep and (not same or beside == "DIFFERENT"):
+        shutil.copytree(folder, os.path.join(arguments.keep, str(number)), dirs_exist_ok=True)
+    return question, tool, whole, theirs, same, beside, left
 
 
 def main():
-    parser = argparse.ArgumentParser(usage=__doc__)
-    for option, default in (("--seed", 1), ("--count", 50), ("--from", 0), ("--jobs", 1)):
-        parser.add_argument(option, type=int, default=default, dest=option.strip("-").replace("from", "first"))
-    parser.add_argument("--keep")
-    parser.add_argument("--files", action="store_true")
-    arguments = parser.parse_args()
+    arguments = trials.read_arguments(__doc__, 50, jobs=1, flags=["files"], words=["keep"])
     wholes, gits, statuses, wrong = collections.Counter(), collections.Counter(), collections.Counter(), 0
-    with ThreadPoolExecutor(arguments.jobs) as pool:
-        numbers = range(arguments.first, arguments.first + arguments.count)
-        for number, question, tool, whole, theirs, same, beside, left in pool.map(lambda n: try_one(n, arguments), numbers):
-            wholes["same" if same else "different"] += 1
-            gits[beside] += 1
-            statuses[tool.status] += 1
-            if not same:
-                print(f"{number}: {question}\n  git farmdawn {tool}\n  whole {whole}", flush=True)
-            if beside not in ("same answer", "no answer in both"):
-                print(f"{number}: {beside}: {question}\n  git farmdawn {tool}\n  git bisect run {theirs}", flush=True)
-            if left:
-                print(f"{number}: a worktree is left", flush=True)
-            wrong += not same or beside == "DIFFERENT" or left
+    for number, tried in trials.try_all(arguments, lambda number, work: try_one(number, work, arguments)):
+        question, tool, whole, theirs, same, beside, left = tried
+        wholes["same" if same else "different"] += 1
+        gits[beside] += 1
+        statuses[tool.status] += 1
+        if not same:
+            print(f"{number}: {question}\n  git farmdawn {tool}\n  whole {whole}", flush=True)
+        if beside not in ("same answer", "no answer in both"):
+            print(f"{number}: {beside}: {question}\n  git farmdawn {tool}\n  git bisect run {theirs}", flush=True)
+        if left:
+            print(f"{number}: a worktree is left", flush=True)
+        wrong += not same or beside == "DIFFERENT" or left
     for title, counts in (("status", statuses), ("whole", wholes), ("git bisect run", gits)):
-        print(f"{title}: " + ", ".join(f"{key}: {count}" for key, count in sorted(counts.items())))
-    print(f"{arguments.count} repositories: {arguments.count - wrong} right, {wrong} wrong")
-    sys.exit(1 if wrong else 0)
+        print(f"{title}: {trials.counted(counts)}")
+    trials.end(arguments, "repositories", wrong)
 
 
 if __name__ == "__main__":

@@ -439,7 +439,27 @@ test_signed() {
     expect 'git farmdawn finds it' [ "$(tail -n 1 ../log)" = "$(git rev-parse HEAD~4) is the first bad commit" ]
 }
 
-by_clock='parents killed program_killed'
+# Where nobody waits for processes whose parent has ended, as in a container whose first process is no init, they are there for ever.
+needs_unreaped() { has_git && has unshare && missing='a user who may have namespaces' && unshare -Urpf --mount-proc true; }
+test_unreaped() {
+    make_line 1 9
+    cat >../ends <<'END'
+farmdawn-worktree -- sh -c "$1 & : >../../../../began; wait" "$2" 2>../told &
+until [ -e ../began ]; do kill -0 $! && sleep 0.05 || exit; done
+read -r before _ </proc/uptime
+kill -TERM $!
+wait $!
+read -r after _ </proc/uptime
+echo "${before%.*}${before#*.} ${after%.*}${after#*.}" >../times
+END
+    mkfifo ../end
+    unshare -Urpf --mount-proc sh -c 'sh ../ends "$1" "$2" >../end & exec cat ../end' sh "$long_sleep" "$(git rev-parse HEAD)"
+    read -r before after <../times
+    expect 'a test is ended at once' [ $((after - before)) -lt 150 ]
+    nothing_sleeps
+}
+
+by_clock='parents killed program_killed unreaped'
 [ $# -gt 0 ] || set -- verdicts content modes prune limits many_at_once interrupts environment functions looked_at killed parents \
-    links away relative_paths other_users waits cost needs odd_names program_killed signed full
+    links away relative_paths other_users waits cost needs odd_names program_killed signed full unreaped
 run_tests "$@"
