@@ -85,7 +85,7 @@ needs_waiting() { has flock mkfifo; }
 test_waiting() {
     stand_in
     mkdir slots
-    flock slots/there.0 sh -c 'touch held; while [ -e .. ] && [ ! -e off ]; do sleep 0.1; done' &
+    flock slots/there.0 sh -c 'touch held; while [ -e held ] && [ ! -e off ]; do sleep 0.1; done' &
     until [ -e held ]; do sleep 0.1; done
     farmdawn-ssh --slots slots there -- touch tested name &
     until [ -n "$(ls tmp)" ]; do sleep 0.1; done
@@ -257,7 +257,7 @@ needs_limit() { has flock mkfifo timeout; }
 test_limit() {
     stand_in
     mkdir slots
-    flock slots/there.0 sh -c 'touch held; while [ -e .. ] && [ ! -e off ]; do sleep 0.1; done' &
+    flock slots/there.0 sh -c 'touch held; while [ -e held ] && [ ! -e off ]; do sleep 0.1; done' &
     until [ -e held ]; do sleep 0.1; done
     timeout 60 farmdawn-ssh --slots slots --wait 2 there -- touch tested name 2>err
     expect 'no verdict, and two lines' [ "$? $(grep -c 'waits for a host\|no host was free for 2 s' err)" = '255 2' ]

@@ -298,7 +298,7 @@ needs_waits() { has_git && has timeout; }
 test_waits() {
     make_line 2 9
     mkdir .git/farmdawn && : >.git/farmdawn/lock
-    flock .git/farmdawn/lock sh -c 'touch held; while [ -e .. ] && [ ! -e off ]; do sleep 0.1; done' &
+    flock .git/farmdawn/lock sh -c 'touch held; while [ -e held ] && [ ! -e off ]; do sleep 0.1; done' &
     until [ -e held ]; do sleep 0.05; done
     farmdawn-worktree -- true "$(git rev-parse HEAD)" 2>err &
     until grep -q 'waits for another' err; do expect 'it waits' kill -0 $! && sleep 0.2; done
