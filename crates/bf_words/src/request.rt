@@ -5,7 +5,7 @@ ghost use Rattle.bf_words.specs.Steps as steps;
 ghost use Rattle.bf_words.specs.Words as line;
 ghost use Rattle.bf_words.specs.declared.request.WordFault.TheVariants as faults;
 
-use crate::checks::{line_fault, plan_in, read_terms, refuse};
+use crate::checks::{has_ends, line_fault, plan_in, read_terms, refuse};
 use crate::found::{
     has_option, has_replay, index_of, number_or, tail_of, value_at, word_at, words_of,
 };
@@ -107,10 +107,12 @@ struct Line<'a> {
 fn ends_in(verb: Verb, replay: bool, plains: &[u32]) -> &[u32]
     ensures { result.now ≡ line.ends_in verb replay plains.now }
 {
-    match verb {
-        Verb::Simulate if !replay => &plains[..plains.len().saturating_sub(1)],
-        Verb::Run | Verb::Next if !replay => plains,
-        _ => &[],
+    if !has_ends(verb, replay) {
+        &[]
+    } else if verb.line_form().plan {
+        &plains[..plains.len().saturating_sub(1)]
+    } else {
+        plains
     }
 }
 
@@ -139,9 +141,10 @@ fn plain_word<'a>(plains: &[u32], place: usize, words: &'a [Word]) -> &'a [u8]
 fn number_in(verb: Verb, plains: &[u32], words: &[Word]) -> u64
     ensures { result ≡ line.number_in verb plains.now words.now }
 {
-    match verb {
-        Verb::Simulate | Verb::Run | Verb::Next | Verb::Replay => 0,
-        Verb::Gen | Verb::Sample => decimal(plain_word(plains, 0, words)).unwrap_or(0),
+    if verb.line_form().numbers {
+        decimal(plain_word(plains, 0, words)).unwrap_or(0)
+    } else {
+        0
     }
 }
 
@@ -150,11 +153,10 @@ fn number_in(verb: Verb, plains: &[u32], words: &[Word]) -> u64
 fn count_in(verb: Verb, plains: &[u32], words: &[Word]) -> u32
     ensures { result ≡ line.count_in verb plains.now words.now }
 {
-    match verb {
-        Verb::Simulate | Verb::Run | Verb::Next | Verb::Replay => 0,
-        Verb::Gen | Verb::Sample => {
-            count_of(form_of_number(1), plain_word(plains, 1, words)).unwrap_or(0)
-        }
+    if verb.line_form().numbers {
+        count_of(form_of_number(1), plain_word(plains, 1, words)).unwrap_or(0)
+    } else {
+        0
     }
 }
 
