@@ -38,10 +38,11 @@ def places_of_program():
     """The options of farmdawn by place, and those of each command by the table and by the completion of bash."""
     table = read("crates", "bf_words", "src", "options.rt")
     words = dict(re.findall(rf'Choice::(\w+) => b"({LONG})"', table))
-    rows = re.findall(r"choice: Choice::(\w+),.*?next: (\w+),\s*replay: (\w+),\s*sample: (\w+),", table, re.S)
-    verbs = {"simulate": set(words.values()), "run": set(words.values())}
-    for index, verb in enumerate(("next", "replay", "sample"), 1):
-        verbs[verb] = {words[row[0]] for row in rows if row[index] == "true"}
+    arms = re.findall(r"((?:Choice::\w+[ |]*)+)=> [{\s]*&\[([^]]*)\]", cut(table, "fn verbs(", "\n    }\n"))
+    verbs = {}
+    for choices, names in arms:
+        for verb in re.findall(r"Verb::(\w+)", names):
+            verbs.setdefault(verb.lower(), set()).update(words[choice] for choice in re.findall(r"Choice::(\w+)", choices))
     bash = read("completions", "farmdawn.bash")
     cases = re.findall(r"^    ([a-z][a-z |]*)\) echo (--.*) ;;$", cut(bash, "_farmdawn_options() {", "\n}"), re.M)
     by_bash = {verb: set(options.split()) for names, options in cases for verb in names.split(" | ")}
