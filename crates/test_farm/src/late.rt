@@ -10,7 +10,7 @@ use std::sync::atomic::{AtomicBool, Ordering};
 use std::thread;
 
 // The turns that a test waits at most, each of which yields the thread.
-const TURNS: u32 = 20_000_000;
+const TURNS: u32 = 2_000_000;
 
 /// A test of one place that ends only when that of another one has begun, which then waits until its flag
 /// is raised. Testers share it.
