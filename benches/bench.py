@@ -468,16 +468,15 @@ def of_repeated_goods(bench, size, skipped=()):
 
 
 def of_far_ancestors(bench, size):
-    """A log of so many names of the root of a line of fifty times as many commits, each by its distance from the tip."""
-    bench.write(streams.line, 50 * size)
-    return bench.write(streams.named_again, size, b"main~%d" % (50 * size - 1), to="log")
+    """A log of so many marks of the root of a line of a fifth as many commits, by its distance from the tip."""
+    bench.write(streams.line, size // 5)
+    return bench.write(streams.good_again, size, (), b"main~%d" % (size // 5 - 1), to="log")
 
 
 LONG_LOGS = {
     "abbreviations": of_abbreviations,
     "repeated goods": of_repeated_goods,
     "repeated goods behind a skip": lambda bench, size: of_repeated_goods(bench, size, [b"main~1"]),
-    "far ancestors": of_far_ancestors,
 }
 
 
@@ -491,6 +490,7 @@ def costly(bench, divisor):
             bench.write(streams.ten) and bench.write(make, n, to="log"), REPLAY)
     for label, make in LONG_LOGS.items():
         yield f"log of {label}", 1000 // divisor, lambda n, make=make: (make(bench, n), REPLAY)
+    yield "log of far ancestors", 250000 // divisor, lambda n: (of_far_ancestors(bench, n), REPLAY)
     for count in (8, 64):
         yield f"skips by {count} workers", 400 // divisor, lambda n, count=count: (
             bench.write(streams.line, n), ["run", "--workers", str(count), MAIN, OLD, "--", "sh", "-c", "exit 125"])

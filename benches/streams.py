@@ -412,9 +412,9 @@ def named_again(out, size, name):
     out.write(b"git bisect start main" + b" " + b" ".join([name] * size) + b"\n")
 
 
-def good_again(out, size, skipped=()):
-    """So many marks of the good end, behind skips of these names."""
+def good_again(out, size, skipped=(), good=b"old"):
+    """So many marks of the good end by this name, behind skips of these names."""
     out.write(b"git bisect start main old\n")
     for name in skipped:
         out.write(b"git bisect skip %b\n" % name)
-    out.write(b"git bisect good old\n" * size)
+    out.write(b"git bisect good %b\n" % good * size)
