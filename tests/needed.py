@@ -97,8 +97,8 @@ def farmdawn(folder, tools, table, search, workers, **more):
     try:
         done = subprocess.run(words, cwd=folder, env=environment, stdin=subprocess.DEVNULL, stdout=subprocess.PIPE, stderr=subprocess.PIPE, timeout=600)
     except subprocess.TimeoutExpired as late:
-        return "HANGS", (late.stdout or b"").decode(), (late.stderr or b"").decode()
-    return done.returncode, done.stdout.decode(), done.stderr.decode()
+        return "HANGS", (late.stdout or b"").decode(), (late.stderr or b"").decode("utf-8", "replace")
+    return done.returncode, done.stdout.decode(), done.stderr.decode("utf-8", "replace")
 
 
 def count_repeated(told):

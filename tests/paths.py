@@ -85,7 +85,7 @@ def by_tool(folder, question, paths, inside):
     done = subprocess.run(["git", "farmdawn", "--workers", "2", *question.options, *options, question.bad, *question.goods, "--", "sh", "-c",
                            'exit $(cat "$(git rev-parse --show-toplevel)/verdict")'], cwd=os.path.join(folder, inside), env=CALM, capture_output=True)
     text = done.stdout.decode()
-    return Said(done.returncode, read_answer(text), read_log(text, question.terms), done.stderr.decode()), text
+    return Said(done.returncode, read_answer(text), read_log(text, question.terms), done.stderr.decode("utf-8", "replace")), text
 
 
 def by_git(folder, question, paths):

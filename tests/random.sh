@@ -12,13 +12,16 @@ test_repositories() { FARMDAWN=$farmdawn expect 'repositories' python3 "$top/tes
 needs_paths() { needs_repositories; }
 test_paths() { FARMDAWN=$farmdawn expect 'repositories by path' python3 "$top/tests/paths.py" --count 20 --jobs 2; }
 
-needs_folders() { has python3 git && has_program; }
+# names of files that are words of the program, which takes those in UTF-8
+has_plain_path() { missing='a path in UTF-8' && printf %s "${TMPDIR-}$PWD" | iconv -f UTF-8 -t UTF-8 >/dev/null 2>&1; }
+
+needs_folders() { has python3 git && has_program && has_plain_path; }
 test_folders() { FARMDAWN=$farmdawn expect 'folders of commits' python3 "$top/tests/folders.py" --count 3; }
 
 needs_lists() { has python3 && has_program; }
 test_lists() { FARMDAWN=$farmdawn expect 'lists of searches' python3 "$top/tests/lists.py" --count 20; }
 
-needs_crashes() { has python3 && has_program; }
+needs_crashes() { has python3 && has_program && has_plain_path; }
 test_crashes() { FARMDAWN=$farmdawn expect 'runs that are killed' python3 "$top/tests/crashes.py" --kills 9; }
 
 [ $# -gt 0 ] || set -- hostile repositories paths folders lists crashes

@@ -150,7 +150,8 @@ def main(folder, log, *wanted):
     check_result(result, folder, None if log == "-" else read(log))
     check_page(page, result)
     for word in wanted:
-        key, value = word.split("=", 1)
+        # bytes that are no UTF-8 are shown by a sign
+        key, value = os.fsencode(word).decode("utf-8", "replace").split("=", 1)
         expect(f"{key} is {value}, and not {result[key]!r}", result[key] == json.loads(value))
     # one that is written anew at this time may be beside it
     there = sorted(name for name in os.listdir(folder) if log != "-" or not name.startswith(".farmdawn-report."))
