@@ -128,7 +128,7 @@ def try_one(number, work, seed, tools):
     due = farmdawn(folder, tools, table, search, 1, AT_ONCE="1", FARMDAWN_NEEDED="never")
     got = farmdawn(folder, tools, table, search, search.workers, FARMDAWN_NEEDED="0")
     left = [name for name in os.listdir(os.path.join(folder, ".git", "farmdawn")) if name.startswith("run.")]
-    left += git(folder, "worktree", "list", "--porcelain")[6:]
+    left += [word for word in git(folder, "worktree", "list", "--porcelain") if word == "worktree"][1:]
     return search, due, got, left
 
 
