@@ -1,7 +1,7 @@
 #!/usr/bin/env python3
 """What `git farmdawn` costs of its own for each test, beside what git needs to check a commit out.
 
-Usage: benches/cost.py [--commits N,..] [--workers N,..] [--runs N] [--lengths SECONDS,..] [--program FILE] [--tools FOLDER]
+Usage: benches/cost.py [--commits N,..] [--workers N,..] [--runs N] [--lengths SECONDS,..] [--names] [--program FILE] [--tools FOLDER]
 
 Makes lines of so many commits with one file each in a temporary folder, and searches them with a test of nothing, `true`:
 so each test is good, and nearly all that is measured is the search's own. Another search over the same commits is stopped by
@@ -15,12 +15,17 @@ further ahead where tests take their time.
 With --lengths, searches by tests that wait so long are timed by the clock instead, beside `git bisect run`: which says from
 which length of a test on several workers are faster, and means something on a quiet machine alone.
 
+With --names, the processes of a whole search are sampled by `perf`, and told apart by their names: those of the scripts, with the
+shell and the small programs that they start, divided by the number of tests, and those of awk, of the program and of git, most of
+which a search has at its start. So what grows with the commits stands beside what a test costs.
+
 Other times are of processors, those of the whole tree of processes, whoever waits for them; of some runs the least counts. A busy
 machine adds to them, since processors that share a core slow each other: so the costs of `sh -c true` and of `git rev-parse`
 stand above the table. The program is FARMDAWN or the one that a proved build left, the scripts are those of this checkout.
 """
 import argparse
 import atexit
+import collections
 import ctypes
 import glob
 import os
@@ -36,6 +41,7 @@ import repository
 
 TOP = os.path.dirname(os.path.dirname(os.path.abspath(__file__)))
 PR_SET_CHILD_SUBREAPER = 36
+SAMPLES = 1000  # a second
 STOPPING = ["sh", "-c", "exit 255"]
 
 
@@ -214,12 +220,30 @@ def compare(searches, workers, lengths):
         print()
 
 
+def by_name(folder, commits, environment, workers):
+    """Prints what the processes of one search took, by their names."""
+    ends = ["main", f"main~{commits - 1}"]
+    with tempfile.TemporaryDirectory() as work:
+        samples = os.path.join(work, "samples")
+        said = subprocess.run(["perf", "record", "-q", "-F", str(SAMPLES), "-o", samples, "--", "git", "farmdawn", "--fresh",
+                               "--workers", str(workers), *ends, "--", "true"], cwd=folder, env=environment,
+                              stdin=subprocess.DEVNULL, capture_output=True, text=True, check=True).stderr
+        names = subprocess.run(["perf", "script", "-i", samples, "-F", "comm"], capture_output=True, text=True, check=True).stdout
+    tests = said.count(": testing ")
+    seen = collections.Counter(names.split())
+    apart = {name: seen.pop(name, 0) / SAMPLES for name in ("awk", "farmdawn", "git")}
+    seen.pop("perf", None)
+    print(f"  {workers} workers: {sum(seen.values()) / SAMPLES / tests * 1000:.0f} ms a test ({tests}); "
+          + ", ".join(f"{name} {seconds:.2f} s" for name, seconds in apart.items()), flush=True)
+
+
 def main():
     parser = argparse.ArgumentParser(usage=__doc__)
     parser.add_argument("--commits", type=numbers, default=[1000, 30000, 100000])
     parser.add_argument("--workers", type=numbers, default=[1, 4, 16, 64])
     parser.add_argument("--runs", type=int, default=3)
     parser.add_argument("--lengths", type=lambda text: text.split(","))
+    parser.add_argument("--names", action="store_true")
     parser.add_argument("--program", default=os.environ.get("FARMDAWN", os.path.join(TOP, "crates", "farmdawn", "out", "farmdawn")))
     parser.add_argument("--tools", default=os.path.join(TOP, "tools"))
     words = parser.parse_args()
@@ -232,7 +256,7 @@ def main():
     group = Group()
     atexit.register(group.remove)
     with tempfile.TemporaryDirectory() as work:
-        if not words.lengths:
+        if not words.lengths and not words.names:
             print("own cost of a test beside git's checkout, of processors; the whole search (and its tests)", flush=True)
         for commits in words.commits:
             folder, stream = os.path.join(work, f"line{commits}"), os.path.join(work, "stream")
@@ -241,6 +265,11 @@ def main():
             if words.lengths:
                 print(f"{commits} commits, by the clock", flush=True)
                 compare(Searches(folder, stream, commits, environment, 1, group), words.workers, words.lengths)
+                continue
+            if words.names:
+                print(f"{commits} commits, processors by the names of processes", flush=True)
+                for workers in words.workers:
+                    by_name(folder, commits, environment, workers)
                 continue
             checkout = git_cost(folder)
             print(f"{commits} commits: sh -c true {spent_each(['sh', '-c', 'true'], folder):.1f} ms, "
