@@ -41,7 +41,8 @@ test_paths() {
     git bisect reset >/dev/null 2>&1
     expect 'the bad end is what is left' [ "$(answer_of git farmdawn --path in/side main~4 main~9 -- sh -c "$command")" = "$(first_bad main~4)" ]
     expect 'which is told' grep -q "none of the commits that change these paths is bad, and $(git rev-parse main~4) changes none of them" told
-    expect 'also among skipped ones' [ "$(git farmdawn --path in/side main~4 main~9 -- sh -c 'exit 125' 2>told | tail -n 2 | head -n 1)" = "$(git rev-parse main~4)" ]
+    listed=$(git farmdawn --path in/side main~4 main~9 -- sh -c 'exit 125' 2>told | tail -n 2 | head -n 1)
+    expect 'also among skipped ones' [ "$listed" = "$(git rev-parse main~4)" ]
     expect 'with the same words' grep -q "$(git rev-parse main~4) was called bad, and changes none of these paths" told
     git farmdawn --path in/odd main main~9 -- sh -c 'exit 125' 2>told >log
     expect 'but not where it changes them' sh -c '! grep -q "changes none" told'
