@@ -1,6 +1,6 @@
 #!/bin/sh
 # A few rounds of the tests by random numbers: hostile input, repositories, these by path, folders of commits, lists of
-# searches, and runs that are killed. Their own pages say how more are run, and beside which programs.
+# searches, runs that are killed, and runs whose tests are ended. Their own pages say how more are run, and beside which programs.
 . "$(dirname "$0")/helpers.sh"
 
 needs_hostile() { has python3 && has_program; }
@@ -24,5 +24,8 @@ test_lists() { FARMDAWN=$farmdawn expect 'lists of searches' python3 "$top/tests
 needs_crashes() { has python3 && has_program && has_plain_path; }
 test_crashes() { FARMDAWN=$farmdawn expect 'runs that are killed' python3 "$top/tests/crashes.py" --kills 9; }
 
-[ $# -gt 0 ] || set -- hostile repositories paths folders lists crashes
+needs_ended() { has python3 git && has_program && has_plain_path; }
+test_ended() { FARMDAWN=$farmdawn expect 'runs whose tests are ended' python3 "$top/tests/ended.py" --count 8; }
+
+[ $# -gt 0 ] || set -- hostile repositories paths folders lists crashes ended
 run_tests "$@"

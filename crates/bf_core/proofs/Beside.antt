@@ -13,6 +13,7 @@ use Rattle.bf_state.specs.Runs.{IsPartOf, is_open}
 use Rattle.bf_state.proofs.Tables.{seq_ends_alike}
 use Rattle.bf_state.proofs.Used.{off_the_path, told as told_used}
 use Rattle.bf_spec.specs.Walks.{Tells}
+use Rattle.bf_core.specs.Claims.{has_ended, GoesOn}
 
 module _ (graph : List (List ℕ)) (known more : Outcomes) (part : IsPartOf known more) where
   end_stays : (k : ℕ) (s : Search) (end : End) → (one_at_a_time graph s known k).end ≡ end → ((q : ℕ) → end ≡ Open q → more q ≡ known q)
@@ -67,6 +68,28 @@ told_alike o other end h k = told o end h ∙ sym (told other end k)
 pub none_is_open : (o : Option Ending) (end : End) → Tells o end → (o ≡ None) ↔ (is_open end ≡ true)
 none_is_open None end h = (λ e. h, λ e. refl)
 none_is_open (Some ending) end h = (λ e. cc, λ e. absurd (both_ways (is_open end) h.1 e))
+
+-- where the search has no end the run goes on
+pub goes_told : (o : Option Ending) (end : End) → Tells o end → has_ended o ≡ false → GoesOn end
+goes_told None (Open p) h e = tt
+goes_told None Leg h e = tt
+goes_told None (Answered a) h e = cc h
+goes_told None (Aborted p outcome) h e = cc h
+goes_told (Some endings.Leg) end h e = subst GoesOn h.0 tt
+goes_told (Some (endings.FirstBad p)) end h e = cc e
+goes_told (Some (endings.OnlySkipped ps)) end h e = cc e
+goes_told (Some (endings.MergeBaseBad p)) end h e = cc e
+goes_told (Some (endings.GoodNotAncestor p)) end h e = cc e
+goes_told (Some (endings.BothSides p)) end h e = cc e
+goes_told (Some (endings.Aborted p outcome)) end h e = cc e
+goes_told (Some (endings.TestFault p)) end h e = cc e
+
+-- and the other way round
+pub told_goes : (o : Option Ending) (end : End) → Tells o end → GoesOn end → has_ended o ≡ false
+told_goes o (Open p) h on = ap has_ended (told o (Open p) h)
+told_goes o Leg h on = ap has_ended (told o Leg h)
+told_goes o (Answered a) h on = absurd on
+told_goes o (Aborted p outcome) h on = absurd on
 
 pub leg_told : (o : Option Ending) (end : End) → Tells o end → (o ≡ Some endings.Leg) ↔ (end ≡ Leg)
 leg_told o end h = (

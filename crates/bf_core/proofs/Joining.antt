@@ -27,11 +27,12 @@ use Rattle.bf_state.specs.Ends.{marks_of}
 use Rattle.bf_spec.specs.Ways.{IsAsked}
 use Rattle.bf_spec.specs.declared.follow.Walked.{Walked}
 use Rattle.bf_core.specs.declared.consuming.Consumed.{Consumed}
-use Rattle.bf_core.specs.Claims.{KeepsNodes, IsSameTree, IsIdle, IsIdleWorker}
-use Rattle.bf_core.specs.Consuming.{marks_since, IsAtRoot, IsRun, IsRunOn, IsSameRun, IsJoined, Begins, Consumes, IsUnwanted}
+use Rattle.bf_core.specs.Claims.{KeepsNodes, IsSameTree, IsIdle, IsIdleWorker, has_ended, GoesOn}
+use Rattle.bf_core.specs.Consuming.{marks_since, HasAsked, IsAtRoot, IsRun, IsRunOn, IsSameRun, IsJoined, Begins, Consumes, IsUnwanted}
 use Rattle.bf_state.specs.Ends.{IsUnspent}
 use Rattle.bf_state.proofs.Legs.{run_follows, run_asked}
-use Rattle.bf_core.proofs.Passing.{run_passes}
+use Rattle.bf_core.proofs.Beside.{goes_told}
+use Rattle.bf_core.proofs.Passing.{asked_here, run_passes}
 
 -- ---- what stays
 
@@ -43,6 +44,17 @@ same_tree_trans a b c h k = record {
   kept = λ path p. k.kept path (h.kept path p);
 }
 
+-- an ask that stands for other names of the same
+has_asked : (a b : Asked) (g k : List (List ℕ)) (s t : Session) → b ≡ a → k ≡ g → t ≡ s → a.search ≡ (ask g s.search).search
+    → b.search ≡ (ask k t.search).search
+has_asked a b g k s t root graph state h =
+    ap (λ (x : Asked). x.search) root ∙ h ∙ ap (λ (x : List (List ℕ)). (ask x s.search).search) (sym graph)
+    ∙ ap (λ (x : Session). (ask k x.search).search) (sym state)
+
+-- an ask of the root stands where nothing but nodes has changed
+pub asked_along : (core : Consumed) (tree : Guesses) → IsSameTree core.tree tree → HasAsked core → HasAsked (record core { tree = tree })
+asked_along core tree same h = has_asked core.tree.root tree.root core.tree.graph tree.graph core.state core.state same.root same.graph refl h
+
 -- what a run has come to is kept where nothing but nodes has changed
 pub same_is_run : (setting : Setting) (first : Session) (r : Run) (old new : Consumed) → IsSameRun old new → IsRun setting first r old
     → IsRun setting first r new
@@ -53,6 +65,7 @@ same_is_run setting first r old new same h = record {
   state = same.state ∙ h.state;
   ending = subst (λ (e : Option Ending). Tells e r.end) (sym same.ending) h.ending;
   waits = λ p e. let at = h.waits p e in record { search = ap (λ (a : Asked). a.search) same.tree.root ∙ at.search; left = same.left ∙ at.left };
+  asked = has_asked old.tree.root new.tree.root old.tree.graph new.tree.graph old.state new.state same.tree.root same.tree.graph same.state h.asked;
 }
 
 -- ---- ends
@@ -86,6 +99,7 @@ pub record IsWalk (tree : Guesses) (known : Outcomes) (left : Option ℕ) (walke
   pub state : walked.state ≡ with_search tree.session r.search
   pub path : walked.path.items ≡ marks_of r.entries
   pub there : r.end ≢ Leg → (asked_at tree.graph tree.root walked.path.items).search ≡ r.search
+  pub asked : (asked_at tree.graph tree.root walked.path.items).search ≡ (ask tree.graph r.search).search
 
 left_after-again : (left : Option ℕ) (n m : ℕ) → left_after (left_after left n) m ≡ left_after left (n + m)
 left_after-again None n m = refl
@@ -119,6 +133,8 @@ joined_is_run setting first whole r tree entries count left known walked new on_
         ∙ left_after-again (leg_of setting.leg) count (length walked.used.items)
         ∙ ap (λ (n : ℕ). left_after (leg_of setting.leg) n) (ap (λ (us : List (ℕ × Outcome)). count + length us) walk.used ∙ sym w.used);
   };
+  asked = has_asked (asked_at tree.graph tree.root walked.path.items) new.tree.root tree.graph new.tree.graph (with_search tree.session r.search) new.state
+      joined.root joined.graph (joined.state ∙ walk.state) walk.asked;
 }
 
 -- the entries of a run before another
@@ -220,7 +236,7 @@ same_nodes old tree same = λ path h. same.kept path
 
 -- a claim of a place without an outcome
 abbrev IsUnwantedPlace : Consumed → Outcomes → ℕ → Type 0
-IsUnwantedPlace core known p = core.ending ≡ None → ¬ IsAsked core.tree.graph known core.state.search p
+IsUnwantedPlace core known p = has_ended core.ending ≡ false → ¬ IsAsked core.tree.graph known core.state.search p
 
 asked_on : (graph : List (List ℕ)) (known : Outcomes) (s t : Search) (p : ℕ) → s ≡ t → IsAsked graph known s p → IsAsked graph known t p
 asked_on graph known s t p e h = subst (λ (x : Search). IsAsked graph known x p) e h
@@ -230,43 +246,39 @@ module _ (mid new : Consumed) (table : List (Option Outcome)) (walked : Walked) 
   state_is : new.state.search ≡ (run mid.tree.graph (outcomes_of_table table) mid.left mid.tree.root.search).search
   state_is = ap (λ (s : Session). s.search) (joined.state ∙ walk.state) ∙ ap (λ (x : Run). x.search) walk.is
 
-  waits_at : walked.ending ≡ None → (p : ℕ) × ((run mid.tree.graph (outcomes_of_table table) mid.left mid.tree.root.search).end ≡ Open p)
-  waits_at e =
-      let place = told_open r.end (subst (λ (o : Option Ending). Tells o r.end) e walk.ending) in
-      (place.0, sym (ap (λ (x : Run). x.end) walk.is) ∙ place.1)
+  goes_at : has_ended walked.ending ≡ false → GoesOn (run mid.tree.graph (outcomes_of_table table) mid.left mid.tree.root.search).end
+  goes_at e = subst GoesOn (ap (λ (x : Run). x.end) walk.is) (goes_told walked.ending r.end walk.ending e)
 
-  idle_unwanted : (o : Option Ending) (p : ℕ) → walked.ending ≡ o → outcomes_of_table table p ≡ None → IsIdle mid.tree table (is_some o) p
+  idle_unwanted : (b : Bool) (p : ℕ) → has_ended walked.ending ≡ b → outcomes_of_table table p ≡ None → IsIdle mid.tree table b p
       → IsUnwantedPlace new (outcomes_of_table table) p
-  idle_unwanted None p e unknown idle = λ here asked.
-      let place = waits_at e in
-      idle ((run_passes mid.tree.graph (outcomes_of_table table) mid.left mid.tree.root.search place.0 place.1).back p
+  idle_unwanted false p e unknown idle = λ here asked.
+      idle ((run_passes mid.tree.graph (outcomes_of_table table) mid.left mid.tree.root.search (goes_at e)).back p
       (subst (λ (g : List (List ℕ)). IsAsked g (outcomes_of_table table) (run mid.tree.graph (outcomes_of_table table) mid.left mid.tree.root.search).search p)
       joined.graph
       (asked_on new.tree.graph (outcomes_of_table table) new.state.search (run mid.tree.graph (outcomes_of_table table) mid.left mid.tree.root.search).search p
       state_is asked)))
-  idle_unwanted (Some ending) p e unknown idle = λ here asked. let clash : Some ending ≡ None = sym e ∙ sym joined.ending ∙ here in cc
+  idle_unwanted true p e unknown idle = λ here asked. both_ways (has_ended walked.ending) (ap has_ended (sym joined.ending) ∙ here) e
 
-  unwanted_idle : (o : Option Ending) (p : ℕ) → walked.ending ≡ o → outcomes_of_table table p ≡ None → IsUnwantedPlace new (outcomes_of_table table) p
-      → IsIdle mid.tree table (is_some o) p
-  unwanted_idle None p e unknown h = λ asked.
-      let place = waits_at e in
-      h (joined.ending ∙ e)
+  unwanted_idle : (b : Bool) (p : ℕ) → has_ended walked.ending ≡ b → outcomes_of_table table p ≡ None → IsUnwantedPlace new (outcomes_of_table table) p
+      → IsIdle mid.tree table b p
+  unwanted_idle false p e unknown h = λ asked.
+      h (ap has_ended joined.ending ∙ e)
       (subst (λ (g : List (List ℕ)). IsAsked g (outcomes_of_table table) new.state.search p) (sym joined.graph)
       (asked_on mid.tree.graph (outcomes_of_table table) (run mid.tree.graph (outcomes_of_table table) mid.left mid.tree.root.search).search new.state.search p
       (sym state_is)
-      ((run_passes mid.tree.graph (outcomes_of_table table) mid.left mid.tree.root.search place.0 place.1).on p unknown asked)))
-  unwanted_idle (Some ending) p e unknown h = tt
+      ((run_passes mid.tree.graph (outcomes_of_table table) mid.left mid.tree.root.search (goes_at e)).on p unknown asked)))
+  unwanted_idle true p e unknown h = tt
 
 pub unwanted_workers : (mid new : Consumed) (table : List (Option Outcome)) (claims : List Claim) (walked : Walked) (r : Run) (ended : Bool) (w : ℕ)
     → IsWalk mid.tree (outcomes_of_table table) mid.left walked r
-    → IsJoined mid.tree mid.entries.items mid.left walked new → All (λ c. outcomes_of_table table c.place ≡ None) claims → ended ≡ is_some walked.ending
+    → IsJoined mid.tree mid.entries.items mid.left walked new → All (λ c. outcomes_of_table table c.place ≡ None) claims → ended ≡ has_ended walked.ending
     → IsIdleWorker mid.tree table ended claims w ↔ IsUnwanted new table claims w
 unwanted_workers mid new table claims walked r ended w walk joined unknown e = (
   λ h. record {
     claim = h.claim;
     among = h.among;
     by = h.by;
-    unwanted = idle_unwanted mid new table walked r walk joined walked.ending h.claim.place refl
+    unwanted = idle_unwanted mid new table walked r walk joined (has_ended walked.ending) h.claim.place refl
         (All-contains (λ c. outcomes_of_table table c.place ≡ None) claims h.claim unknown h.among)
         (subst (λ (b : Bool). IsIdle mid.tree table b h.claim.place) e h.idle);
   },
@@ -275,24 +287,40 @@ unwanted_workers mid new table claims walked r ended w walk joined unknown e = (
     among = h.among;
     by = h.by;
     idle = subst (λ (b : Bool). IsIdle mid.tree table b h.claim.place) (sym e)
-        (unwanted_idle mid new table walked r walk joined walked.ending h.claim.place refl
+        (unwanted_idle mid new table walked r walk joined (has_ended walked.ending) h.claim.place refl
         (All-contains (λ c. outcomes_of_table table c.place ≡ None) claims h.claim unknown h.among) h.unwanted);
   },
 )
 
--- where the run had ended nobody is waited for
-pub ended_workers : (tree : Guesses) (new : Consumed) (table : List (Option Outcome)) (claims : List Claim) (w : ℕ) → is_some new.ending ≡ true
-    → IsIdleWorker tree table true claims w ↔ IsUnwanted new table claims w
-ended_workers tree new table claims w e = (
-  λ h. record {
-    claim = h.claim;
-    among = h.among;
-    by = h.by;
-    unwanted = λ none. let clash : is_some new.ending ≡ false = ap (λ (o : Option Ending). is_some o)
-        none in absurd (both_ways (is_some new.ending) clash e);
-  },
-  λ h. record { claim = h.claim; among = h.among; by = h.by; idle = tt },
-)
+-- ---- where the run had ended already
+
+-- the root of the tree asks for the places that are asked for from where the run is
+module _ (core : Consumed) (table : List (Option Outcome)) (asks : HasAsked core) where
+  ended_unwanted : (b : Bool) (p : ℕ) → has_ended core.ending ≡ b → outcomes_of_table table p ≡ None → IsIdle core.tree table b p
+      → IsUnwantedPlace core (outcomes_of_table table) p
+  ended_unwanted false p e unknown idle = λ here asked.
+      idle (asked_on core.tree.graph (outcomes_of_table table) (ask core.tree.graph core.state.search).search core.tree.root.search p (sym asks)
+      ((asked_here core.tree.graph (outcomes_of_table table) core.state.search).on p unknown asked))
+  ended_unwanted true p e unknown idle = λ here asked. both_ways (has_ended core.ending) here e
+
+  unwanted_ended : (b : Bool) (p : ℕ) → has_ended core.ending ≡ b → IsUnwantedPlace core (outcomes_of_table table) p → IsIdle core.tree table b p
+  unwanted_ended false p e h = λ asked.
+      h e ((asked_here core.tree.graph (outcomes_of_table table) core.state.search).back p
+      (asked_on core.tree.graph (outcomes_of_table table) core.tree.root.search (ask core.tree.graph core.state.search).search p asks asked))
+  unwanted_ended true p e h = tt
+
+  pub ended_workers : (claims : List Claim) (ended : Bool) (w : ℕ) → All (λ c. outcomes_of_table table c.place ≡ None) claims → ended ≡ has_ended core.ending
+      → IsIdleWorker core.tree table ended claims w ↔ IsUnwanted core table claims w
+  ended_workers claims ended w unknown e = (
+    λ h. record {
+      claim = h.claim;
+      among = h.among;
+      by = h.by;
+      unwanted = ended_unwanted ended h.claim.place (sym e)
+          (All-contains (λ c. outcomes_of_table table c.place ≡ None) claims h.claim unknown h.among) h.idle;
+    },
+    λ h. record { claim = h.claim; among = h.among; by = h.by; idle = unwanted_ended ended h.claim.place (sym e) h.unwanted },
+  )
 
 -- ---- what the calls of a tree say
 
@@ -303,8 +331,9 @@ pub walk_of : (tree mid : Guesses) (known : Outcomes) (left : Option ℕ) (walke
     → walked.path.items ≡ marks_of (run tree.graph known left tree.root.search).entries
     → ((run tree.graph known left tree.root.search).end ≢ Leg
     → (asked_at tree.graph tree.root walked.path.items).search ≡ (run tree.graph known left tree.root.search).search)
+    → (asked_at tree.graph tree.root walked.path.items).search ≡ (ask tree.graph (run tree.graph known left tree.root.search).search).search
     → IsWalk mid known left walked (run tree.graph known left tree.root.search)
-walk_of tree mid known left walked same entries used ending state path there = record {
+walk_of tree mid known left walked same entries used ending state path there asked = record {
   is = ap (λ (g : List (List ℕ)). run g known left tree.root.search) (sym same.graph) ∙ ap (λ (a : Asked). run mid.graph known left a.search) (sym same.root);
   entries = entries;
   used = used;
@@ -313,6 +342,9 @@ walk_of tree mid known left walked same entries used ending state path there = r
   path = path;
   there = λ h. ap (λ (g : List (List ℕ)). (asked_at g mid.root walked.path.items).search) same.graph ∙ ap
       (λ (a : Asked). (asked_at tree.graph a walked.path.items).search) same.root ∙ there h;
+  asked = ap (λ (g : List (List ℕ)). (asked_at g mid.root walked.path.items).search) same.graph ∙ ap
+      (λ (a : Asked). (asked_at tree.graph a walked.path.items).search) same.root ∙ asked ∙ ap
+      (λ (g : List (List ℕ)). (ask g (run tree.graph known left tree.root.search).search).search) (sym same.graph);
 }
 
 pub same_run_of : (old : Consumed) (mid : Guesses) → IsSameTree old.tree mid → IsSameRun old (record old { tree = mid })

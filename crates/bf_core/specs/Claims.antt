@@ -1,11 +1,14 @@
 -- The claims of workers, and the workers whose claimed places no path asks for.
-use Rattle.std.specs.Prelude.{◌≡◌, ◌≢◌, ◌↔◌, ℕ, ◌<◌, Bool, true, false, List, [], ◌++◌, length, All, Contains, Option, None}
+use Rattle.std.specs.Prelude.{◌≡◌, ◌≢◌, ◌↔◌, ℕ, ◌<◌, Bool, true, false, List, [], ◌++◌, length, All, Contains, Option, Some, None}
 use Rattle.std.specs.List.{AllPairs}
 use Rattle.bf_search.specs.declared.farm.Claim.{Claim}
+use Rattle.bf_search.specs.declared.farm.Ending.{Ending}
+use Rattle.bf_search.specs.declared.farm.Ending.TheVariants as endings
 use Rattle.bf_search.specs.declared.outcomes.Mark.{Mark}
 use Rattle.bf_search.specs.declared.outcomes.Outcome.{Outcome}
 use Rattle.bf_search.specs.OpenPaths.{is_claimed}
 use Rattle.bf_search.specs.Outcomes.{Outcomes, outcomes_of_table}
+use Rattle.bf_search.specs.Run.{End, Answered, Leg, Open, Aborted}
 use Rattle.bf_spec.specs.Tree.{Guesses}
 use Rattle.bf_spec.specs.Ways.{IsAsked}
 
@@ -36,7 +39,20 @@ pub record IsSameTree (old new : Guesses) : Type 0 where
   pub root : new.root ≡ old.root
   pub kept : KeepsNodes old.paths [] new.paths
 
--- no path asks for the place; where the run has ended there is no path
+-- whether a search has its end: it goes on where it waits for an outcome, and behind the end of a leg
+abbrev pub has_ended : Option Ending → Bool
+has_ended None = false
+has_ended (Some endings.Leg) = false
+has_ended (Some ending) = true
+
+-- a run that ends so goes on: it waits for an outcome, or its leg is over
+abbrev pub GoesOn : End → Type 0
+GoesOn (Open p) = Unit {0}
+GoesOn Leg = Unit {0}
+GoesOn (Answered a) = ⊥
+GoesOn (Aborted p outcome) = ⊥
+
+-- no path asks for the place; where the search has ended there is no path
 abbrev pub IsIdle : Guesses → List (Option Outcome) → Bool → ℕ → Type 0
 IsIdle tree table true p = Unit {0}
 IsIdle tree table false p = ¬ IsAsked tree.graph (outcomes_of_table table) tree.root.search p

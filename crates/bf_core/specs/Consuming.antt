@@ -1,5 +1,5 @@
 -- What a core has consumed: a run, with the tree of guesses from where it stands.
-use Rattle.std.specs.Prelude.{◌≡◌, ◌↔◌, ℕ, List, ◌++◌, length, drop, Contains, Option, Some, None}
+use Rattle.std.specs.Prelude.{◌≡◌, ◌↔◌, ℕ, false, List, ◌++◌, length, drop, Contains, Option, Some, None}
 use Rattle.bf_graph.specs.Graph.{IsGraph}
 use Rattle.bf_search.specs.declared.entries.Entry.{Entry}
 use Rattle.bf_search.specs.declared.farm.Claim.{Claim}
@@ -20,7 +20,7 @@ use Rattle.bf_state.specs.Ends.{marks_of}
 use Rattle.bf_spec.specs.Ways.{IsAsked}
 use Rattle.bf_spec.specs.declared.follow.Walked.{Walked}
 use Rattle.bf_core.specs.declared.consuming.Consumed.{Consumed}
-use Rattle.bf_core.specs.Claims.{AreClaims, KeepsNodes, IsSameTree}
+use Rattle.bf_core.specs.Claims.{AreClaims, KeepsNodes, IsSameTree, has_ended}
 
 -- the marks that were made since, by the entries
 abbrev pub marks_since : List Entry → List Entry → List Mark
@@ -31,6 +31,10 @@ pub record IsAtRoot (setting : Setting) (run : Run) (core : Consumed) : Type 0 w
   pub search : core.tree.root.search ≡ run.search
   pub left : core.left ≡ left_after (leg_of setting.leg) (length run.used)
 
+-- the root of the tree has asked, from the search that the run reached on: also where a leg is over
+abbrev pub HasAsked : Consumed → Type 0
+HasAsked core = core.tree.root.search ≡ (ask core.tree.graph core.state.search).search
+
 -- This is what a run has come to, from the first search of a session.
 pub record IsRun (setting : Setting) (first : Session) (run : Run) (core : Consumed) : Type 0 where
   pub graph : core.tree.graph ≡ setting.graph
@@ -39,6 +43,7 @@ pub record IsRun (setting : Setting) (first : Session) (run : Run) (core : Consu
   pub state : core.state ≡ with_search first run.search
   pub ending : Tells core.ending run.end
   pub waits : (p : ℕ) → run.end ≡ Open p → IsAtRoot setting run core
+  pub asked : HasAsked core
 
 -- the run on the outcomes of a table
 abbrev pub IsRunOn : Setting → Session → List (Option Outcome) → Consumed → Type 0
@@ -102,7 +107,7 @@ pub record IsUnwanted (core : Consumed) (table : List (Option Outcome)) (claims 
   pub claim : Claim
   pub among : Contains claims claim
   pub by : claim.worker ≡ worker
-  pub unwanted : core.ending ≡ None → ¬ IsAsked core.tree.graph (outcomes_of_table table) core.state.search claim.place
+  pub unwanted : has_ended core.ending ≡ false → ¬ IsAsked core.tree.graph (outcomes_of_table table) core.state.search claim.place
 
 -- these are the workers whose claimed place no path asks for
 abbrev pub AreUnwanted : Consumed → List (Option Outcome) → List Claim → List ℕ → Type 0

@@ -22,7 +22,7 @@ use Rattle.bf_core.specs.declared.answers.ApplyFault.TheVariants.{Illegal}
 use Rattle.bf_core.specs.declared.answers.Pick.{Pick}
 use Rattle.bf_core.specs.declared.answers.Pick.TheVariants.{Work}
 use Rattle.bf_core.specs.declared.consuming.Consumed.{Consumed}
-use Rattle.bf_core.specs.Claims.{IsFree, KeepsNodes}
+use Rattle.bf_core.specs.Claims.{IsFree, KeepsNodes, has_ended}
 use Rattle.bf_core.specs.Consuming.{marks_since}
 
 -- The graph, the session and the length of the legs that it started with; its table and claims; the entries, the
@@ -106,9 +106,9 @@ claims_after claims worker other = claims
 abbrev pub best_path : Machine → Option OpenPath
 best_path core = best_open core.graph (outcomes_of_table core.table) core.claims core.state.search
 
--- some path asks for the place; where there is an ending there is no path
+-- some path asks for the place; where the search has ended there is no path, and behind a leg it goes on
 pub record IsWanted (core : Machine) (p : ℕ) : Type 0 where
-  pub goes_on : core.ending ≡ None
+  pub goes_on : has_ended core.ending ≡ false
   pub asked : IsAsked core.graph (outcomes_of_table core.table) core.state.search p
 
 -- a worker whose claimed place no path asks for

@@ -4,9 +4,9 @@ ghost use Rattle.std.specs.List.Sorted.{IsStrictlyIncreasing};
 ghost use Rattle.bf_search.specs.Farm.{has_claim, stands, without};
 ghost use Rattle.bf_search.specs.OpenPaths.{is_claimed};
 ghost use Rattle.bf_search.specs.Outcomes.{outcomes_of_table};
-ghost use Rattle.bf_core.specs.Claims.{IsApart, IsFree, IsIdle, AreIdle, IsSameTree};
+ghost use Rattle.bf_core.specs.Claims.{IsApart, IsFree, IsIdle, AreIdle, IsSameTree, has_ended};
 
-use bf_search::Claim;
+use bf_search::{Claim, Ending};
 use bf_spec::{SpecTree, Table};
 use std::alloc::{AllocError, Global};
 
@@ -70,7 +70,17 @@ pub(crate) fn end_claim(claims: &mut Vec<Claim>, worker: u32)
     claims.retain(|claim| claim.worker != worker);
 }
 
-/// Whether no path asks for a place. Where the run has ended there is no path. No node is lost.
+/// Whether a search has its end: it goes on where it waits for an outcome, and behind the end of a leg.
+pub(crate) fn has_ended(ending: &Option<Ending>) -> bool
+    ensures { result ≡ has_ended ending.now }
+{
+    match ending {
+        None | Some(Ending::Leg) => false,
+        Some(_) => true,
+    }
+}
+
+/// Whether no path asks for a place. Where the search has ended there is no path. No node is lost.
 fn is_idle(tree: &mut SpecTree, table: &Table, place: u32, ended: bool) -> Result<bool, AllocError>
     requires { place < length tree.old.graph }
     ensures idle { IfOk result (λ idle. IsTrue idle ↔ IsIdle tree.old table.now ended place) }

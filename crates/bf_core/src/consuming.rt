@@ -13,10 +13,10 @@ ghost use Rattle.bf_search.specs.OpenPaths.{OpenPath, best_open};
 ghost use Rattle.bf_state.specs.Session.{Session};
 ghost use Rattle.bf_spec.specs.Tree.{HasNode};
 ghost use Rattle.bf_core.specs.Claims.{AreClaims, KeepsNodes, IsSameTree};
-ghost use Rattle.bf_core.specs.Consuming.{IsJoinedTo, IsSameRun, Begins, Consumes, GivesBest};
+ghost use Rattle.bf_core.specs.Consuming.{IsJoinedTo, IsSameRun, Begins, Consumes, GivesBest, HasAsked};
 ghost use Rattle.bf_core.specs.Consuming.{AreUnwanted, KeepsNodesAhead, HasNodeOfBest};
 
-use crate::claims::withdrawn;
+use crate::claims::{has_ended, withdrawn};
 use bf_search::{Claim, Ending, Entry, push_warnings};
 use bf_spec::{SpecTree, Table, Walked};
 use bf_state::State;
@@ -78,6 +78,7 @@ impl<'r> Consumed<'r> {
         table: &Table,
         claims: &[Claim],
     ) -> Result<Vec<u32>, AllocError>
+        requires asked { HasAsked self.old }
         requires len { length table.now ≡ length self.old.tree.graph }
         requires claims { AreClaims table.now claims.now }
         ensures run { OnOk result (Consumes self.old table.now self.new) }
@@ -88,10 +89,11 @@ impl<'r> Consumed<'r> {
         ensures err { OnErr result (IsSameRun self.old self.new) }
     {
         if self.ending.is_some() {
-            return withdrawn(alloc, &mut self.tree, table, claims, true);
+            let ended = has_ended(&self.ending);
+            return withdrawn(alloc, &mut self.tree, table, claims, ended);
         }
         let walked = self.tree.run(table, self.left)?;
-        let ended = walked.ending.is_some();
+        let ended = has_ended(&walked.ending);
         let workers = withdrawn(alloc, &mut self.tree, table, claims, ended)?;
         self.commit(walked)?;
         Ok(workers)

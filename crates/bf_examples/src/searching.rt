@@ -18,6 +18,7 @@ use std::process::{Processes, SystemProcess};
 use std::sync::Wait;
 use std::test::Fail;
 use std::thread::Threads;
+use std::time::Clock;
 
 /// A tester that counts the tests that another one makes.
 #[derive(Drop)]
@@ -97,7 +98,7 @@ fn report_by<R, T>(
     tester: &mut T,
 ) -> Result<Report, NameFault>
 where
-    R: Threads + Wait + Processes<Started = SystemProcess> + Eprint + Sync,
+    R: Threads + Wait + Processes<Started = SystemProcess> + Clock + Eprint + Sync,
     T: Tester,
     requires { T.is_split tester.old ≡ false }
 {

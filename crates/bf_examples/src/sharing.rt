@@ -21,6 +21,7 @@ use std::process::{Processes, SystemProcess};
 use std::sync::Wait;
 use std::test::Fail;
 use std::thread::Threads;
+use std::time::Clock;
 
 /// A tester that starts a script of a shell, in which `$0` is the name of the commit.
 fn tester_of(alloc: Global, script: &[u8]) -> Result<ProcessTester, AllocError>
@@ -94,7 +95,7 @@ fn found_by<R, T>(
     testers: &mut [T],
 ) -> Result<Bytes, NameFault>
 where
-    R: Threads + Wait + Processes<Started = SystemProcess> + Eprint + Sync,
+    R: Threads + Wait + Processes<Started = SystemProcess> + Clock + Eprint + Sync,
     T: Tester,
     requires some { 1 ≤ workers }
     requires most { workers ≤ 64 }

@@ -3,8 +3,6 @@ use Rattle.std.proofs.Common.{◌≡◌, ◌↔◌, ℕ, Bool, true, false, List
 use Rattle.std.specs.Option.{is_some}
 use Rattle.bf_search.specs.declared.farm.Ending.{Ending}
 use Rattle.bf_search.specs.Outcomes.{outcomes_of_table}
-use Rattle.bf_search.specs.Run.{End}
-use Rattle.bf_spec.specs.Walks.{Tells}
 use Rattle.bf_spec.specs.Ways.{IsAsked}
 use Rattle.bf_state.specs.Runs.{is_open}
 use Rattle.bf_state.specs.Session.{Session}
@@ -12,6 +10,7 @@ use Rattle.bf_core.specs.declared.answers.Pick.{Pick}
 use Rattle.bf_core.specs.declared.answers.Pick.TheVariants.{Work, NotYet, Ended}
 use Rattle.bf_core.specs.Machine.{Machine, setting_of, farm_of, run_of, IsSameButNodes, IsAllTaken, ClaimsWork, LeavesPick, IsConsumed}
 use Rattle.bf_core.specs.Machine as machine
+use Rattle.bf_core.proofs.Beside.{goes_told, told_goes}
 use Rattle.bf_farm.specs.Cores.{view_of, Picks, IsWanted, AreWithdrawn}
 
 pub same_view : (old new : Machine) → IsSameButNodes old new → view_of new ≡ view_of old
@@ -36,22 +35,15 @@ picks_of old new worker Ended goes waits work leaves taken ended = absurd (none_
 
 -- ---- the workers whose tests nobody waits for
 
-none_told : (o : Option Ending) (end : End) → Tells o end → is_open end ≡ true → o ≡ None
-none_told None end told waits = refl
-none_told (Some ending) end told waits = cc (told.1, waits)
-
-told_none : (o : Option Ending) (end : End) → Tells o end → o ≡ None → is_open end ≡ true
-told_none o end told none = subst (λ (x : Option Ending). Tells x end) none told
-
 wanted_seen : (core : Machine) (p : ℕ) → IsConsumed core → machine.IsWanted core p → IsWanted (view_of core) p
 wanted_seen core p consumed wanted = record {
-  waits = told_none core.ending (run_of core).end consumed.ending wanted.goes_on;
+  goes_on = goes_told core.ending (run_of core).end consumed.ending wanted.goes_on;
   asked = subst (λ (s : Session). IsAsked core.graph (outcomes_of_table core.table) s.search p) consumed.state wanted.asked;
 }
 
 wanted_again : (core : Machine) (p : ℕ) → IsConsumed core → IsWanted (view_of core) p → machine.IsWanted core p
 wanted_again core p consumed wanted = record {
-  goes_on = none_told core.ending (run_of core).end consumed.ending wanted.waits;
+  goes_on = told_goes core.ending (run_of core).end consumed.ending wanted.goes_on;
   asked = subst (λ (s : Session). IsAsked core.graph (outcomes_of_table core.table) s.search p) (sym consumed.state) wanted.asked;
 }
 

@@ -12,6 +12,7 @@ use Rattle.bf_state.specs.Session.{Session, with_search}
 use Rattle.bf_core.specs.declared.answers.Pick.{Pick}
 use Rattle.bf_core.specs.declared.answers.Pick.TheVariants.{Work, NotYet, Ended}
 use Rattle.bf_core.specs.declared.answers.Withdrawn.{Withdrawn}
+use Rattle.bf_core.specs.Claims.{GoesOn}
 use Rattle.bf_core.specs.Machine.{Machine, setting_of, farm_of}
 
 -- a run from the search of a session
@@ -50,9 +51,9 @@ Picks old new worker (Work p) = step old.setting old.farm (events.Claim worker p
 Picks old new worker NotYet = (new.farm ≡ old.farm) × (best_place old.setting old.farm ≡ None) × (is_open (run_of old).end ≡ true)
 Picks old new worker Ended = (new.farm ≡ old.farm) × (is_open (run_of old).end ≡ false)
 
--- where the run waits for an outcome, some path asks for the place
+-- where the run waits for an outcome, or its leg is over, some path asks for the place
 pub record IsWanted (core : CoreView) (p : ℕ) : Type 0 where
-  pub waits : is_open (run_of core).end ≡ true
+  pub goes_on : GoesOn (run_of core).end
   pub asked : IsAsked core.setting.graph (outcomes_of_table core.farm.table) (run_of core).search p
 
 -- a worker whose claimed place no path asks for

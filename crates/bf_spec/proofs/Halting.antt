@@ -12,7 +12,7 @@ use Rattle.bf_search.specs.declared.outcomes.Mark.{Mark}
 use Rattle.bf_search.specs.declared.outcomes.Outcome.{Outcome}
 use Rattle.bf_search.specs.Outcomes.{Outcomes}
 use Rattle.bf_search.specs.Run.{End, Answered, Leg, Open, Aborted, Run, ended, run}
-use Rattle.bf_search.specs.State.{Asked, mark}
+use Rattle.bf_search.specs.State.{Asked, ask, mark}
 use Rattle.bf_state.specs.Session.{Session, with_search}
 use Rattle.bf_spec.specs.declared.follow.Halt.TheVariants as halts
 use Rattle.bf_spec.specs.declared.follow.Trail.{Trail}
@@ -22,8 +22,8 @@ use Rattle.bf_spec.specs.Guessed.{asked_at}
 use Rattle.bf_spec.specs.Nodes.{path_of, asked_of, IsNode, IsTree, AreNodes}
 use Rattle.bf_state.specs.Ends.{marks_of}
 use Rattle.bf_spec.specs.Walks.{answer_entries, is_over, run_below, behind, Tells, HaltsAt, IsEndedAt, IsOverAt, IsWalked}
-use Rattle.bf_spec.proofs.Growing.{asked_within, read_as}
-use Rattle.bf_spec.proofs.Walking.{NodeFacts, node_facts}
+use Rattle.bf_spec.proofs.Growing.{asked_within, read_as, settled_at}
+use Rattle.bf_spec.proofs.Walking.{NodeFacts, node_facts, child_asks, child_search}
 use Rattle.bf_spec.proofs.Following.{marks_answer, run_node, run_over}
 use Rattle.bf_spec.proofs.Rerooting.{root_node}
 
@@ -48,6 +48,7 @@ walked_here graph session root nodes whole walked node es us end t among is mark
       path = path ∙ marks ∙ ap marks_of (sym (append_nil es));
       node = record { node = node; among = among; has = sym path };
       there = λ on. ap (λ (a : Asked). a.search) asked;
+      asked = sym (settled_at graph root walked.path.items t.settled).search ∙ ap (λ (a : Asked). (ask graph a.search).search) asked;
       waits = λ p e. ap (λ (a : Asked). a.step.ask) asked ∙ asks p e;
     })
   where
@@ -77,10 +78,10 @@ walked_answer graph session root nodes whole walked node es us t among is marks 
 pub walked_over : (graph : List (List ℕ)) (session : Session) (root : Asked) (nodes : List Node) (whole : Run) (walked : Walked) (from to : Node) (m : Mark)
     (p : ℕ) (es : List Entry) (us : List (ℕ × Outcome))
     → IsTree graph session root nodes → Contains nodes from → Contains nodes to → whole ≡ behind es us (ended [] (mark from.state.search m p) Leg)
-    → path_of to ≡ marks_of es
+    → path_of to ≡ marks_of es → from.step.ask ≡ Test p → path_of to ≡ path_of from ++ m ∷ []
     → walked.entries.items ≡ es → walked.used.items ≡ us → Tells walked.ending Leg → walked.state ≡ with_search from.state (mark from.state.search m p)
     → walked.path.items ≡ path_of to → IsWalked graph session root nodes whole walked
-walked_over graph session root nodes whole walked from to m p es us t one other is marks entries used ending state path =
+walked_over graph session root nodes whole walked from to m p es us t one other is marks asks further entries used ending state path =
     subst (λ (r : Run). IsWalked graph session root nodes r walked) (sym is)
     (record {
       entries = entries ∙ sym (append_nil es);
@@ -90,11 +91,17 @@ walked_over graph session root nodes whole walked from to m p es us t one other 
       path = path ∙ marks ∙ ap marks_of (sym (append_nil es));
       node = record { node = to; among = other; has = sym path };
       there = λ on. absurd (on refl);
+      asked = ap (λ (ms : List Mark). (asked_at graph root ms).search) path ∙ ap (λ (a : Asked). a.search) (sym below.asked)
+          ∙ child_search graph from to m p
+          (child_asks graph nodes from to m (record { session = session; root = root; tree = t }) one other further) asks;
       waits = λ q e. absurd (not_open q e);
     })
   where
     here : IsNode graph session root from
     here = All-contains (IsNode graph session root) nodes from t.each one
+
+    below : IsNode graph session root to
+    below = All-contains (IsNode graph session root) nodes to t.each other
 
     not_open : (q : ℕ) → Leg ≡ Open q → ⊥
     not_open q e = cc
@@ -166,7 +173,12 @@ module _ (graph : List (List ℕ)) (session : Session) (root : Asked) (nodes : L
         walked_over graph session root nodes whole walked from to m p trail.entries.items trail.used.items t (i, at.0, sym e) (j, at.1, sym f)
         (subst (λ (n : Node). whole ≡ behind trail.entries.items trail.used.items (ended [] (mark n.state.search m p) Leg)) (sym e) (at.2 from).0)
         (subst (λ (n : Node). path_of n ≡ marks_of trail.entries.items) (sym f) (at.2 to).1)
+        (subst (λ (n : Node). n.step.ask ≡ Test p) (sym e) (at.2 from).2) further
         (ap (λ v. v.items) is.entries) (ap (λ v. v.items) is.used) (subst (λ (o : Option Ending). Tells o Leg) (sym is.ending) (refl, refl)) is.state is.path
+      where
+        -- the two nodes as both are read with one other past the end
+        further : path_of to ≡ path_of from ++ m ∷ []
+        further = ap path_of (sym (read_as nodes j to from at.1 f)) ∙ (at.2 from).3 ∙ ap (λ (n : Node). path_of n ++ m ∷ []) (sym e)
 
 -- the place of a leg's last mark
 pub over_within : (graph : List (List ℕ)) (nodes : List Node) (whole : Run) (es : List Entry) (us : List (ℕ × Outcome)) (i j p : ℕ) (m : Mark) (node : Node)

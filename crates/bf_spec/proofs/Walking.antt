@@ -138,7 +138,7 @@ child_asks graph nodes parent child m t above below is =
     other.asked ∙ ap (λ (p : List Mark). asked_at graph t.root p) is ∙ asked_at-append graph t.root (path_of parent) (m ∷ []) ∙ ap
     (λ (a : Asked). next_asked graph a m) (sym one.asked)
 
-child_search : (graph : List (List ℕ)) (parent child : Node) (m : Mark) (p : ℕ) → asked_of child ≡ next_asked graph (asked_of parent) m
+pub child_search : (graph : List (List ℕ)) (parent child : Node) (m : Mark) (p : ℕ) → asked_of child ≡ next_asked graph (asked_of parent) m
     → parent.step.ask ≡ Test p → child.state.search ≡ (ask graph (mark parent.state.search m p)).search
 child_search graph parent child m p h asks = ap (λ (a : Asked). a.search) h ∙ ap (λ (a : Ask). (ask graph (marked_by parent.state.search m a)).search) asks
 

@@ -1,5 +1,5 @@
 -- The ways from node to node.
-use Rattle.std.specs.Prelude.{◌≡◌, ℕ, ◌<◌, IfSome, List, length, Option, Some, None}
+use Rattle.std.specs.Prelude.{ℕ, ◌<◌, IfSome, List, length, Option, Some, None}
 use Rattle.std.specs.List.{slice_index_or}
 use Rattle.bf_search.specs.declared.outcomes.Mark.{Mark}
 use Rattle.bf_search.specs.declared.outcomes.Mark.TheVariants.{Good, Bad, Skip}

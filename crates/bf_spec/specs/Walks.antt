@@ -14,7 +14,7 @@ use Rattle.bf_search.specs.declared.outcomes.Verdict.TheVariants.{Mark as MarkOf
 use Rattle.bf_search.specs.Farm.{end_of}
 use Rattle.bf_search.specs.Outcomes.{Outcomes, outcomes_of_table, verdict_of}
 use Rattle.bf_search.specs.Run.{End, Answered, Leg, Open, Aborted, Run, ended, after_step, run}
-use Rattle.bf_search.specs.State.{Asked, mark}
+use Rattle.bf_search.specs.State.{Asked, ask, mark}
 use Rattle.bf_state.specs.Runs.{is_open}
 use Rattle.bf_state.specs.Session.{Session, with_search}
 use Rattle.bf_spec.specs.declared.follow.Halt.{Halt}
@@ -108,7 +108,8 @@ HaltsAt nodes entries used (halts.Aborted i p outcome) run = (i < length nodes) 
     (run ≡ behind entries used (ended [] node.state.search (Aborted p outcome))) × (path_of node ≡ marks_of entries))
 HaltsAt nodes entries used (halts.Over i j m p) run = (i < length nodes) × (j < length nodes) × ((d : Node) →
     (run ≡ behind entries used (ended [] (mark (slice_index_or nodes i d).state.search m p) Leg))
-    × (path_of (slice_index_or nodes j d) ≡ marks_of entries) × ((slice_index_or nodes i d).step.ask ≡ Test p))
+    × (path_of (slice_index_or nodes j d) ≡ marks_of entries) × ((slice_index_or nodes i d).step.ask ≡ Test p)
+    × (path_of (slice_index_or nodes j d) ≡ path_of (slice_index_or nodes i d) ++ m ∷ []))
 
 -- a run halts there, where this was made of it on its way
 abbrev pub HaltsWith : List Node → Trail → Halt → Run → Type 0
@@ -156,6 +157,10 @@ HasMarks run walked = walked.path.items ≡ marks_of run.entries
 abbrev pub IsThere : List (List ℕ) → Asked → Run → Walked → Type 0
 IsThere graph root run walked = run.end ≢ Leg → (asked_at graph root walked.path.items).search ≡ run.search
 
+-- the end of the walked path has asked, from the search of a run on: also where a leg was over
+abbrev pub HasAsked : List (List ℕ) → Asked → Run → Walked → Type 0
+HasAsked graph root run walked = (asked_at graph root walked.path.items).search ≡ (ask graph run.search).search
+
 -- the end of the walked path asks for the place whose outcome a run waits for
 abbrev pub IsWaiting : List (List ℕ) → Asked → Run → Walked → Type 0
 IsWaiting graph root run walked = (p : ℕ) → run.end ≡ Open p → (asked_at graph root walked.path.items).step.ask ≡ Test p
@@ -169,6 +174,7 @@ pub record IsWalked (graph : List (List ℕ)) (session : Session) (root : Asked)
   pub path : HasMarks run walked
   pub node : HasPath nodes walked.path.items
   pub there : IsThere graph root run walked
+  pub asked : HasAsked graph root run walked
   pub waits : IsWaiting graph root run walked
 
 -- what was walked is each run that halts there

@@ -10,7 +10,8 @@ ghost use Rattle.bf_state.specs.Session.{with_search};
 ghost use Rattle.bf_spec.specs.Nodes.{path_of, HasPath, AreNodes, Extends, IsBest, known_by, RootAsks};
 ghost use Rattle.bf_spec.specs.Nodes.{MovesRoot, KeepsPathsBelow, LacksGuess};
 ghost use Rattle.bf_spec.specs.Paths.{place_in};
-ghost use Rattle.bf_spec.specs.Walks.{HasEntries, HasUsed, HasEnding, HasState, HasMarks, IsThere, IsWaiting, WalksRun};
+ghost use Rattle.bf_spec.specs.Walks.{HasEntries, HasUsed, HasEnding, HasState, HasMarks};
+ghost use Rattle.bf_spec.specs.Walks.{IsThere, HasAsked, IsWaiting, WalksRun};
 ghost use Rattle.bf_spec.specs.Tree.{HasNode, HasBeginnings, HasOpenPath, KeepsNodesBelow, LacksNode, MovesSession};
 ghost use Rattle.bf_spec.specs.Tree.{best_of, best_place, run_of, IsAskedIn, TellsIfAsked, paths_of, root_of};
 
@@ -125,6 +126,8 @@ impl<'r> SpecTree<'r> {
         ensures node { IfOk result (λ walked. HasNode self.new walked.path.items) }
         ensures there { IfOk result
             (IsThere self.old.graph self.old.root (run_of self.old table.now left)) }
+        ensures asked { IfOk result
+            (HasAsked self.old.graph self.old.root (run_of self.old table.now left)) }
         ensures waits { IfOk result
             (IsWaiting self.old.graph self.old.root (run_of self.old table.now left)) }
         ensures kept { (path : List MarkValue) → HasNode self.old path → HasNode self.new path }

@@ -6,3 +6,4 @@ pub mod Replies
 pub mod Scripts
 pub mod Shown
 pub mod Tests
+pub mod Waits

@@ -39,7 +39,7 @@ pub struct Tested {
 pub enum TestReply {
     /// The test ended so. The tester has this answer from now on.
     Done(Outcome),
-    /// The request was withdrawn before its test began.
+    /// The request was withdrawn, before its test began or while it ran.
     Dropped,
     /// The test could not be made. The tester's count of faults rose.
     Failed,

@@ -11,6 +11,7 @@ mod process;
 mod script;
 mod stop;
 mod tester;
+mod waiting;
 mod words;
 
 pub use answer::{Answer, TestReply, Tested};

@@ -4,9 +4,10 @@ ghost use Rattle.bf_search.specs.declared.outcomes.Outcome.{Outcome};
 ghost use Rattle.bf_tester.specs.declared.answer.Answer.{Answer};
 ghost use Rattle.bf_tester.specs.Grounds.{Ground};
 ghost use Rattle.bf_tester.specs.Looks.{SawRaised};
-ghost use Rattle.bf_tester.specs.Replies.{DropsByOneLook, is_dropped};
+ghost use Rattle.bf_tester.specs.Replies.{is_dropped};
 ghost use Rattle.bf_tester.specs.Shown.{ShowsSame};
 ghost use Rattle.bf_tester.specs.Tests.{NotesReply, HasCauseOf, KeepsManner, KeepsFaults, AreOfOneKind, tested_after, tested_by};
+ghost use Rattle.bf_tester.specs.Waits.{DropsByLooks, LooksOn, is_withdrawn};
 
 use crate::answer::{Answer, TestReply, Tested};
 use crate::host::Host;
@@ -14,14 +15,17 @@ use crate::notes::Notes;
 use crate::plan::read;
 use crate::stop::StopView;
 use crate::tester::Tester;
+use crate::waiting::{wait_alone, wait_for};
 use bf_io::Word;
 use bf_oid::{Oid, oid_hex};
 use bf_search::Outcome;
 use std::alloc::{AllocError, Global};
-use std::process::{Command, Processes, Stdio};
+use std::process::{Command, ExitStatus, Processes, Stdio};
+use std::sync::Wait;
+use std::time::Clock;
 
-/// Why a command gave no outcome.
-enum RunFault {
+/// Why a test by a command could not be made.
+pub(crate) enum RunFault {
     /// It could not be started or waited for. Where the system would not start it, this is the number of its
     /// reason.
     Failed(Option<i32>),
@@ -36,7 +40,9 @@ impl From<AllocError> for RunFault {
 }
 
 /// A tester that starts its command with the 40 digits of the commit's name as the last argument, and
-/// waits for it. The command has a null standard input and output, and inherits the standard error.
+/// waits for it. The command has a null standard input and output, and inherits the standard error. Where the
+/// request is withdrawn meanwhile the command is asked to end, and after ten seconds it is killed; what it has
+/// started is its own to end. A tester that is patient ends no command.
 #[derive(Drop)]
 pub struct ProcessTester {
     alloc: Global,
@@ -46,6 +52,7 @@ pub struct ProcessTester {
     failed: Option<u32>,
     refusal: Option<i32>,
     is_silent: bool,
+    is_patient: bool,
 }
 
 impl ProcessTester {
@@ -69,6 +76,7 @@ impl ProcessTester {
             failed: None,
             refusal: None,
             is_silent: false,
+            is_patient: false,
         }
     }
 
@@ -80,6 +88,18 @@ impl ProcessTester {
     {
         ProcessTester {
             is_silent: true,
+            ..self
+        }
+    }
+
+    /// The same tester, which waits for each command from now on, also where its request is withdrawn.
+    pub fn patient(self) -> ProcessTester
+        ensures told { ⟦<ProcessTester as Tester>⟧.told result ≡ None }
+        ensures shown { ShowsSame ⟦<ProcessTester as Tester>⟧ self result }
+        ensures tested { tested_by result ≡ tested_by self }
+    {
+        ProcessTester {
+            is_patient: true,
             ..self
         }
     }
@@ -105,8 +125,9 @@ impl ProcessTester {
 
     /// Tests as `test` does, in a folder that has the files of the tree of this name: the command gets the
     /// folder's name and the commit's as its last two arguments. A test that was done is also noted with
-    /// its tree.
-    pub fn test_with<R: Processes + Eprint>(
+    /// its tree. Once a test was dropped its command has ended, unless the system refused to end it.
+    #[tactic(auto, using(crate::proofs::Looking::looks_and_more, crate::proofs::Looking::looks_saw))]
+    pub fn test_with<R: Wait + Processes + Clock + Eprint>(
         &mut self,
         rt: &R,
         place: u32,
@@ -117,7 +138,7 @@ impl ProcessTester {
     ) -> TestReply
         ensures noted { NotesReply ⟦<ProcessTester as Tester>⟧ self.old self.new place name result }
         ensures tested { tested_by self.new ≡ tested_after result (tested_by self.old) place tree }
-        ensures looked { DropsByOneLook stop.old stop.new result }
+        ensures looked { DropsByLooks stop.old stop.new result }
         ensures dropped { result ≡ TestReply.Dropped → SawRaised stop.new }
         ensures bare { stop.new.bare ≡ stop.old.bare }
         ensures cause { HasCauseOf ⟦<ProcessTester as Tester>⟧ self.old self.new result }
@@ -130,7 +151,7 @@ impl ProcessTester {
         if self.tested.reserve(1).is_err() {
             return TestReply::NoMemory;
         }
-        let reply = self.test_on(rt, place, name, Some(folder));
+        let reply = self.test_on(rt, place, name, Some(folder), stop);
         if let TestReply::Done(_) = reply {
             self.tested.push_reserved(Tested { place, tree });
         }
@@ -162,6 +183,7 @@ impl ProcessTester {
             failed,
             refusal,
             is_silent,
+            is_patient,
         } = other;
         match self.notes.absorb(notes) {
             Ok(()) => {
@@ -176,30 +198,33 @@ impl ProcessTester {
                 failed,
                 refusal,
                 is_silent,
+                is_patient,
             }),
         }
     }
 
     /// Tests the commit of this name, in a folder where one is given. A command that cannot be started or
-    /// waited for fails.
-    fn test_on<R: Processes + Eprint>(
+    /// waited for fails. Where a look finds the flag raised the command is ended.
+    fn test_on<R: Wait + Processes + Clock + Eprint>(
         &mut self,
         rt: &R,
         place: u32,
         name: Oid,
         folder: Option<&[u8]>,
+        stop: &mut StopView<'_>,
     ) -> TestReply
         ensures noted { NotesReply ⟦<ProcessTester as Tester>⟧ self.old self.new place name result }
         ensures tested { self.new.tested ≡ self.old.tested }
-        ensures undropped { is_dropped result ≡ false }
+        ensures looks { LooksOn stop.old stop.new (is_dropped result) }
         ensures cause { HasCauseOf ⟦<ProcessTester as Tester>⟧ self.old self.new result }
         ensures manner { KeepsManner ⟦<ProcessTester as Tester>⟧ self.old self.new }
     {
-        match self.run_on(rt, name, folder) {
-            Ok(outcome) => {
+        match self.run_on(rt, name, folder, stop) {
+            Ok(Some(outcome)) => {
                 let outcome = read(self.notes.is_lenient(), outcome);
                 self.notes.done(place, name, outcome)
             }
+            Ok(None) => TestReply::Dropped,
             Err(RunFault::Failed(refusal)) => {
                 self.faults = self.faults.saturating_add(1);
                 self.failed = Some(place);
@@ -210,38 +235,66 @@ impl ProcessTester {
         }
     }
 
-    /// Starts the command on the commit of this name, and tells of it where that is asked.
-    fn run_on<R: Processes + Eprint>(
+    /// Starts the command on the commit of this name, and tells of it where that is asked. There is no outcome
+    /// exactly where a look found the flag raised.
+    #[tactic(auto, using(crate::proofs::Looking::looks_at_none))]
+    fn run_on<R: Wait + Processes + Clock + Eprint>(
         &self,
         rt: &R,
         name: Oid,
         folder: Option<&[u8]>,
-    ) -> Result<Outcome, RunFault> {
+        stop: &mut StopView<'_>,
+    ) -> Result<Option<Outcome>, RunFault>
+        ensures { LooksOn stop.old stop.new (is_withdrawn result) }
+    {
         let mut digits = [0; 40];
         oid_hex(name, &mut digits);
         let Ok(name) = std::str::from_utf8(digits.as_slice()) else {
             return Err(RunFault::Failed(None));
         };
-        let words = self.notes.command();
         if self.is_silent {
-            return run_command(rt, self.alloc, words, folder, name);
+            return self.run_command(rt, folder, name, stop);
         }
         tell_start(rt, name);
-        let outcome = run_command(rt, self.alloc, words, folder, name)?;
+        let outcome = self.run_command(rt, folder, name, stop)?;
         tell_end(rt, name, outcome);
         Ok(outcome)
     }
+
+    /// Starts the command with the name of a folder, where one is given, and a last argument, and waits for
+    /// its end. Where a look finds the flag raised it is ended, and exactly there it has no outcome.
+    #[tactic(auto, using(crate::proofs::Looking::looks_at_none))]
+    fn run_command<R: Wait + Processes + Clock>(
+        &self,
+        rt: &R,
+        folder: Option<&[u8]>,
+        last: &str,
+        stop: &mut StopView<'_>,
+    ) -> Result<Option<Outcome>, RunFault>
+        ensures { LooksOn stop.old stop.new (is_withdrawn result) }
+    {
+        let mut command = command_of(self.alloc, self.notes.command(), folder, last)?;
+        let mut child = match command.spawn(rt) {
+            Ok(child) => child,
+            Err(error) => return Err(RunFault::Failed(error.raw_os_error())),
+        };
+        if self.is_patient || stop.is_bare() {
+            return Ok(Some(outcome_of(wait_alone(&mut child)?)?));
+        }
+        match wait_for(rt, self.alloc, &mut child, stop)? {
+            Some(status) => Ok(Some(outcome_of(status)?)),
+            None => Ok(None),
+        }
+    }
 }
 
-/// Starts a command with the name of a folder, where one is given, and a last argument, and waits for its
-/// end.
-fn run_command<R: Processes>(
-    rt: &R,
+/// The command of these words, with the name of a folder, where one is given, and a last argument.
+fn command_of(
     alloc: Global,
     words: &[Word],
     folder: Option<&[u8]>,
     last: &str,
-) -> Result<Outcome, RunFault> {
+) -> Result<Command, RunFault> {
     let Some((program, others)) = words.split_first() else {
         return Err(RunFault::Failed(None));
     };
@@ -254,13 +307,11 @@ fn run_command<R: Processes>(
     }
     command.arg(last)?;
     command.stdin(Stdio::null()).stdout(Stdio::null());
-    let mut child = match command.spawn(rt) {
-        Ok(child) => child,
-        Err(error) => return Err(RunFault::Failed(error.raw_os_error())),
-    };
-    let Ok(status) = child.wait() else {
-        return Err(RunFault::Failed(None));
-    };
+    Ok(command)
+}
+
+/// The outcome of a command that ended so.
+fn outcome_of(status: ExitStatus) -> Result<Outcome, RunFault> {
     match status.code() {
         None => Ok(Outcome::Killed),
         Some(code) => match u8::try_from(code) {
@@ -284,10 +335,11 @@ fn tell_start<R: Eprint>(rt: &R, name: &str) {
 }
 
 /// Tells the end of a test on the standard error.
-fn tell_end<R: Eprint>(rt: &R, name: &str, outcome: Outcome) {
+fn tell_end<R: Eprint>(rt: &R, name: &str, outcome: Option<Outcome>) {
     let _ = match outcome {
-        Outcome::Exit(status) => eprintln!(rt; "{name} exit {status}"),
-        Outcome::Killed => eprintln!(rt; "{name} killed"),
+        Some(Outcome::Exit(status)) => eprintln!(rt; "{name} exit {status}"),
+        Some(Outcome::Killed) => eprintln!(rt; "{name} killed"),
+        None => eprintln!(rt; "{name} dropped"),
     };
 }
 
@@ -314,10 +366,11 @@ impl Tester for ProcessTester {
         self.notes.prepare(words, lenient)
     }
 
-    /// Looks at the flag once, and is dropped exactly where that look finds it raised. A command that
-    /// cannot be started or waited for fails.
+    /// Looks at the flag before the command starts and while it runs, and is dropped exactly where one of
+    /// these looks finds it raised. A command that cannot be started or waited for fails.
+    #[tactic(auto, using(crate::proofs::Looking::looks_and_more, crate::proofs::Looking::looks_saw))]
     fn test<R: Host>(&mut self, rt: &R, place: u32, name: Oid, stop: &mut StopView<'_>) -> TestReply
-        ensures looked { DropsByOneLook stop.old stop.new result }
+        ensures looked { DropsByLooks stop.old stop.new result }
         ensures noted { NotesReply ⟦<ProcessTester as Tester>⟧ self.old self.new place name result }
         ensures cause { HasCauseOf ⟦<ProcessTester as Tester>⟧ self.old self.new result }
         ensures manner { KeepsManner ⟦<ProcessTester as Tester>⟧ self.old self.new }
@@ -325,13 +378,14 @@ impl Tester for ProcessTester {
         if stop.raised() {
             return TestReply::Dropped;
         }
-        self.test_on(rt, place, name, None)
+        self.test_on(rt, place, name, None, stop)
     }
 
     fn split(&self) -> Result<ProcessTester, AllocError> {
         Ok(ProcessTester {
             notes: self.notes.split()?,
             is_silent: self.is_silent,
+            is_patient: self.is_patient,
             ..ProcessTester::new(self.alloc)
         })
     }
@@ -345,6 +399,7 @@ impl Tester for ProcessTester {
             failed,
             refusal,
             is_silent,
+            is_patient,
         } = other;
         match self.notes.absorb(notes) {
             Ok(()) => Ok(()),
@@ -356,6 +411,7 @@ impl Tester for ProcessTester {
                 failed,
                 refusal,
                 is_silent,
+                is_patient,
             }),
         }
     }

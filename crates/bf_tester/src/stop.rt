@@ -1,5 +1,5 @@
 //! A look at the flag that withdraws a request.
-ghost use Rattle.std.specs.Prelude.{◌≡◌, true, false, ◌||◌};
+ghost use Rattle.std.specs.Prelude.{◌≡◌, ◌≤◌, true, false, ◌||◌};
 ghost use Rattle.bf_io.specs.Causes.{raised};
 
 use std::marker::Model;
@@ -49,10 +49,18 @@ impl<'f> StopView<'f> {
         }
     }
 
+    /// Whether there is no flag.
+    pub(crate) fn is_bare(&self) -> bool
+        ensures { result ≡ self.now.bare }
+    {
+        self.flag.is_none()
+    }
+
     /// Looks at the flag once, and answers whether it is raised. No flag is never raised.
     pub fn raised(&mut self) -> bool
         ensures seen { self.new.seen ≡ (self.old.seen || result) }
         ensures looks { self.new.looks ≡ raised self.old.looks }
+        ensures later { self.old.looks ≤ self.new.looks }
         ensures bare { self.new.bare ≡ self.old.bare }
         ensures quiet { self.new.bare ≡ true → (result ≡ false) × (self.new.seen ≡ false) }
     {

@@ -114,10 +114,11 @@ fn an_abort_beside_the_path(rt: HostRuntime) -> Result<(), Fail> {
     Ok(())
 }
 
+/// At the end of a leg, and behind it, only those are withdrawn that the rest of the search does not ask for.
 fn a_mark_is_made(rt: &impl Abort, core: &mut Core) -> Result<(), AllocError> {
-    picks(rt, core, 1, 3)?;
-    picks(rt, core, 2, 5)?;
-    withdraws(rt, core, (1, 3), GOOD, &[2])
+    six_pick(rt, core)?;
+    withdraws(rt, core, (1, 3), GOOD, &[3, 6])?;
+    withdraws(rt, core, (2, 5), BAD, &[3, 4, 6])
 }
 
 #[test]

@@ -16,6 +16,7 @@ use std::process::{Abort, Processes, SystemProcess};
 use std::sync::{Arc, Wait};
 use std::test::Fail;
 use std::thread::Threads;
+use std::time::Clock;
 
 static NAMES: [Oid; 8] = [
     Oid([0; 20]),
@@ -55,7 +56,7 @@ fn reported<R, T>(
     tester: &mut T,
 ) -> Result<Report, AllocError>
 where
-    R: Threads + Wait + Processes<Started = SystemProcess> + Eprint + Sync,
+    R: Threads + Wait + Processes<Started = SystemProcess> + Clock + Eprint + Sync,
     T: Tester,
     requires is_split { T.is_split tester.old ≡ false }
     requires most { workers ≤ 64 }
@@ -98,6 +99,7 @@ where
     R: Threads
         + Wait
         + Processes<Started = SystemProcess>
+        + Clock
         + Eprint
         + Sync
         + Alloc<A = Global>
@@ -116,6 +118,7 @@ where
     R: Threads
         + Wait
         + Processes<Started = SystemProcess>
+        + Clock
         + Eprint
         + Sync
         + Alloc<A = Global>
@@ -154,6 +157,7 @@ where
     R: Threads
         + Wait
         + Processes<Started = SystemProcess>
+        + Clock
         + Eprint
         + Sync
         + Alloc<A = Global>

@@ -20,6 +20,7 @@ use std::process::{Abort, Processes, SystemProcess};
 use std::sync::{Arc, Wait};
 use std::test::Fail;
 use std::thread::Threads;
+use std::time::Clock;
 
 static NAMES: [Oid; 8] = [
     Oid([0; 20]),
@@ -82,7 +83,7 @@ fn shared_by<R, T>(
     testers: &mut [T],
 ) -> Result<Shared, AllocError>
 where
-    R: Threads + Wait + Processes<Started = SystemProcess> + Eprint + Sync,
+    R: Threads + Wait + Processes<Started = SystemProcess> + Clock + Eprint + Sync,
     T: Tester,
     requires some { 1 ≤ workers }
     requires most { workers ≤ 64 }

@@ -10,11 +10,12 @@ use bf_tester::{
 };
 use std::alloc::{AllocError, Global};
 use std::process::{Abort, Processes, SystemProcess};
-use std::sync::atomic::AtomicBool;
+use std::sync::atomic::{AtomicBool, Ordering};
 use std::sync::{Arc, Wait};
 use std::test::Fail;
 use std::thread;
 use std::thread::Threads;
+use std::time::{Clock, Duration};
 
 const NAME: Oid = Oid([7; 20]);
 
@@ -41,7 +42,7 @@ fn a_raised_flag_is_seen(rt: HostRuntime) {
 /// The reply to a test that no flag withdraws.
 fn reply<R, T>(rt: &R, tester: &mut T, place: u32) -> TestReply
 where
-    R: Threads + Wait + Processes<Started = SystemProcess> + Eprint + Sync,
+    R: Threads + Wait + Processes<Started = SystemProcess> + Clock + Eprint + Sync,
     T: Tester,
 {
     tester.test(rt, place, NAME, &mut StopView::none())
@@ -50,7 +51,7 @@ where
 /// The reply to a test whose flag stands so.
 fn reply_at_flag<R, T>(rt: &R, tester: &mut T, flag: &AtomicBool) -> TestReply
 where
-    R: Threads + Wait + Processes<Started = SystemProcess> + Eprint + Sync,
+    R: Threads + Wait + Processes<Started = SystemProcess> + Clock + Eprint + Sync,
     T: Tester,
 {
     tester.test(rt, 0, NAME, &mut StopView::over(flag))
@@ -59,7 +60,7 @@ where
 /// The reply of a tester that is split off, whose answer is absorbed.
 fn reply_of_split<R, T>(rt: &R, tester: &mut T, place: u32) -> Result<TestReply, AllocError>
 where
-    R: Threads + Wait + Processes<Started = SystemProcess> + Eprint + Sync,
+    R: Threads + Wait + Processes<Started = SystemProcess> + Clock + Eprint + Sync,
     T: Tester,
 {
     let mut split = tester.split()?;
@@ -94,7 +95,7 @@ fn prepare<T: Tester>(
 /// Asserts the outcomes of a plan `gbsakn`, past whose end it skips.
 fn outcomes_of_letters<R>(rt: &R, tester: &mut PlanTester)
 where
-    R: Threads + Wait + Processes<Started = SystemProcess> + Eprint + Sync + Abort,
+    R: Threads + Wait + Processes<Started = SystemProcess> + Clock + Eprint + Sync + Abort,
 {
     let table = [
         (0, Outcome::Exit(0)),
@@ -136,7 +137,7 @@ fn split_replies<R, T>(
     expected: TestReply,
 ) -> Result<(), AllocError>
 where
-    R: Threads + Wait + Processes<Started = SystemProcess> + Eprint + Sync + Abort,
+    R: Threads + Wait + Processes<Started = SystemProcess> + Clock + Eprint + Sync + Abort,
     T: Tester,
 {
     assert_eq!(rt; reply_of_split(rt, tester, place)?, expected);
@@ -168,7 +169,7 @@ fn script_with_rules(alloc: Global) -> Result<ScriptTester, AllocError> {
 
 fn rules_are_followed<R>(rt: &R, tester: &mut ScriptTester) -> Result<(), AllocError>
 where
-    R: Threads + Wait + Processes<Started = SystemProcess> + Eprint + Sync + Abort,
+    R: Threads + Wait + Processes<Started = SystemProcess> + Clock + Eprint + Sync + Abort,
 {
     let good = TestReply::Done(Outcome::Exit(0));
     let table = [
@@ -199,7 +200,7 @@ fn gated_script(alloc: Global) -> Result<ScriptTester, AllocError> {
 
 fn both_reply<R>(rt: &R, tester: &mut ScriptTester, other: &mut ScriptTester)
 where
-    R: Threads + Wait + Processes<Started = SystemProcess> + Eprint + Sync + Abort,
+    R: Threads + Wait + Processes<Started = SystemProcess> + Clock + Eprint + Sync + Abort,
 {
     let (first, second) = thread::join(rt, || reply(rt, tester, 0), || reply(rt, other, 1));
     assert_eq!(rt; first, TestReply::Done(Outcome::Exit(0)));
@@ -222,7 +223,7 @@ fn shell_replies<R>(
     expected: TestReply,
 ) -> Result<(), AllocError>
 where
-    R: Threads + Wait + Processes<Started = SystemProcess> + Eprint + Sync + Abort,
+    R: Threads + Wait + Processes<Started = SystemProcess> + Clock + Eprint + Sync + Abort,
 {
     let mut tester = ProcessTester::new(alloc).silent();
     prepare(alloc, &mut tester, &[b"sh", b"-c", script], true)?;
@@ -244,6 +245,66 @@ fn commands_of_a_shell(rt: HostRuntime) -> Result<(), Fail> {
     for (script, expected) in table {
         shell_replies(&rt, rt.alloc(), script, expected)?;
     }
+    Ok(())
+}
+
+/// The reply to a test whose flag is raised after so many milliseconds, by another thread.
+fn reply_withdrawn<R>(rt: &R, tester: &mut ProcessTester, after: u64) -> TestReply
+where
+    R: Threads + Wait + Processes<Started = SystemProcess> + Clock + Eprint + Sync,
+{
+    let flag = AtomicBool::new(false);
+    let shared = &flag;
+    let (reply, _) = thread::join(
+        rt,
+        || tester.test(rt, 0, NAME, &mut StopView::over(shared)),
+        || {
+            thread::sleep(rt, Duration::from_millis(after));
+            shared.store(true, Ordering::SeqCst);
+        },
+    );
+    reply
+}
+
+#[test]
+fn a_command_is_ended_once_nobody_waits_for_it(rt: HostRuntime) -> Result<(), Fail> {
+    // The second one does not end when it is asked to.
+    let scripts: [&[u8]; 2] = [
+        b"exec sleep 100",
+        b"trap '' TERM; while :; do sleep 0.1; done",
+    ];
+    for script in scripts {
+        let mut tester = ProcessTester::new(rt.alloc()).silent();
+        prepare(rt.alloc(), &mut tester, &[b"sh", b"-c", script], false)?;
+        let reply = reply_withdrawn(&rt, &mut tester, 200);
+        assert_eq!(rt; reply, TestReply::Dropped);
+        assert!(rt; tester.answer(0).is_none());
+    }
+    Ok(())
+}
+
+#[test]
+fn a_command_that_ends_before_its_flag_is_raised_is_not_dropped(
+    rt: HostRuntime,
+) -> Result<(), Fail> {
+    let mut tester = ProcessTester::new(rt.alloc()).silent();
+    prepare(rt.alloc(), &mut tester, &[b"sh", b"-c", b"exit 4"], false)?;
+    let reply = reply_withdrawn(&rt, &mut tester, 2_000);
+    assert_eq!(rt; reply, TestReply::Done(Outcome::Exit(4)));
+    Ok(())
+}
+
+#[test]
+fn a_patient_tester_waits_for_a_command_that_nobody_needs(rt: HostRuntime) -> Result<(), Fail> {
+    let mut tester = ProcessTester::new(rt.alloc()).silent().patient();
+    prepare(
+        rt.alloc(),
+        &mut tester,
+        &[b"sh", b"-c", b"sleep 1; exit 4"],
+        false,
+    )?;
+    let reply = reply_withdrawn(&rt, &mut tester, 200);
+    assert_eq!(rt; reply, TestReply::Done(Outcome::Exit(4)));
     Ok(())
 }
 

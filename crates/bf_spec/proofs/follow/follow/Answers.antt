@@ -7,6 +7,7 @@ use Rattle.bf_search.specs.Outcomes.{outcomes_of_table}
 use Rattle.bf_search.specs.Run.{Aborted, Leg, Run, ended, marked_one}
 use Rattle.bf_search.specs.State.{mark}
 use Rattle.bf_spec.specs.declared.node.Node.{Node}
+use Rattle.bf_spec.specs.Nodes.{path_of}
 use Rattle.bf_state.specs.Ends.{marks_of}
 use Rattle.bf_spec.specs.Walks.{is_over, run_below, behind}
 use Rattle.bf_spec.proofs.Growing.{extends_trans, extends_nodes, extends_length, extends_at, extends_same}
@@ -137,6 +138,9 @@ returns-then-is_over-clause-halts c = λ d. (
             ∙ marked_asks c.args.reach.now (outcomes_of_table c.args.table.now) c.loop-place.left c.loop-place.nodes.items c.loop-place.index c.index.result.now
             c.loop-place.invariant.nodes c.loop-place.invariant.within c.index.ensures c.in-Marked.place c.in-Marked.outcome c.in-Marked.mark
             c.in-Marked.ensures b,
+        c.in_ok-next-in-Marked.ensures.child.1 b
+            ∙ ap (λ (n : Node). path_of n ++ c.in-Marked.mark ∷ []) (sym (extends_at c.args.reach.now c.loop-place.nodes.items c.child.new.nodes.items
+            c.loop-place.index b c.in_ok-next-in-Marked.ensures.extends c.loop-place.invariant.within)),
       ),
 )
 

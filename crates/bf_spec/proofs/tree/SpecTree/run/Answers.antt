@@ -1,6 +1,7 @@
 use Rattle.std.proofs.Common.{◌≡◌, ◌≢◌, ℕ, sym, ap, ◌∙◌, subst}
 use Rattle.bf_search.specs.declared.asks.Ask.TheVariants.{Test}
 use Rattle.bf_search.specs.Run.{Leg, Open}
+use Rattle.bf_search.specs.State.{ask}
 use Rattle.bf_state.specs.Session.{with_search}
 use Rattle.bf_spec.specs.Guessed.{asked_at}
 use Rattle.bf_spec.specs.Tree.{Guesses, HasNode, run_of, session_of, root_of}
@@ -64,3 +65,8 @@ pub returns-clause-waits : goal.returns-clause-waits
 returns-clause-waits c = if_ok c.run_in.result c.run_in.ensures.walked (λ walked h.
     subst (λ (t : Guesses). (p : ℕ) → (run_of t c.args.table.now c.args.left).end ≡ Open p → (asked_at t.graph t.root walked.path.items).step.ask ≡ Test p)
     c.self.view_is (h (session_of c.self.inside.nodes.items) (root_of c.self.inside.nodes.items) c.self.invariant).waits)
+
+pub returns-clause-asked : goal.returns-clause-asked
+returns-clause-asked c = if_ok c.run_in.result c.run_in.ensures.walked (λ walked h.
+    subst (λ (t : Guesses). (asked_at t.graph t.root walked.path.items).search ≡ (ask t.graph (run_of t c.args.table.now c.args.left).search).search)
+    c.self.view_is (h (session_of c.self.inside.nodes.items) (root_of c.self.inside.nodes.items) c.self.invariant).asked)

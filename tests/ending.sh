@@ -1,0 +1,113 @@
+#!/bin/sh
+# farmdawn run ends the tests that nobody asks for any more: the run is over once its answer is known, and its text is that of
+# one worker. What a command has started is its own to end; the scripts around a test do so.
+. "$(dirname "$0")/helpers.sh"
+
+needs_all() { has git pgrep pkill && has_program; }
+
+# A line of sixteen commits, of which the fifth is the first bad one: a run asks for the eighth, the fourth, the sixth and the
+# fifth. What is due is in the file `due`. Tests of the ninth and later ones, which it never asks for, are slow: the words. The
+# commit is the last word of each test.
+prepare() {
+    awk 'BEGIN { for (i = 1; i <= 16; i++) {
+        printf "commit refs/heads/main\nmark :%d\ncommitter gen <gen> %d +0000\ndata 2\nc\n", i, i
+        if (i > 1) printf "from :%d\n", i - 1 } }' >stream
+    git init -q --bare names && git -C names fast-import --quiet <stream || exit 1
+    git -C names rev-list --reverse main >list || exit 1
+    name=farmdawn-ending-$$-$test
+    # shellcheck disable=SC2016
+    words='for commit; do :; done; n=$(grep -n "$commit" list) n=${n%%:*}; if [ "$n" -gt 8 ]; then '"$1"'; fi; [ "$n" -lt 5 ]'
+    read_clock
+    began=$clock
+    search run --workers 1 >due
+    read_clock
+    alone=$((clock - began))
+    expect 'the answer' [ "$(tail -n 1 due)" = "$(sed -n 5p list) is the first bad commit" ]
+}
+
+# A search by the words, with this command and these options.
+search() { "$farmdawn" "$@" main main~15 -- sh -c "$words" "$name" <stream; }
+
+# Such a search takes at most so many hundredths of a second more than the one with one worker, and leaves no test.
+ends_within() {
+    most=$1
+    shift
+    read_clock
+    began=$clock
+    search "$@" >got
+    read_clock
+    expect 'soon' [ $((clock - began)) -lt $((alone + most)) ]
+    expect 'the same text' cmp got due
+    expect 'no test is left' none_runs "$name|$long_sleep"
+}
+
+needs_needless() { needs_all; }
+test_needless() {
+    prepare "exec $long_sleep"
+    ends_within 300 run --workers 8
+    ends_within 300 run --workers 8 --leg 1
+    ends_within 300 journal run --workers 8
+    ends_within 300 checkout run --workers 8
+}
+
+# One that does not end when it is asked to is killed after ten seconds.
+needs_stubborn() { needs_all; }
+test_stubborn() {
+    prepare 'trap "" TERM; while true; do sleep 0.2; done'
+    ends_within 1200 run --workers 4
+}
+
+# Where it is asked for, no test is ended.
+needs_patient() { needs_all && has timeout; }
+test_patient() {
+    prepare "exec $long_sleep"
+    FARMDAWN_PATIENT=1 timeout 5 "$farmdawn" run --workers 4 main main~15 -- sh -c "$words" "$name" <stream >got
+    expect 'it waits' [ $? -eq 124 ]
+    nothing_sleeps # timeout ends all that it started
+}
+
+# A shell ends alone, and what it has started runs on; timeout hands the signal on to all that it started.
+needs_children() { needs_all && has timeout; }
+test_children() {
+    prepare "$long_sleep; true"
+    search run --workers 4 >got 2>/dev/null
+    expect 'the same text' cmp got due
+    expect 'what the shell has started runs on' pgrep -f "$long_sleep" >children
+    pkill -f "$long_sleep"
+    nothing_sleeps
+    prepare "exec timeout 0 sh -c '$long_sleep; true'"
+    ends_within 300 run --workers 4
+}
+
+# A script that ends what it has started ends it here too.
+needs_worktree() { needs_all && has setsid; }
+test_worktree() {
+    make_line 16 5
+    # shellcheck disable=SC2016
+    echo 'case $(cat content) in 1[0-5] | [89]) '"$long_sleep"'; true ;; *) test ! -e bug ;; esac' >../test.sh
+    git fast-export --all --no-data >../stream
+    "$farmdawn" run --workers 4 main main~15 -- farmdawn-worktree -- sh "$PWD/../test.sh" <../stream >../got
+    expect 'the answer' [ "$(tail -n 1 ../got)" = "$(first_bad main~10)" ]
+    nothing_sleeps
+}
+
+# Where the program alone is ended its tests run on, unless the system ends them with it.
+needs_orphans() { needs_all && has setpriv; }
+test_orphans() {
+    two_run() { [ "$(pgrep -fc "^$long_sleep")" -eq 2 ]; }
+    prepare "exec $long_sleep"
+    echo "exec $long_sleep" >slow # a script, so that no words but those of the test have the sleep
+    for by in '' 'setpriv --pdeathsig TERM'; do
+        # shellcheck disable=SC2086 # words without blanks
+        "$farmdawn" run --workers 2 main main~15 -- $by sh slow <stream >got 2>/dev/null &
+        wait_until 'two tests run' two_run
+        kill -TERM $!
+        wait $!
+        [ -n "$by" ] || { expect 'the tests run on' two_run && pkill -f "$long_sleep"; }
+        nothing_sleeps
+    done
+}
+
+by_clock='needless stubborn'
+[ $# -gt 0 ] || set -- needless stubborn patient children worktree orphans
+run_tests "$@"
