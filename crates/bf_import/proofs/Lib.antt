@@ -4,4 +4,5 @@ pub mod Carried
 pub mod Keeping
 mod Loaded
 mod Refusals
+mod Resting
 pub mod Standing

@@ -55,8 +55,8 @@ abbrev pub ended : Result (Unit {0}) ImportFault → Importing → Kept → Resu
 ended (Ok done) after kept = Ok (after.loading.history, kept)
 ended (Err fault) after kept = Err fault
 
-abbrev pub loaded_by : {C : Type 0} → (C → Kept) → Result (Importing × C) ImportFault → Result Loaded ImportFault
-loaded_by kept (Ok (importer, contents)) = Ok (importer.loading.history, kept contents)
+abbrev pub loaded_by : {C : Type 0} → (C → Kept) → Result (Importing × C × List ℕ) ImportFault → Result Loaded ImportFault
+loaded_by kept (Ok (importer, contents, rest)) = Ok (importer.loading.history, kept contents)
 loaded_by kept (Err fault) = Err fault
 
 -- from where a reader stood, an import came to its end as the bytes load that it had begun with

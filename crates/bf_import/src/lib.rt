@@ -16,4 +16,4 @@ pub use bf_oid::Oid;
 pub use bf_tables::Blobs;
 pub use content::Content;
 pub use history::History;
-pub use loading::{import, import_with_blobs};
+pub use loading::{import, import_with_blobs, import_with_rest};

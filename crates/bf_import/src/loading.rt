@@ -10,6 +10,7 @@ ghost use Rattle.bf_history.specs.Imports.{MayImport};
 ghost use Rattle.bf_history.specs.Meanings.{nothing_loaded};
 ghost use Rattle.bf_import.specs.Faults.{IsFaultOf, IsFurnishingFault, IsImportFault, refusal_of_stream};
 ghost use Rattle.bf_import.specs.Loading.{IsFurnishedBy, LoadsRest, MayLoad, ended, loaded_by};
+ghost use Rattle.bf_import.specs.Rest.{Leaves, ReadsOut, history_of};
 ghost use Rattle.bf_io.specs.Causes.{FailsOnlyAt};
 ghost use Rattle.bf_stream.specs.Standing.{is_over, limits_of, reader_faults, source_of};
 
@@ -19,7 +20,7 @@ use crate::importer::Importer;
 use bf_commits::{Contents, LetGo};
 use bf_grammar::{Limits, StreamFault};
 use bf_history::ImportFault;
-use bf_io::Source;
+use bf_io::{Bytes, Source};
 use bf_stream::{Reader, Window};
 use bf_tables::Blobs;
 use std::alloc::Global;
@@ -41,8 +42,28 @@ pub fn import<S: Source>(
     ensures own { IsErrOf result (ImportFault.Stream StreamFault.NoMemory) → ⊥ }
     ensures known { IfErr result (λ fault. IsImportFault fault) }
 {
-    let (importer, _) = imported(alloc, source, limits, LetGo)?;
-    Ok(importer.into_history()?)
+    let (history, _) = import_with_rest(alloc, source, limits)?;
+    Ok(history)
+}
+
+/// The same of a stream behind which other bytes stand: the history, and what was read of those bytes. Behind it come the
+/// bytes that the source has left; so nothing is lost, and nothing is waited for that the stream does not need. What
+/// stands behind a stream counts against no limit on it. A stream that ends without the line `done` has nothing behind it.
+pub fn import_with_rest<S: Source>(
+    alloc: Global,
+    source: &mut S,
+    limits: Limits,
+) -> Result<(History, Bytes), ImportFault>
+    requires { IsWithin limits }
+    ensures history { MayImport (S.left source.old) limits (history_of result) }
+    ensures rest { IfOk result (λ both. Leaves (S.left source.old) limits both.1 (S.left source.new)) }
+    ensures cause { FailsOnlyAt (ImportFault.Stream StreamFault.Read)
+        (S.faults source.old) (S.faults source.new) result }
+    ensures own { IsErrOf result (ImportFault.Stream StreamFault.NoMemory) → ⊥ }
+    ensures known { IfErr result (λ fault. IsImportFault fault) }
+{
+    let (importer, _, rest) = imported(alloc, source, limits, LetGo)?;
+    Ok((importer.into_history()?, rest))
 }
 
 /// The history that the commands of a stream make, with its contents: the blobs and the parts inline, each
@@ -59,22 +80,24 @@ pub fn import_with_blobs<S: Source>(
         (S.faults source.old) (S.faults source.new) result }
     ensures known { IfErr result (λ fault. IsFurnishingFault fault) }
 {
-    let (importer, blobs) = imported(alloc, source, limits, Blobs::new(alloc))?;
+    let (importer, blobs, _) = imported(alloc, source, limits, Blobs::new(alloc))?;
     Ok(Content::of(importer.into_history()?, blobs))
 }
 
-/// An import that carried out the commands of a stream, and what its contents have become.
+/// An import that carried out the commands of a stream, what its contents have become, and what was read behind the
+/// stream.
 fn imported<S: Source, C: Contents + Drop>(
     alloc: Global,
     source: &mut S,
     limits: Limits,
     mut contents: C,
-) -> Result<(Importer, C), ImportFault>
+) -> Result<(Importer, C, Bytes), ImportFault>
     requires { IsWithin limits }
     ensures loads { let left = S.left source.old in
         MayLoad left limits (C.kept contents) (loaded_by C.kept result) }
     ensures furnished { let before = IsFurnishedBy (C.kept contents) nothing_loaded in
-        IfOk result (λ both. before → IsFurnishedBy (C.kept both.1) both.0.loading) }
+        IfOk result (λ all. before → IsFurnishedBy (C.kept all.1) all.0.loading) }
+    ensures rest { IfOk result (λ all. Leaves (S.left source.old) limits all.2 (S.left source.new)) }
     ensures cause { FailsOnlyAt (ImportFault.Stream StreamFault.Read)
         (S.faults source.old) (S.faults source.new) result }
     ensures known { IfErr result (IsFaultOf (C.kept contents)) }
@@ -83,9 +106,10 @@ fn imported<S: Source, C: Contents + Drop>(
     let mut importer = Importer::new(alloc, limits)?;
     let mut reader = Reader::with_window(alloc, window, source, limits);
     let loaded = load(&mut reader, &mut importer, &mut contents);
+    let rest = reader.rest();
     let _ = reader.close();
     match loaded {
-        Ok(()) => Ok((importer, contents)),
+        Ok(()) => Ok((importer, contents, rest?)),
         Err(fault) => Err(fault),
     }
 }
@@ -102,6 +126,7 @@ fn load<S: Source, C: Contents>(
         LoadsRest S.left reader.old importer.old (C.kept contents.old) answer }
     ensures furnished { let before = IsFurnishedBy (C.kept contents.old) importer.old.loading in
         OnOk result (before → IsFurnishedBy (C.kept contents.new) importer.new.loading) }
+    ensures ends { OnOk result (ReadsOut S.left importer.old.limits reader.old reader.new) }
     ensures cause { FailsOnlyAt (ImportFault.Stream StreamFault.Read)
         (reader_faults S.faults reader.old) (reader_faults S.faults reader.new) result }
     ensures known { IfErr result (IsFaultOf (C.kept contents.old)) }

@@ -10,24 +10,26 @@ use Rattle.bf_grammar.specs.Lines.{with_line}
 use Rattle.bf_grammar.proofs.Composing.{gives_stopped, gives_then, gives_pure, gives_same, gives_lifted_fault, gives_no_memory}
 use Rattle.bf_grammar.proofs.Parts.{LineIs, gives_line}
 use Rattle.bf_stream.specs.declared.cursor.Cursor.{Cursor}
-use Rattle.bf_stream.specs.Cursor.{Advances, Reads, faults_at, left_to_read, limits_of, place_at}
+use Rattle.bf_stream.specs.Cursor.{Advances, KeepsBeyond, Reads, beyond_at, faults_at, left_to_read, limits_of, place_at}
 
 -- a loop went on from one state of a cursor to another
-pub record Goes {S : Type 0} (faults : S → ℕ) (old new : Cursor S) : Type 0 where
+pub record Goes {S : Type 0} (left : S → Option (List ℕ)) (faults : S → ℕ) (old new : Cursor S) : Type 0 where
   pub turns : left_to_read new ≤ left_to_read old
   pub limits : limits_of new ≡ limits_of old
   pub source : new.source.ghost_name ≡ old.source.ghost_name
+  pub beyond : beyond_at left new ≡ beyond_at left old
   pub later : faults_at faults old ≤ faults_at faults new
 
-pub goes_here : {S : Type 0} (faults : S → ℕ) (a : Cursor S) → Goes faults a a
-goes_here faults a = record { turns = omega arith; limits = refl; source = refl; later = omega arith }
+pub goes_here : {S : Type 0} (left : S → Option (List ℕ)) (faults : S → ℕ) (a : Cursor S) → Goes left faults a a
+goes_here left faults a = record { turns = omega arith; limits = refl; source = refl; beyond = refl; later = omega arith }
 
-pub goes_further : {S X : Type 0} {faults : S → ℕ} {a b c : Cursor S} {result : Result X StreamFault} → Goes faults a b → Advances faults b c result
-    → Goes faults a c
-goes_further goes advances = record {
+pub goes_further : {S X : Type 0} {left : S → Option (List ℕ)} {faults : S → ℕ} {a b c : Cursor S} {result : Result X StreamFault} → Goes left faults a b → Advances faults b c result
+    → KeepsBeyond left b c → Goes left faults a c
+goes_further goes advances beyond = record {
   turns = omega (arith, goes.turns, advances.turns);
   limits = advances.limits ∙ goes.limits;
   source = advances.source ∙ goes.source;
+  beyond = beyond ∙ goes.beyond;
   later = omega (arith, goes.later, advances.cause.later);
 }
 
@@ -52,6 +54,7 @@ reads_then {S = S} {left = left} {faults = faults} {a = a} {b = b} {c = c} {firs
   };
   limits = two.limits ∙ one.limits;
   source = two.source ∙ one.source;
+  beyond = two.beyond ∙ one.beyond;
 }
 
 -- the first step failed, so the whole does
@@ -66,19 +69,22 @@ reads_stopped {left = left} {a = a} {b = b} {first = first} {fault = fault} next
   cause = record { later = one.cause.later; failed = λ is. one.cause.failed (let same : fault ≡ Read = cc in ap (λ f. Err f) same) };
   limits = one.limits;
   source = one.source;
+  beyond = one.beyond;
 }
 
 -- what was given, and how the cursor advanced
 pub reads_as : {S X : Type 0} {left : S → Option (List ℕ)} {faults : S → ℕ} {a b : Cursor S} {result : Result X StreamFault} {reading : Limits → Reading X}
     → Gives (λ x. x) (place_at left a) (place_at left b) result (reading (limits_of a))
     → Advances faults a b result
+    → KeepsBeyond left a b
     → Reads left faults a b result reading
-reads_as gives advances = record {
+reads_as gives advances beyond = record {
   gives = gives;
   turns = advances.turns;
   cause = advances.cause;
   limits = advances.limits;
   source = advances.source;
+  beyond = beyond;
 }
 
 -- the same fault, in the place of another value
@@ -99,6 +105,7 @@ reads_pure left faults a x = record {
   cause = record { later = omega arith; failed = λ is. absurd (cc) };
   limits = refl;
   source = refl;
+  beyond = refl;
 }
 
 -- what is not read from the stream was refused
@@ -110,6 +117,7 @@ reads_refused left faults a fault other = record {
   cause = record { later = omega arith; failed = λ is. absurd (other (cc)) };
   limits = refl;
   source = refl;
+  beyond = refl;
 }
 
 -- what a text in front says, and what follows
@@ -140,6 +148,7 @@ reads_no_memory left faults a reading = record {
   cause = record { later = omega arith; failed = λ is. absurd (cc) };
   limits = refl;
   source = refl;
+  beyond = refl;
 }
 
 -- the line in front has this number and this text, so a reading that is given them reads so
@@ -154,6 +163,7 @@ reads_line {left = left} {a = a} {b = b} {result = result} number text read is r
   cause = reads.cause;
   limits = reads.limits;
   source = reads.source;
+  beyond = reads.beyond;
 }
 
 -- equal readings read alike
@@ -168,6 +178,7 @@ reads_same {left = left} {a = a} {b = b} {result = result} {first = first} other
   cause = reads.cause;
   limits = reads.limits;
   source = reads.source;
+  beyond = reads.beyond;
 }
 
 -- what holds of a fault holds of what a `?` hands on of it

@@ -1,15 +1,18 @@
 -- What a window holds after one more read.
-use Rattle.std.proofs.Common.{◌≡◌, ℕ, ◌+◌, ◌-◌, ◌<◌, ◌≤◌, Bool, ◌||◌, ltb, List, [], ◌++◌, length, take, drop, Option, Some, None, Result, Ok, Err, refl, sym}
-use Rattle.std.proofs.Common.{ap, ◌∙◌, arith, inl, inr, length-drop, length-append, append_assoc}
+use Rattle.std.proofs.Common.{◌≡◌, ℕ, zero, suc, ◌+◌, ◌-◌, ◌<◌, ◌≤◌, Bool, true, false, ◌||◌, ltb, get_or, List, [], ◌∷◌, ◌++◌, length, take, drop, Option, Some, None, Result, Ok, Err, refl, sym}
+use Rattle.std.proofs.Common.{ap, ◌∙◌, ◌⊎◌, subst, arith, inl, inr, length-drop, length-append, append_assoc}
+use Rattle.std.specs.Option.{option_map, option_to_list}
+use Rattle.bf_grammar.specs.Place.{start_of}
 use Rattle.std.specs.Result.{IsErr}
 use Rattle.std.proofs.lemmas.Bool.{cases_lt, lt-ltb, le-ltb, false≢true}
 use Rattle.std.proofs.lemmas.List.{drop-take, drop-drop, length-take-le}
-use Rattle.std.proofs.Math.Seq.{take-append-add, take-add}
+use Rattle.std.proofs.Math.Seq.{take-append-add, take-add, take-nil, drop-append-add}
 use Rattle.bf_io.specs.Told.{Takes}
 use Rattle.bf_io.specs.declared.device.Failed.{Failed}
 use Rattle.bf_stream.specs.declared.window.Filled.{Filled}
-use Rattle.bf_stream.specs.Filling.{Gains, Fills}
-use Rattle.bf_stream.specs.Held.{Held, place_of}
+use Rattle.bf_stream.specs.Filling.{Gains, Fills, Passes}
+use Rattle.bf_stream.specs.Held.{Held, beyond_of, nothing_held, past_limit, place_of}
+use Rattle.bf_stream.specs.Window.{is_seen}
 
 -- bytes behind a part, which were read there
 pub part-grown : (old new : List ℕ) (start end n : ℕ) → start ≤ end → take end new ≡ take end old
@@ -94,3 +97,81 @@ pub Ends-place : (old new : Held) (left left' : Option (List ℕ)) → new ≡ o
 Ends-place old new None left' same took = rw took refl
 Ends-place old new (Some left) None same took = absurd took
 Ends-place old new (Some left) (Some left') same took = ap (λ (h : Held). place_of h (Some left')) same ∙ sym (ap (λ (l : List ℕ). place_of old (Some l)) took)
+
+-- ---- the bytes behind the limit stay
+
+-- where nothing was read
+pub kept-beyond : (old new : Held) (left left' : Option (List ℕ)) → new ≡ old → left' ≡ left → beyond_of new left' ≡ beyond_of old left
+kept-beyond old new left left' same kept = ap (λ (h : Held). beyond_of h left') same ∙ ap (beyond_of old) kept
+
+pub Ends-beyond : (old new : Held) (left left' : Option (List ℕ)) → new ≡ old → Takes left left' [] → beyond_of new left' ≡ beyond_of old left
+Ends-beyond old new None left' same took = kept-beyond old new None left' same took
+Ends-beyond old new (Some left) None same took = absurd took
+Ends-beyond old new (Some left) (Some left') same took = kept-beyond old new (Some left) (Some left') same (ap (λ (l : List ℕ). Some l) (sym took))
+
+-- where the window gains what the source loses
+pub Gains-beyond : (old new : Held) (left left' : Option (List ℕ)) (bytes : List ℕ) → Gains old new bytes → Takes left left' bytes
+    → beyond_of new left' ≡ beyond_of old left
+unfolding past_limit
+Gains-beyond old new None left' bytes gains took = rw took refl
+Gains-beyond old new (Some left) None bytes gains took = absurd took
+Gains-beyond old new (Some left) (Some left') bytes gains took =
+    let n = length bytes in
+    let sum : old.quota ≡ n + (old.quota - n) = omega (arith, gains.fits) in
+    let rest : drop old.quota left ≡ drop (old.quota - n) left' =
+    ap (drop old.quota) took ∙ ap (λ k. drop k (bytes ++ left')) sum ∙ drop-append-add bytes left' (old.quota - n) in
+    ap (λ (h : Held). beyond_of h (Some left')) gains.held ∙ sym (ap (λ (l : List ℕ). Some (old.beyond ++ l)) rest)
+
+-- where a byte behind the limit was seen
+pub seen-beyond : (old new : Held) (left left' : Option (List ℕ)) (byte : ℕ) → old.beyond ≡ [] → old.quota ≡ 0
+    → new ≡ record old { past = true; beyond = byte ∷ [] } → Takes left left' (byte ∷ []) → beyond_of new left' ≡ beyond_of old left
+unfolding past_limit
+seen-beyond old new None left' byte none spent seen took = rw took refl
+seen-beyond old new (Some left) None byte none spent seen took = absurd took
+seen-beyond old new (Some left) (Some left') byte none spent seen took =
+    ap (λ (h : Held). beyond_of h (Some left')) seen
+    ∙ ap (λ k. Some (byte ∷ [] ++ drop k left')) spent
+    ∙ ap (λ (l : List ℕ). Some l) (sym took)
+    ∙ sym (ap (λ (b : List ℕ). Some (b ++ drop old.quota left)) none ∙ ap (λ k. Some (drop k left)) spent)
+
+pub seen-place : (old new : Held) (left left' : Option (List ℕ)) (byte : ℕ) → old.past ≡ false → old.quota ≡ 0
+    → new ≡ record old { past = true; beyond = byte ∷ [] } → Takes left left' (byte ∷ []) → place_of new left' ≡ place_of old left
+seen-place old new None left' byte within spent seen took = rw took refl
+seen-place old new (Some left) None byte within spent seen took = absurd took
+seen-place old new (Some left) (Some left') byte within spent seen took =
+    let rest : take old.quota left' ≡ take old.quota left = ap (λ k. take k left') spent ∙ sym (ap (λ k. take k left) spent) in
+    let more : (old.past || ltb old.quota (length left)) ≡ true =
+    ap (λ (b : Bool). b || ltb old.quota (length left)) within ∙ lt-ltb old.quota (length left) (omega (arith, spent, ap length took)) in
+    let line = old.line in
+    ap (λ (h : Held). place_of h (Some left')) seen
+    ∙ ap (λ (l : List ℕ). Some (record { line = line; rest = old.bytes ++ l; more = true; done_due = old.done_due })) rest
+    ∙ sym (ap (λ (b : Bool). Some (record { line = line; rest = old.bytes ++ take old.quota left; more = b; done_due = old.done_due })) more)
+
+-- one byte at most was asked for, and some came
+pub one_taken : (left left' : Option (List ℕ)) (n : ℕ) (buf : List ℕ) → length buf ≡ 1 → (n ≡ 0 → ⊥) → Takes left left' (take n buf)
+    → Takes left left' (get_or buf 0 0 ∷ [])
+one_taken left left' n [] one some took = absurd (omega arith)
+one_taken left left' zero (x ∷ xs) one some took = absurd (some refl)
+one_taken left left' (suc n) (x ∷ xs) one some took = subst (λ (l : List ℕ). Takes left left' (x ∷ l)) (none xs n (omega arith)) took
+  where
+    none : (xs : List ℕ) (n : ℕ) → length xs ≡ 0 → take n xs ≡ []
+    none [] n e = take-nil n
+    none (x ∷ xs) n e = absurd (omega arith)
+
+-- the byte behind the limit was seen before
+pub past_already : (h : Held) → h.past ≡ true → h.quota ≡ 0 → Passes h h
+past_already h past spent = record { beyond = h.beyond; held = ap (λ (b : Bool). record h { past = b }) past; spent = spent }
+
+pub spent_seen : (seen : Option ℕ) (quota : ℕ) → (is_seen seen ≡ true → quota ≡ 0) → (option_to_list seen ≡ []) ⊎ (quota ≡ 0)
+spent_seen None quota spent = inl refl
+spent_seen (Some byte) quota spent = inr (spent refl)
+
+-- before the first read
+pub nothing-place : (limit : ℕ) (left : Option (List ℕ)) → place_of (nothing_held limit) left ≡ option_map (start_of limit) left
+nothing-place limit None = refl
+nothing-place limit (Some left) = refl
+
+pub nothing-beyond : (limit : ℕ) (left : Option (List ℕ)) → beyond_of (nothing_held limit) left ≡ option_map (drop limit) left
+unfolding past_limit
+nothing-beyond limit None = refl
+nothing-beyond limit (Some left) = refl

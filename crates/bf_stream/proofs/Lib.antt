@@ -13,3 +13,4 @@ pub mod Words
 pub mod Lines
 pub mod Starts
 pub mod Turns
+pub mod Resting

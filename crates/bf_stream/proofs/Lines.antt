@@ -109,6 +109,7 @@ refused_here {X = X} left faults a number is = record {
   cause = record { later = omega arith; failed = λ is. absurd (cc) };
   limits = refl;
   source = refl;
+  beyond = refl;
 }
   where
     refused_at : (X : Type 0) (held : Held) (left : Option (List ℕ)) (number : ℕ) → number ≡ held.line

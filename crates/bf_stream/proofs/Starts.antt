@@ -116,6 +116,7 @@ ends_due left faults a number due is = record {
   cause = record { later = omega arith; failed = λ is. absurd (cc) };
   limits = refl;
   source = refl;
+  beyond = refl;
 }
 
 pub ends_free : {S : Type 0} (left : S → Option (List ℕ)) (faults : S → ℕ) (a : Cursor S) → is_due a ≡ false
@@ -126,4 +127,5 @@ ends_free left faults a free = record {
   cause = record { later = omega arith; failed = λ is. absurd (cc) };
   limits = refl;
   source = refl;
+  beyond = refl;
 }

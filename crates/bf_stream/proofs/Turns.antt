@@ -8,7 +8,7 @@ use Rattle.bf_grammar.specs.Commands.{target_at, change_at, merges_at, changes_a
 use Rattle.bf_grammar.proofs.Composing.{fails_alike}
 use Rattle.bf_grammar.proofs.Repeating.{TakesSome, repeat-is}
 use Rattle.bf_stream.specs.declared.cursor.Cursor.{Cursor}
-use Rattle.bf_stream.specs.Cursor.{Reads, place_at, faults_at, limits_of, left_to_read}
+use Rattle.bf_stream.specs.Cursor.{Reads, beyond_at, place_at, faults_at, limits_of, left_to_read}
 
 abbrev pub step_of : {X : Type 0} → Reading (Option X) → List X → Reading (List X ⊎ List X)
 step_of item items = item >>= one_more items
@@ -80,6 +80,7 @@ pub record Collects {S X : Type 0} (left : S → Option (List ℕ)) (faults : S 
   pub later : faults_at faults start ≤ faults_at faults now
   pub limits : limits_of now ≡ limits_of start
   pub source : now.source.ghost_name ≡ start.source.ghost_name
+  pub beyond : beyond_at left now ≡ beyond_at left start
 
 -- no item yet
 pub collects_none : {S X : Type 0} (left : S → Option (List ℕ)) (faults : S → ℕ) (start : Cursor S) (item : Limits → Reading (Option X)) (items : List X)
@@ -90,6 +91,7 @@ collects_none left faults start item items none = record {
   later = omega arith;
   limits = refl;
   source = refl;
+  beyond = refl;
 }
 
 module _ {S X : Type 0} {left : S → Option (List ℕ)} {faults : S → ℕ} {start now next : Cursor S} (item : Limits → Reading (Option X))
@@ -112,6 +114,7 @@ module _ {S X : Type 0} {left : S → Option (List ℕ)} {faults : S → ℕ} {s
     later = omega (arith, so_far.later, reads.cause.later);
     limits = reads.limits ∙ so_far.limits;
     source = reads.source ∙ so_far.source;
+    beyond = reads.beyond ∙ so_far.beyond;
   }
 
   module _ (read : Limits → Reading (List X)) (all : (limits : Limits) → read limits ≡ all_of (item limits)) where
@@ -126,6 +129,7 @@ module _ {S X : Type 0} {left : S → Option (List ℕ)} {faults : S → ℕ} {s
       cause = record { later = omega (arith, so_far.later, reads.cause.later); failed = λ is. absurd (cc) };
       limits = reads.limits ∙ so_far.limits;
       source = reads.source ∙ so_far.source;
+      beyond = reads.beyond ∙ so_far.beyond;
     }
 
     -- an item that is refused
@@ -142,6 +146,7 @@ module _ {S X : Type 0} {left : S → Option (List ℕ)} {faults : S → ℕ} {s
       };
       limits = reads.limits ∙ so_far.limits;
       source = reads.source ∙ so_far.source;
+      beyond = reads.beyond ∙ so_far.beyond;
     }
 
 pub all_merges : (limits : Limits) → merges_at limits ≡ all_of (target_at limits (codes "merge"))

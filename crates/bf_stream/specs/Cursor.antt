@@ -1,6 +1,6 @@
 -- A cursor over a stream: where a reading through it stands, and what a call of it gives. What a source has left,
 -- and its count of faults, are handed on: `left` and `faults`.
-use Rattle.std.specs.Prelude.{◌≡◌, ℕ, ◌≤◌, ◌<◌, Bool, List, length, Option, Result, Ok}
+use Rattle.std.specs.Prelude.{◌≡◌, ℕ, ◌≤◌, ◌<◌, Bool, List, drop, length, Option, Result, Ok}
 use Rattle.std.specs.Option.{IfSome, option_map}
 use Rattle.bf_io.specs.Causes.{FailsOnlyAt}
 use Rattle.bf_grammar.specs.declared.fault.Limits.{Limits}
@@ -11,11 +11,23 @@ use Rattle.bf_grammar.specs.Lines as lines
 use Rattle.bf_grammar.specs.Lines.{front_line}
 use Rattle.bf_stream.specs.declared.cursor.Cursor.{Cursor}
 use Rattle.bf_stream.specs.Held as held
-use Rattle.bf_stream.specs.Held.{past_held_line, place_of, remaining}
+use Rattle.bf_stream.specs.Held.{beyond_of, past_held_line, place_of, remaining, rest_in}
 
 -- the place where a reading through a cursor stands, where the source tells what it has left
 abbrev pub place_at : {S : Type 0} → (S → Option (List ℕ)) → Cursor S → Option Place
 place_at left cursor = place_of cursor.window (left cursor.source.now)
+
+-- the bytes behind the limit on the stream, where the source tells what it has left
+abbrev pub beyond_at : {S : Type 0} → (S → Option (List ℕ)) → Cursor S → Option (List ℕ)
+beyond_at left cursor = beyond_of cursor.window (left cursor.source.now)
+
+-- what was read of the source, and stands behind the line in front
+abbrev pub rest_of : {S : Type 0} → Cursor S → List ℕ
+rest_of cursor = rest_in cursor.window
+
+-- a byte behind the limit was seen only where no more may be read
+abbrev pub IsSpent : {S : Type 0} → Cursor S → Type 0
+IsSpent cursor = held.IsSpent cursor.window
 
 -- how often the source failed
 abbrev pub faults_at : {S : Type 0} → (S → ℕ) → Cursor S → ℕ
@@ -43,12 +55,21 @@ start_at limits bytes = option_map (start_of limits.stream) bytes
 -- at the first line of a source, of which nothing was read yet
 pub record Opens {S : Type 0} (left : S → Option (List ℕ)) (faults : S → ℕ) (source : S) (given : Limits) (cursor : Cursor S) : Type 0 where
   pub place : place_at left cursor ≡ start_at given (left source)
+  pub beyond : beyond_at left cursor ≡ option_map (drop given.stream) (left source)
   pub count : faults_at faults cursor ≡ faults source
   pub limits : limits_of cursor ≡ given
 
 -- a line is in front, and all of it is held
 abbrev pub HasLine : {S : Type 0} → (S → Option (List ℕ)) → Cursor S → Type 0
 HasLine left cursor = held.HasLine cursor.window (left cursor.source.now)
+
+-- the line in front is held whole, or there is none
+abbrev pub IsWhole : {S : Type 0} → (S → Option (List ℕ)) → Cursor S → Type 0
+IsWhole left cursor = held.IsWhole cursor.window (left cursor.source.now)
+
+-- the bytes behind the limit on the stream stay
+abbrev pub KeepsBeyond : {S : Type 0} → (S → Option (List ℕ)) → Cursor S → Cursor S → Type 0
+KeepsBeyond left old new = beyond_at left new ≡ beyond_at left old
 
 -- Between two states of a cursor the bytes that are left to read did not grow, a fault of the source was answered only
 -- where the source failed, and the limits and the source are the same.
@@ -66,6 +87,7 @@ pub record Reads {S X : Type 0} (left : S → Option (List ℕ)) (faults : S →
   pub cause : FailsOnlyAt Read (faults_at faults old) (faults_at faults new) result
   pub limits : limits_of new ≡ limits_of old
   pub source : new.source.ghost_name ≡ old.source.ghost_name
+  pub beyond : KeepsBeyond left old new
 
 -- the line in front has this text
 abbrev pub TextIs : {S : Type 0} → (S → Option (List ℕ)) → Cursor S → List ℕ → Type 0

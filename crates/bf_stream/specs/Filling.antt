@@ -19,9 +19,10 @@ pub record Ends (old new : Held) (left : Option (List ℕ)) : Type 0 where
   pub within : old.past ≡ false
   pub ended : IsAtEnd left
 
--- the window has all that may be read, and the source has more
+-- the window has all that may be read, and the source has more: a byte of it was seen
 pub record Passes (old new : Held) : Type 0 where
-  pub held : new ≡ record old { past = true }
+  pub beyond : List ℕ
+  pub held : new ≡ record old { past = true; beyond = beyond }
   pub spent : old.quota ≡ 0
 
 abbrev pub Fills : Held → Held → Option (List ℕ) → Result Filled Failed → Type 0

@@ -1,6 +1,6 @@
 -- Where a reader of commands stands, and what a call of it gives. What a source has left, and its count of faults,
 -- are handed on: `left` and `faults`.
-use Rattle.std.specs.Prelude.{◌≡◌, ℕ, ◌<◌, Bool, true, false, List, Option, Some, None, Result, Ok, Err, IfOk, OnOk, OnSome}
+use Rattle.std.specs.Prelude.{◌≡◌, ℕ, ◌<◌, Bool, true, false, List, Option, Some, None, Result, Ok, Err, IfOk, OnOk, OnSome, MatchOption}
 use Rattle.bf_grammar.specs.declared.command.Command.{Command}
 use Rattle.bf_grammar.specs.declared.fault.Limits.{Limits}
 use Rattle.bf_grammar.specs.declared.fault.StreamFault.{StreamFault}
@@ -30,6 +30,22 @@ source_at reader = reader.cursor.source.now
 abbrev pub source_of : {S : Type 0} → Reader S → ℕ
 source_of reader = reader.cursor.source.ghost_name
 
+-- the bytes behind the limit on the stream, where the source tells what it has left
+abbrev pub beyond_at : {S : Type 0} → (S → Option (List ℕ)) → Reader S → Option (List ℕ)
+beyond_at left reader = cursor.beyond_at left reader.cursor
+
+-- what was read of the source, and stands behind the line in front
+abbrev pub rest_of : {S : Type 0} → Reader S → List ℕ
+rest_of reader = cursor.rest_of reader.cursor
+
+-- a byte behind the limit was seen only where no more may be read
+abbrev pub IsSpent : {S : Type 0} → Reader S → Type 0
+IsSpent reader = cursor.IsSpent reader.cursor
+
+-- the line in front is held whole, or there is none
+abbrev pub IsWhole : {S : Type 0} → (S → Option (List ℕ)) → Reader S → Type 0
+IsWhole left reader = cursor.IsWhole left reader.cursor
+
 abbrev pub is_over : {S : Type 0} → Reader S → Bool
 is_over reader = reader.over
 
@@ -45,6 +61,10 @@ Reads left faults old new result reading = cursor.Reads left faults old.cursor n
 -- a line is in front, and all of it is held
 abbrev pub HasLine : {S : Type 0} → (S → Option (List ℕ)) → Reader S → Type 0
 HasLine left reader = cursor.HasLine left reader.cursor
+
+-- where there is no command, the line in front is held whole, or there is none
+abbrev pub EndsWhole : {S : Type 0} → (S → Option (List ℕ)) → Reader S → Result (Option Command) StreamFault → Type 0
+EndsWhole left reader result = IfOk result (λ found. MatchOption found (IsWhole left reader) (λ _. Unit {0}))
 
 -- what was read took at least a byte
 abbrev pub Takes : {S X : Type 0} → Reader S → Reader S → Result X StreamFault → Type 0

@@ -1,7 +1,7 @@
 //! Commands.
 ghost use Rattle.bf_grammar.specs.Commands as grammar;
 ghost use Rattle.bf_stream.specs.Parts.{blob_from, commit_from, tag_from, reset_from};
-ghost use Rattle.bf_stream.specs.Standing.{HasLine, Reads, TakesIfSome};
+ghost use Rattle.bf_stream.specs.Standing.{EndsWhole, HasLine, Reads, TakesIfSome};
 
 use crate::Reader;
 use bf_forms::{FirstLine, first_line};
@@ -13,6 +13,7 @@ impl<'a, S: Source> Reader<'a, S> {
     pub(crate) fn command(&mut self) -> Result<Option<Command>, StreamFault>
         ensures reads { Reads S.left S.faults self.old self.new result grammar.command_at }
         ensures takes { TakesIfSome self.old self.new result }
+        ensures whole { EndsWhole S.left self.new result }
     {
         if self.cursor.at_command()? {
             return self.command_in_front();
@@ -30,6 +31,7 @@ impl<'a, S: Source> Reader<'a, S> {
         requires { HasLine S.left self.old }
         ensures reads { Reads S.left S.faults self.old self.new result grammar.headed_at }
         ensures takes { TakesIfSome self.old self.new result }
+        ensures whole { EndsWhole S.left self.new result }
     {
         let alloc = self.cursor.allocator();
         let line = self.cursor.line_number();

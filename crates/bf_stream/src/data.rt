@@ -1,11 +1,11 @@
 //! Data parts.
-ghost use Rattle.std.specs.Prelude.{◌≡◌, ◌+◌, min, ◌≤◌, ◌<◌, length, OnOk};
+ghost use Rattle.std.specs.Prelude.{◌≡◌, ◌≤◌, ◌<◌, length, OnOk};
 ghost use Rattle.bf_grammar.specs.Lines as lines;
-ghost use Rattle.bf_stream.specs.Cursor.{Advances, Reads, delimited_by, left_to_read, limits_of};
+ghost use Rattle.bf_stream.specs.Cursor.{Advances, KeepsBeyond, Reads, delimited_by, left_to_read, limits_of};
 ghost use Rattle.bf_stream.specs.Steps.{TakesPiece, TakesContent, TakesWholeLine, delimiter_at};
 
 use crate::Cursor;
-use crate::text::end_of_line;
+use crate::text::{end_of_line, with_end_of_line};
 use crate::window::Filled;
 use bf_grammar::{Limit, StreamFault};
 use bf_io::{Bytes, Source};
@@ -28,6 +28,7 @@ impl<'a, S: Source> Cursor<'a, S> {
         requires { 0 < left }
         ensures piece { TakesPiece S.left line left self.old self.new bytes.old bytes.new result }
         ensures advances { Advances S.faults self.old self.new result }
+        ensures beyond { KeepsBeyond S.left self.old self.new }
         ensures goes { OnOk result (left_to_read self.new < left_to_read self.old) }
     {
         match self.window.fill_if_empty(self.source)? {
@@ -91,6 +92,7 @@ impl<'a, S: Source> Cursor<'a, S> {
         ensures within { OnOk result (length content.new ≤ (limits_of self.new).part) }
         ensures goes { OnOk result (left_to_read self.new < left_to_read self.old) }
         ensures advances { Advances S.faults self.old self.new result }
+        ensures beyond { KeepsBeyond S.left self.old self.new }
     {
         'pieces: loop {
             if self.take_content_piece(line, content)? {
@@ -106,6 +108,7 @@ impl<'a, S: Source> Cursor<'a, S> {
         ensures within { OnOk result (length content.new ≤ (limits_of self.new).part) }
         ensures goes { OnOk result (left_to_read self.new < left_to_read self.old) }
         ensures advances { Advances S.faults self.old self.new result }
+        ensures beyond { KeepsBeyond S.left self.old self.new }
     {
         match self.window.fill_if_empty(self.source)? {
             Filled::More => {}
@@ -146,12 +149,4 @@ impl<'a, S: Source> Cursor<'a, S> {
         }
         Ok(())
     }
-}
-
-/// The length of a line with its LF, where it ends among so many bytes; else all of them.
-fn with_end_of_line(end: usize, held: usize) -> usize
-    requires { end ≤ held }
-    ensures { result ≡ min (end + 1) held }
-{
-    if end < held { end + 1 } else { held }
 }

@@ -1,6 +1,6 @@
 //! What stands in front.
 ghost use Rattle.std.specs.Prelude.{◌≡◌};
-ghost use Rattle.bf_stream.specs.Cursor.{Advances};
+ghost use Rattle.bf_stream.specs.Cursor.{Advances, KeepsBeyond};
 ghost use Rattle.bf_stream.specs.Fronts.{sized, ended, passed, told_passed, told_word, told_line, told_missing};
 ghost use Rattle.bf_stream.specs.Steps.{FindsFront, FindsNext, PassesBytes, PassesLine};
 
@@ -65,6 +65,7 @@ impl<'a, S: Source> Cursor<'a, S> {
     fn find_front(&mut self) -> Result<Ahead, StreamFault>
         ensures front { FindsFront S.left self.old self.new result }
         ensures advances { Advances S.faults self.old self.new result }
+        ensures beyond { KeepsBeyond S.left self.old self.new }
     {
         let most = self.limits.line as usize;
         let enough = most.max(WORD);
@@ -93,6 +94,7 @@ impl<'a, S: Source> Cursor<'a, S> {
     pub(crate) fn next_front(&mut self, empty_too: bool) -> Result<Ahead, StreamFault>
         ensures front { FindsNext empty_too S.left self.old self.new result }
         ensures advances { Advances S.faults self.old self.new result }
+        ensures beyond { KeepsBeyond S.left self.old self.new }
     {
         'lines: loop {
             if let Some(ahead) = self.pass_line(empty_too)? {
@@ -105,6 +107,7 @@ impl<'a, S: Source> Cursor<'a, S> {
     fn pass_line(&mut self, empty_too: bool) -> Result<Option<Ahead>, StreamFault>
         ensures step { PassesLine empty_too S.left self.old self.new result }
         ensures advances { Advances S.faults self.old self.new result }
+        ensures beyond { KeepsBeyond S.left self.old self.new }
         ensures goes { PassesBytes self.old self.new result }
     {
         let ahead = self.find_front()?;

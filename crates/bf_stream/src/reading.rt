@@ -4,11 +4,11 @@ ghost use Rattle.bf_grammar.specs.Commands.{command_at};
 ghost use Rattle.bf_grammar.specs.Limits.{IsWithin};
 ghost use Rattle.bf_stream.specs.Held.{nothing_held};
 ghost use Rattle.bf_stream.specs.Standing as standing;
-ghost use Rattle.bf_stream.specs.Standing.{Opens, Reads, IsOverBy, TakesIfSome};
+ghost use Rattle.bf_stream.specs.Standing.{EndsWhole, Opens, Reads, IsOverBy, TakesIfSome};
 
 use crate::{Cursor, Reader, Window};
 use bf_grammar::{Command, Limits, StreamFault};
-use bf_io::Source;
+use bf_io::{Bytes, Source};
 use std::alloc::{AllocError, Global};
 
 impl<'a, S: Source> Reader<'a, S> {
@@ -54,6 +54,7 @@ impl<'a, S: Source> Reader<'a, S> {
         ensures reads { Reads S.left S.faults self.old self.new result command_at }
         ensures takes { TakesIfSome self.old self.new result }
         ensures over { IsOverBy result (standing.is_over self.new) }
+        ensures whole { EndsWhole S.left self.new result }
     {
         let command = self.command();
         self.over = !matches!(&command, Ok(Some(_)));
@@ -65,6 +66,15 @@ impl<'a, S: Source> Reader<'a, S> {
         ensures { result ≡ standing.is_over self.now }
     {
         self.over
+    }
+
+    /// A copy of what was read of the source and stands behind the line in front: behind the line `done`, where the
+    /// stream ended with it.
+    pub fn rest(&self) -> Result<Bytes, AllocError>
+        ensures rest { IfOk result (λ rest. rest ≡ standing.rest_of self.now) }
+        ensures spent { standing.IsSpent self.now }
+    {
+        self.cursor.rest()
     }
 
     /// Ends the reading and gives the source back.

@@ -3,13 +3,13 @@ ghost use Rattle.std.specs.Prelude.{◌≡◌, ◌≤◌, length, IfOk};
 ghost use Rattle.std.specs.Option.{IfSome};
 ghost use Rattle.bf_grammar.specs.Commands.{done_is_due};
 ghost use Rattle.bf_grammar.specs.Limits.{IsWithin};
-ghost use Rattle.bf_stream.specs.Cursor.{GoesBehindLine, HasLine, Opens, Reads, TakesLine, TextIs};
-ghost use Rattle.bf_stream.specs.Cursor.{is_due, limits_of, line_of, place_at};
+ghost use Rattle.bf_stream.specs.Cursor.{GoesBehindLine, HasLine, IsSpent, Opens, Reads, TakesLine, TextIs};
+ghost use Rattle.bf_stream.specs.Cursor.{is_due, limits_of, line_of, place_at, rest_of};
 ghost use Rattle.bf_stream.specs.Held.{nothing_held};
 
 use crate::{Cursor, Window};
 use bf_grammar::Limits;
-use bf_io::Source;
+use bf_io::{Bytes, Source};
 use std::alloc::{AllocError, Global};
 
 impl<'a, S: Source> Cursor<'a, S> {
@@ -53,6 +53,14 @@ impl<'a, S: Source> Cursor<'a, S> {
         ensures same { result.ghost_name ≡ self.entry.source.ghost_name }
     {
         self.source
+    }
+
+    /// A copy of what was read of the source and stands behind the line in front.
+    pub fn rest(&self) -> Result<Bytes, AllocError>
+        ensures rest { IfOk result (λ rest. rest ≡ rest_of self.now) }
+        ensures spent { IsSpent self.now }
+    {
+        self.window.rest(self.alloc)
     }
 
     /// The allocator of what is read.

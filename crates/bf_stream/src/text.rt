@@ -1,5 +1,5 @@
 //! Searches and counts in a text.
-ghost use Rattle.std.specs.Prelude.{◌≡◌, ◌≤◌, count_by, length};
+ghost use Rattle.std.specs.Prelude.{◌≡◌, ◌≤◌, ◌+◌, count_by, length, min};
 ghost use Rattle.std.specs.List.{position_or_len};
 ghost use Rattle.bf_grammar.specs.Place.{is_end_of_line};
 ghost use Rattle.bf_grammar.specs.Lines as lines;
@@ -19,6 +19,14 @@ pub(crate) fn end_of_line(bytes: &[u8], known: usize) -> usize
         Some(at) => known + at,
         None => bytes.len(),
     }
+}
+
+/// The length of a line with its LF, where it ends among so many bytes; else all of them.
+pub(crate) fn with_end_of_line(end: usize, held: usize) -> usize
+    requires { end ≤ held }
+    ensures { result ≡ min (end + 1) held }
+{
+    if end < held { end + 1 } else { held }
 }
 
 /// The length of the parts in which LFs are counted: a multiple of the width of a vector, so short that the

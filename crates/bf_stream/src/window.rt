@@ -1,17 +1,18 @@
 //! The window.
-ghost use Rattle.std.specs.Prelude.{◌≡◌, ◌+◌, ◌-◌, ◌≤◌, ◌<◌, ◌^◌, length, take, true, vec_len, IfOk, OnOk, if◌then◌else◌};
+ghost use Rattle.std.specs.Prelude.{◌≡◌, ◌+◌, ◌-◌, ◌≤◌, ◌<◌, ◌^◌, [], ◌∷◌, length, take, true, false, vec_len, IfOk, OnOk, if◌then◌else◌};
 ghost use Rattle.std.specs.List.{position_or_len};
-ghost use Rattle.std.specs.Option.{IfSome};
+ghost use Rattle.std.specs.Option.{IfSome, option_to_list};
 ghost use Rattle.bf_grammar.specs.Lines.{front_line, is_text};
 ghost use Rattle.bf_grammar.specs.Place.{is_end_of_line};
 ghost use Rattle.bf_io.specs.Causes.{HasCause};
 ghost use Rattle.bf_stream.specs.Filling.{Fills, IsReady, KeepsPart, ReadsBehind};
-ghost use Rattle.bf_stream.specs.Held.{GoesPast, IsLineOf, IsPlain, Stays};
-ghost use Rattle.bf_stream.specs.Held.{advanced, moved_held, nothing_held, past_held_line, remaining};
+ghost use Rattle.bf_stream.specs.Held.{GoesPast, IsLineOf, IsPlain, IsSpent, KeepsBeyond, Stays, StaysBeyond};
+ghost use Rattle.bf_stream.specs.Window.{is_seen};
+ghost use Rattle.bf_stream.specs.Held.{advanced, moved_held, nothing_held, past_held_line, remaining, rest_in};
 
-use crate::text::{count_lines, end_of_line};
+use crate::text::{count_lines, end_of_line, with_end_of_line};
 use bf_forms::is_text;
-use bf_io::{Failed, Source};
+use bf_io::{Bytes, Failed, Source};
 use std::alloc::{AllocError, Global};
 use std::marker::Model;
 
@@ -41,7 +42,8 @@ pub struct Window {
     plain: bool,
     line: u64,
     quota: u64,
-    past: bool,
+    // The byte behind the limit, where it was seen.
+    beyond: Option<u8>,
     // Whether `feature done` was read, which a place of the definition has too.
     done_due: bool,
 }
@@ -73,7 +75,7 @@ impl Window {
             plain: false,
             line: 1,
             quota: limit,
-            past: false,
+            beyond: None,
             done_due: false,
         })
     }
@@ -161,6 +163,7 @@ impl Window {
     pub(crate) fn take_line(&mut self)
         ensures held { self.new ≡ past_held_line self.old }
         ensures place { GoesPast self.old self.new }
+        ensures beyond { KeepsBeyond self.old self.new }
     {
         let bytes = self.bytes();
         let held = bytes.len();
@@ -176,6 +179,7 @@ impl Window {
     pub(crate) fn take_line_if(&mut self, text: &[u8]) -> bool
         ensures test { result ≡ is_text text.now (front_line self.old.bytes) }
         ensures held { self.new ≡ (if result then past_held_line self.old else self.old) }
+        ensures beyond { KeepsBeyond self.old self.new }
         ensures turns { remaining self.new ≤ remaining self.old }
     {
         if is_text(text, self.line()) {
@@ -212,6 +216,7 @@ impl Window {
         requires { length self.old.bytes < 65536 }
         ensures filled { Fills self.old self.new (S.left source.new) result }
         ensures place { OnOk result (Stays S.left self.old source.old self.new source.new) }
+        ensures beyond { StaysBeyond S.left self.old source.old self.new source.new }
         ensures cause { HasCause (S.faults source.old) (S.faults source.new) result }
     {
         if self.quota == 0 {
@@ -238,6 +243,7 @@ impl Window {
     pub(crate) fn fill_if_empty<S: Source>(&mut self, source: &mut S) -> Result<Filled, Failed>
         ensures ready { IsReady self.new (S.left source.new) result }
         ensures place { OnOk result (Stays S.left self.old source.old self.new source.new) }
+        ensures beyond { StaysBeyond S.left self.old source.old self.new source.new }
         ensures turns { remaining self.new ≤ remaining self.old }
         ensures cause { HasCause (S.faults source.old) (S.faults source.new) result }
     {
@@ -247,21 +253,71 @@ impl Window {
         self.fill(source)
     }
 
+    /// A copy of the bytes that were read and stand behind the line in front.
+    pub(crate) fn rest(&self, alloc: Global) -> Result<Bytes, AllocError>
+        ensures rest { IfOk result (λ rest. rest ≡ rest_in self.now) }
+        ensures spent { IsSpent self.now }
+    {
+        let bytes = self.bytes();
+        let end = end_of_line(bytes, self.known);
+        let behind = with_end_of_line(end, bytes.len());
+        let mut rest = Bytes::from_slice(alloc, &bytes[behind..])?;
+        match self.beyond() {
+            None => Ok(rest),
+            Some(byte) => {
+                rest.push(byte)?;
+                Ok(rest)
+            }
+        }
+    }
+
+    /// The byte behind the limit on the stream, where it was seen.
+    fn beyond(&self) -> Option<u8>
+        ensures beyond { option_to_list result ≡ self.now.beyond }
+        ensures past { is_seen result ≡ self.now.past }
+        ensures spent { IsSpent self.now }
+    {
+        self.beyond
+    }
+
+    /// Notes that a byte behind the limit on the stream was seen.
+    fn note_beyond(&mut self, byte: u8)
+        requires { self.old.quota ≡ 0 }
+        ensures { self.new ≡ record self.old { past = true; beyond = byte ∷ [] } }
+    {
+        self.beyond = Some(byte);
+    }
+
     /// Looks whether the source has a byte behind the limit on the stream.
     fn look_past<S: Source>(&mut self, source: &mut S) -> Result<Filled, Failed>
         requires { self.old.quota ≡ 0 }
         ensures filled { Fills self.old self.new (S.left source.new) result }
         ensures place { OnOk result (Stays S.left self.old source.old self.new source.new) }
+        ensures beyond { StaysBeyond S.left self.old source.old self.new source.new }
         ensures cause { HasCause (S.faults source.old) (S.faults source.new) result }
     {
-        if self.past {
-            return Ok(Filled::Past);
+        match self.beyond() {
+            Some(_) => Ok(Filled::Past),
+            None => self.see_past(source),
         }
+    }
+
+    /// The same, where no byte behind the limit was seen yet.
+    fn see_past<S: Source>(&mut self, source: &mut S) -> Result<Filled, Failed>
+        requires spent { self.old.quota ≡ 0 }
+        requires nothing { self.old.beyond ≡ [] }
+        requires within { self.old.past ≡ false }
+        ensures filled { Fills self.old self.new (S.left source.new) result }
+        ensures place { OnOk result (Stays S.left self.old source.old self.new source.new) }
+        ensures beyond { StaysBeyond S.left self.old source.old self.new source.new }
+        ensures cause { HasCause (S.faults source.old) (S.faults source.new) result }
+    {
         let mut next = [0u8];
-        if source.read(&mut next)? == 0 {
+        let count = source.read(&mut next)?;
+        if count == 0 {
             return Ok(Filled::End);
         }
-        self.past = true;
+        self.note_beyond(next[0]);
         Ok(Filled::Past)
     }
 

@@ -1,4 +1,5 @@
 use Rattle.bf_import.proofs.Answered.{content_made, missing_passed_on}
+use Rattle.bf_import.proofs.Resting.{memory_cause}
 use Rattle.bf_import.proofs.loading.import_with_blobs.Goals as goal
 
 pub returns-in_err-importer-clause-content : goal.returns-in_err-importer-clause-content
@@ -13,3 +14,8 @@ returns-clause-content g c =
 
 pub returns-clause-cause : goal.returns-clause-cause
 returns-clause-cause g c = record { later = c.in_ok-importer.ensures.cause.later; failed = λ so. absurd (cc) }
+
+pub returns-in_err-into_history-clause-cause : goal.returns-in_err-into_history-clause-cause
+returns-in_err-into_history-clause-cause g c =
+    memory_cause c.from_residual-in_err-into_history.result (g.S.Source.faults c.args.source.now) (g.S.Source.faults _)
+    c.from_residual-in_err-into_history.ensures.1 c.in_ok-importer.ensures.cause.later

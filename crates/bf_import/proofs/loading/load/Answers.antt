@@ -10,6 +10,7 @@ use Rattle.bf_import.specs.Loading.{MayLoad}
 use Rattle.bf_import.proofs.Answered.{still_furnished}
 use Rattle.bf_import.proofs.Loaded.{loads_more, loads_all, loads_refused, loads_stopped, gave_under, meant_under, own_stopped, own_refused, cause_stopped}
 use Rattle.bf_import.proofs.Loaded.{cause_refused, kept_on, same_itself}
+use Rattle.bf_import.proofs.Resting.{leads_more, leads_out}
 use Rattle.bf_import.proofs.loading.load.Goals as goal
 
 pub commands-init : goal.commands-init
@@ -20,6 +21,8 @@ commands-init g c = record {
   limits = refl;
   read_under = c.requires.limits;
   going_on = c.requires.going_on;
+  leads = λ there ends. ends;
+  beyond = refl;
   source = refl;
   later = omega arith;
 }
@@ -76,6 +79,9 @@ commands-preserved g c =
       limits = c.in_ok-take-in-Some.ensures.limits ∙ c.commands.invariant.limits;
       read_under = c.in-Ok.ensures.reads.limits ∙ c.commands.invariant.read_under;
       going_on = subst (λ (given : Option Command). IsOverBy (Ok given) (is_over c.next.new.self)) c.in-Some.is c.in-Ok.ensures.over;
+      leads = leads_more limits (reader_place g.S.Source.left c.args.reader.now) before after c.in-Some.command c.commands.invariant.leads
+          (gave_under limits _ c.commands.invariant.read_under before after c.in-Ok.next (Some c.in-Some.command) c.in-Some.is c.in-Ok.ensures.reads.gives);
+      beyond = c.in-Ok.ensures.reads.beyond ∙ c.commands.invariant.beyond;
       source = c.in-Ok.ensures.reads.source ∙ c.commands.invariant.source;
       later = omega (arith, c.commands.invariant.later, c.in-Ok.ensures.reads.cause.later);
     }
@@ -89,6 +95,18 @@ returns-in-None-clause-loads g c =
     loads_all limits start before after (g.C.Contents.kept c.commands.contents) c.commands.importer.loading bytes
     (c.commands.invariant.loads start bytes here)
     (gave_under limits _ c.commands.invariant.read_under before after c.in-Ok.next None c.in-None.is c.in-Ok.ensures.reads.gives)
+
+pub returns-in-None-clause-ends : goal.returns-in-None-clause-ends
+returns-in-None-clause-ends g c =
+    let limits = c.args.importer.now.limits in
+    let before = reader_place g.S.Source.left c.commands.reader in
+    let after = reader_place g.S.Source.left c.next.new.self in
+    record {
+      ends = leads_out limits (reader_place g.S.Source.left c.args.reader.now) before after c.commands.invariant.leads
+          (gave_under limits _ c.commands.invariant.read_under before after c.in-Ok.next None c.in-None.is c.in-Ok.ensures.reads.gives);
+      whole = rw c.in-None.is at c.in-Ok.ensures.whole;
+      beyond = c.in-Ok.ensures.reads.beyond ∙ c.commands.invariant.beyond;
+    }
 
 pub returns-in-None-clause-furnished : goal.returns-in-None-clause-furnished
 returns-in-None-clause-furnished g c = c.commands.invariant.furnished

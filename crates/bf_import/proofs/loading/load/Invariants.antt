@@ -3,6 +3,7 @@ use Rattle.bf_history.specs.Keeping.{Kept}
 use Rattle.bf_stream.specs.Standing as standing
 use Rattle.bf_import.specs.Faults.{IsSameKind}
 use Rattle.bf_import.specs.Loading.{IsFurnishedBy, LoadsOn}
+use Rattle.bf_import.specs.Rest.{Leads}
 use Rattle.bf_import.proofs.loading.load.Given as goal
 
 abbrev pub invariant-commands : goal.invariant-commands
@@ -16,6 +17,8 @@ invariant-commands g l = record {
   limits : l.importer.limits ≡ l.fn.importer.limits;
   read_under : standing.limits_of l.reader ≡ l.fn.importer.limits;
   going_on : standing.is_over l.reader ≡ false;
+  leads : Leads l.fn.importer.limits (standing.reader_place g.S.Source.left l.fn.reader) (standing.reader_place g.S.Source.left l.reader);
+  beyond : standing.beyond_at g.S.Source.left l.reader ≡ standing.beyond_at g.S.Source.left l.fn.reader;
   source : standing.source_of l.reader ≡ standing.source_of l.fn.reader;
   later : standing.reader_faults g.S.Source.faults l.fn.reader ≤ standing.reader_faults g.S.Source.faults l.reader;
 }

@@ -1,8 +1,8 @@
-use Rattle.std.proofs.Common.{Ok, subst, sym, arith, ◌∙◌}
+use Rattle.std.proofs.Common.{Ok, subst, sym, ap, arith, ◌∙◌}
 use Rattle.bf_stream.specs.declared.window.Filled.{Filled}
 use Rattle.bf_stream.specs.Filling.{Fills}
 use Rattle.bf_stream.specs.Fronts.{FindsFront}
-use Rattle.bf_stream.specs.Held.{Held, place_of}
+use Rattle.bf_stream.specs.Held.{Held, beyond_of, place_of}
 use Rattle.bf_stream.proofs.Fronts.{answer_ended, answer_long, answer_end, answer_past, known_more, remaining_more}
 use Rattle.bf_stream.proofs.cursor.Cursor.find_front.Goals as goal
 
@@ -30,6 +30,7 @@ reads-preserved g c =
         turns = omega (arith, left.0, c.reads.invariant.goes.turns);
         limits = c.reads.invariant.goes.limits;
         source = c.reads.invariant.goes.source;
+        beyond = c.in_ok-fill.ensures.beyond ∙ c.reads.invariant.goes.beyond;
         later = omega (arith, c.in_ok-fill.ensures.cause.later, c.reads.invariant.goes.later);
       };
     }
@@ -49,3 +50,16 @@ returns-in-Past-clause-front g c =
     answer_past c.args.self.now.limits _ c.reads.self.window _ _ c.bytes-bytes.result.now c.end_of_line-end.result _
     (c.in_ok-fill.ensures.place ∙ c.reads.invariant.place)
     c.bytes-bytes.ensures.bytes c.end_of_line-end.ensures c.if-end-held.false passes c.passed.ensures
+
+pub returns-then-end-held-clause-beyond : goal.returns-then-end-held-clause-beyond
+returns-then-end-held-clause-beyond g c =
+    ap (λ (h : Held). beyond_of h (g.S.Source.left c.reads.self.source.now)) c.note_line.ensures ∙ c.reads.invariant.goes.beyond
+
+pub returns-then-held-enough-clause-beyond : goal.returns-then-held-enough-clause-beyond
+returns-then-held-enough-clause-beyond g c = c.reads.invariant.goes.beyond
+
+pub returns-in-End-clause-beyond : goal.returns-in-End-clause-beyond
+returns-in-End-clause-beyond g c = c.in_ok-fill.ensures.beyond ∙ c.reads.invariant.goes.beyond
+
+pub returns-in-Past-clause-beyond : goal.returns-in-Past-clause-beyond
+returns-in-Past-clause-beyond g c = c.in_ok-fill.ensures.beyond ∙ c.reads.invariant.goes.beyond

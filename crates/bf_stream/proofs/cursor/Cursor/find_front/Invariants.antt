@@ -8,7 +8,7 @@ abbrev pub invariant-reads : goal.invariant-reads
 invariant-reads g l = record {
   known : l.scanned ≤ end_at l.self.window.bytes;
   place : place_at g.S.Source.left l.self ≡ place_at g.S.Source.left l.fn.self;
-  goes : Goes g.S.Source.faults l.fn.self l.self;
+  goes : Goes g.S.Source.left g.S.Source.faults l.fn.self l.self;
 }
 
 abbrev pub decreases-reads : goal.decreases-reads

@@ -27,11 +27,11 @@ returns-in_err-ahead-clause-reads g c =
     reads_then next (rw c.if-branch.false at c.in_ok-at_word.ensures.reads)
     (reads_handed_on _ c.from_residual-in_err-ahead.ensures.1
     (reads_as (missing_failed c.at_word.new.self.limits _ _ _ c.next_front.new.self.window (g.S.Source.left c.next_front.new.self.source.now) found.front)
-    (advances_stopped found.advances)))
+    (advances_stopped found.advances) found.beyond))
 
 pub returns-clause-reads : goal.returns-clause-reads
 unfolding must_be_at
 returns-clause-reads g c =
     reads_then next (rw c.if-branch.false at c.in_ok-at_word.ensures.reads)
     (reads_as (missing_given c.at_word.new.self.limits _ c.next_front.new.self.window (g.S.Source.left c.next_front.new.self.source.now) c.in_ok-ahead.ahead
-    c.line_number.result _ c.in_ok-ahead.ensures.front c.line_number.ensures.number c.tell_missing.ensures) (search rules))
+    c.line_number.result _ c.in_ok-ahead.ensures.front c.line_number.ensures.number c.tell_missing.ensures) (search rules) c.in_ok-ahead.ensures.beyond)

@@ -8,7 +8,7 @@ abbrev pub invariant-lines : goal.invariant-lines
 invariant-lines g l = record {
   passed : GoesOnAs (next_front l.empty_too l.fn.self.limits) (next_front l.empty_too l.self.limits)
       (place_at g.S.Source.left l.fn.self) (place_at g.S.Source.left l.self);
-  goes : Goes g.S.Source.faults l.fn.self l.self;
+  goes : Goes g.S.Source.left g.S.Source.faults l.fn.self l.self;
 }
 
 abbrev pub decreases-lines : goal.decreases-lines

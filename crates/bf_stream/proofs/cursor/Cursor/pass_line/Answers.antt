@@ -32,3 +32,7 @@ returns-clause-step g c =
     c.in_ok-ahead.ensures.front
     (ap (λ (t : List ℕ). told_passed c.args.empty_too t c.in_ok-ahead.ahead) (sym c.line.ensures.held) ∙ sym c.in_ok-tell_passed.ensures ∙ ap (λ b. Ok b)
     c.if-branch.false)
+
+pub returns-then-branch-clause-beyond : goal.returns-then-branch-clause-beyond
+returns-then-branch-clause-beyond g c =
+    c.take_line.ensures.beyond (g.S.Source.left c.find_front.new.self.source.now) ∙ c.in_ok-ahead.ensures.beyond

@@ -5,4 +5,4 @@ use Rattle.bf_stream.proofs.cursor.Cursor.take_bytes.Goals as goal
 
 pub returns : goal.returns
 returns g c =
-    reads_as (all_taken c.args.line c.args.count _ c.pieces.left _ _ c.pieces.invariant.taken (omega arith)) (search rules)
+    reads_as (all_taken c.args.line c.args.count _ c.pieces.left _ _ c.pieces.invariant.taken (omega arith)) (search rules) c.pieces.invariant.goes.beyond

@@ -9,7 +9,7 @@ abbrev pub invariant-pieces : goal.invariant-pieces
 invariant-pieces g l = record {
   taken : GoesOnAs (bytes_at l.fn.line l.fn.count) (bytes_from l.line l.bytes l.left) (place_at g.S.Source.left l.fn.self)
       (place_at g.S.Source.left l.self);
-  goes : Goes g.S.Source.faults l.fn.self l.self;
+  goes : Goes g.S.Source.left g.S.Source.faults l.fn.self l.self;
 }
 
 abbrev pub decreases-pieces : goal.decreases-pieces

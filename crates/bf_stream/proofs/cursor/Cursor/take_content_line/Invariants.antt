@@ -10,7 +10,7 @@ invariant-pieces g l = record {
   taken : GoesOnAs (content_line l.self.limits l.line l.fn.content) (content_line l.self.limits l.line l.content)
       (place_at g.S.Source.left l.fn.self) (place_at g.S.Source.left l.self);
   within : length l.content ≤ l.self.limits.part;
-  goes : Goes g.S.Source.faults l.fn.self l.self;
+  goes : Goes g.S.Source.left g.S.Source.faults l.fn.self l.self;
 }
 
 abbrev pub decreases-pieces : goal.decreases-pieces

@@ -3,6 +3,7 @@ use Rattle.bf_stream.specs.declared.window.Filled.{Filled}
 use Rattle.bf_stream.specs.Filling.{IsReady}
 use Rattle.bf_stream.proofs.Ends.{end_at-le}
 use Rattle.bf_stream.proofs.Delimited.{content_end, content_past, content_large, content_piece}
+use Rattle.bf_stream.specs.Held.{Held, beyond_of}
 use Rattle.bf_stream.proofs.cursor.Cursor.take_content_piece.Goals as goal
 
 pub returns-in-End-clause-piece : goal.returns-in-End-clause-piece
@@ -34,3 +35,7 @@ returns-clause-piece g c =
     c.with_end_of_line-piece.result _ c.fill_if_empty.new.self c.take.new.self (g.S.Source.left c.fill_if_empty.new.source)
     c.in_ok-fill_if_empty.ensures.place c.bytes-bytes.ensures.bytes c.end_of_line-end.ensures c.with_end_of_line-piece.ensures c.requires (omega arith)
     c.in_ok-append.ensures.ok c.take.ensures
+
+pub returns-clause-beyond : goal.returns-clause-beyond
+returns-clause-beyond g c =
+    ap (λ (h : Held). beyond_of h (g.S.Source.left c.fill_if_empty.new.source)) c.take.ensures ∙ c.in_ok-fill_if_empty.ensures.beyond

@@ -11,7 +11,7 @@ pub lines-init : goal.lines-init
 lines-init g c = record {
   taken = lines_here c.args.self.now.limits c.args.line c.args.delimiter.now c.new-bytes.result _ c.new-bytes.ensures;
   within = omega (arith, ap length c.new-bytes.ensures);
-  goes = goes_here g.S.Source.faults c.args.self.now;
+  goes = goes_here g.S.Source.left g.S.Source.faults c.args.self.now;
 }
 
 pub lines-preserved : goal.lines-preserved
@@ -27,8 +27,8 @@ lines-preserved g c =
           (subst (λ (limits : Limits). Gives (λ (_ : Unit {0}). c.take_content_line.new.content) (place_at left c.take_delimiter.new.self)
           (place_at left c.take_content_line.new.self) (Ok tt) (content_line limits c.args.line c.lines.bytes)) same line.line);
       within = line.within;
-      goes = goes_further (goes_further c.lines.invariant.goes (record { turns = last.turns; cause = last.cause; limits = last.limits; source = last.source }))
-          line.advances;
+      goes = goes_further (goes_further c.lines.invariant.goes (record { turns = last.turns; cause = last.cause; limits = last.limits; source = last.source })
+          last.beyond) line.advances line.beyond;
     }
 
 pub returns-in_err-take_delimiter : goal.returns-in_err-take_delimiter
@@ -36,7 +36,7 @@ returns-in_err-take_delimiter g c =
     let gives = c.in_err-take_delimiter.ensures.gives in
     reads_handed_on _ c.from_residual.ensures.1
     (reads_as (lines_stopped c.args.self.now.limits c.args.line c.args.delimiter.now c.lines.bytes _ _ (place_at g.S.Source.left c.take_delimiter.new.self) _ _
-    c.lines.invariant.taken gives) (search rules))
+    c.lines.invariant.taken gives) (search rules) (c.in_err-take_delimiter.ensures.beyond ∙ c.lines.invariant.goes.beyond))
 
 pub returns-in_err-take_content_line : goal.returns-in_err-take_content_line
 returns-in_err-take_content_line g c =
@@ -49,4 +49,5 @@ returns-in_err-take_content_line g c =
     (rw c.if-branch.false at c.in_ok-take_delimiter.ensures.gives)
     (subst (λ (limits : Limits). Gives (λ (_ : Unit {0}). c.take_content_line.new.content) (place_at left c.take_delimiter.new.self)
     (place_at left c.take_content_line.new.self) (Err c.in_err-take_content_line.field-0.0) (content_line limits c.args.line c.lines.bytes)) same
-    c.in_err-take_content_line.ensures.line)) (search rules))
+    c.in_err-take_content_line.ensures.line)) (search rules)
+    (c.in_err-take_content_line.ensures.beyond ∙ c.in_ok-take_delimiter.ensures.beyond ∙ c.lines.invariant.goes.beyond))

@@ -11,7 +11,7 @@ invariant-lines g l = record {
   taken : GoesOnAs (delimited_at l.fn.self.limits l.line l.delimiter) (repeat (delimited_line l.fn.self.limits l.line l.delimiter) l.bytes)
       (place_at g.S.Source.left l.fn.self) (place_at g.S.Source.left l.self);
   within : length l.bytes ≤ l.self.limits.part;
-  goes : Goes g.S.Source.faults l.fn.self l.self;
+  goes : Goes g.S.Source.left g.S.Source.faults l.fn.self l.self;
 }
 
 abbrev pub decreases-lines : goal.decreases-lines

@@ -11,13 +11,13 @@ returns-then-end-held g c =
     reads_as (delimiter_ended c.args.delimiter.now c.reads.self.window c.take_line_if.new.self (g.S.Source.left c.reads.self.source.now) _
     c.bytes-bytes.result.now c.end_of_line-end.result c.take_line_if.result
     c.reads.invariant.place c.bytes-bytes.ensures.bytes c.end_of_line-end.ensures c.if-end-held.true c.take_line_if.ensures.test c.take_line_if.ensures.held)
-    (search rules)
+    (search rules) (c.take_line_if.ensures.beyond _ ∙ c.reads.invariant.goes.beyond)
 
 pub returns-then-held-delimiter : goal.returns-then-held-delimiter
 returns-then-held-delimiter g c =
     reads_as (delimiter_longer c.args.delimiter.now c.reads.self.window (g.S.Source.left c.reads.self.source.now) _ c.bytes-bytes.result.now
     c.end_of_line-end.result
-    c.reads.invariant.place c.bytes-bytes.ensures.bytes c.end_of_line-end.ensures c.if-end-held.false c.if-held-delimiter.true) (search rules)
+    c.reads.invariant.place c.bytes-bytes.ensures.bytes c.end_of_line-end.ensures c.if-end-held.false c.if-held-delimiter.true) (search rules) c.reads.invariant.goes.beyond
 
 pub reads-preserved : goal.reads-preserved
 reads-preserved g c =
@@ -31,6 +31,7 @@ reads-preserved g c =
         turns = omega (arith, left.0, c.reads.invariant.goes.turns);
         limits = c.reads.invariant.goes.limits;
         source = c.reads.invariant.goes.source;
+        beyond = c.in_ok-fill.ensures.beyond ∙ c.reads.invariant.goes.beyond;
         later = omega (arith, c.in_ok-fill.ensures.cause.later, c.reads.invariant.goes.later);
       };
     }
@@ -42,6 +43,7 @@ returns-in-End g c =
     reads_as (delimiter_end c.args.delimiter.now c.reads.self.window c.fill.new.self c.take_line_if-in-End.new.self (g.S.Source.left c.fill.new.source) _
     c.take_line_if-in-End.result
     (c.in_ok-fill.ensures.place ∙ c.reads.invariant.place) ends c.take_line_if-in-End.ensures.test c.take_line_if-in-End.ensures.held) (search rules)
+    (c.take_line_if-in-End.ensures.beyond _ ∙ c.in_ok-fill.ensures.beyond ∙ c.reads.invariant.goes.beyond)
 
 pub returns-in-Past : goal.returns-in-Past
 returns-in-Past g c =
@@ -50,3 +52,4 @@ returns-in-Past g c =
     reads_as (delimiter_past c.args.delimiter.now c.reads.self.window c.fill.new.self (g.S.Source.left c.fill.new.source) _ c.bytes-bytes.result.now
     c.end_of_line-end.result
     (c.in_ok-fill.ensures.place ∙ c.reads.invariant.place) c.bytes-bytes.ensures.bytes c.end_of_line-end.ensures c.if-end-held.false passes) (search rules)
+    (c.in_ok-fill.ensures.beyond ∙ c.reads.invariant.goes.beyond)

@@ -6,6 +6,7 @@ use Rattle.bf_stream.specs.Data.{bytes_from}
 use Rattle.bf_stream.specs.Filling.{IsReady}
 use Rattle.bf_stream.proofs.Going.{gives_fault_where}
 use Rattle.bf_stream.proofs.Pieces.{rest_at_end, rest_at_past, bytes_end, bytes_past, piece_taken}
+use Rattle.bf_stream.specs.Held.{Held, beyond_of}
 use Rattle.bf_stream.proofs.cursor.Cursor.take_piece.Goals as goal
 
 pub returns-in-End-clause-piece : goal.returns-in-End-clause-piece
@@ -31,3 +32,7 @@ returns-clause-piece g c =
     (g.S.Source.left c.fill_if_empty.new.source)
     c.in_ok-fill_if_empty.ensures.place c.take.ensures (omega arith) (omega arith)
     (c.in_ok-append.ensures.ok ∙ ap (λ (l : List ℕ). c.args.bytes.now ++ take c.min-piece.result l) c.bytes-held.ensures.bytes) refl
+
+pub returns-clause-beyond : goal.returns-clause-beyond
+returns-clause-beyond g c =
+    ap (λ (h : Held). beyond_of h (g.S.Source.left c.fill_if_empty.new.source)) c.take.ensures ∙ c.in_ok-fill_if_empty.ensures.beyond
