@@ -11,3 +11,4 @@ pub mod Redoing
 pub mod Ending
 pub mod Lengths
 pub mod Fresh
+pub mod Adding

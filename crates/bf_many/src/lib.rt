@@ -8,6 +8,7 @@
 mod absorb;
 mod answers;
 mod board;
+mod held;
 mod laws;
 mod many;
 mod next;
@@ -17,7 +18,7 @@ mod search;
 mod share;
 mod worker;
 
-pub use answers::{ManyEvent, ManyPick};
+pub use answers::{Held, ManyEvent, ManyPick};
 pub use laws::{searches_run_alone, the_fewest_claims_go_before, workers_have_one_claim};
 pub use many::ManyCore;
 pub use run::{ManyCase, Shared, run_shared};

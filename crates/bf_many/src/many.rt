@@ -1,15 +1,16 @@
 //! The cores of several searches.
-ghost use Rattle.std.specs.Prelude.{◌≡◌, ◌↔◌, ◌<◌, ◌≤◌, true, false, [], Some, length, map, All, IfOk, OnOk, OnErr, IfSome, IfNone};
+ghost use Rattle.std.specs.Prelude.{◌≡◌, ◌↔◌, ◌<◌, ◌≤◌, true, false, [], ◌∷◌, ◌++◌, Some, length, map, All, IfOk, OnOk, OnErr, IfSome, IfNone};
 ghost use Rattle.std.specs.List.{slice_get};
 ghost use Rattle.std.specs.List.Sorted.{IsStrictlyIncreasing};
 ghost use Rattle.bf_search.specs.declared.farm.Event.{Event as EventValue};
 ghost use Rattle.bf_core.specs.Machine.{IsConsumed};
 ghost use Rattle.bf_many.specs.declared.answers.ManyPick.{ManyPick as PickValue};
-ghost use Rattle.bf_many.specs.Many.{is_busy};
+ghost use Rattle.bf_many.specs.Many.{held_by, is_busy};
 ghost use Rattle.bf_many.specs.Cores.{AreAllTaken, AreSameButNodes, AreWithdrawnIn, CanStart, DoesAt, HaveAllEnded};
-ghost use Rattle.bf_many.specs.Cores.{KeepsGuessesAt, Picks, StaysBesideAt, StepsIf, is_claimed, machines_of, starts_of};
+ghost use Rattle.bf_many.specs.Cores.{KeepsGuessesAt, Picks, StaysBesideAt, StepsIf, is_claimed, machines_of, start_of, starts_of};
 
-use crate::answers::{ManyEvent, ManyPick};
+use crate::answers::{Held, ManyEvent, ManyPick};
+use crate::held::held_by;
 use crate::next::{apply, is_busy, pick};
 use crate::search::Search;
 use bf_core::{Core, Withdrawn};
@@ -62,6 +63,29 @@ impl<'r> ManyCore<'r> {
             cores.push(core)?;
         }
         Ok(ManyCore { cores })
+    }
+
+    /// Adds a search, which joins behind the others: its core has consumed its table. After an error all is as
+    /// before.
+    pub fn add(&mut self, alloc: Global, reach: &'r Reach, search: Search) -> Result<(), AllocError>
+        requires few { length self.old < 64 }
+        requires can { CanStart (length reach.now) search }
+        ensures added { OnOk result
+            (machines_of self.new ≡ machines_of self.old ++ start_of reach.entry.now search ∷ []) }
+        ensures consumed { OnOk result (All IsConsumed self.new) }
+        ensures err { OnErr result (self.new ≡ self.old) }
+    {
+        let Search { state, table } = search;
+        let core = Core::start(alloc, reach, state, table, 0)?;
+        self.cores.push(core)?;
+        Ok(())
+    }
+
+    /// The claim of a worker: the first search in which it has one, and the place.
+    pub fn held_by(&self, worker: u32) -> Option<Held>
+        ensures { result ≡ held_by (machines_of self.now) worker }
+    {
+        held_by(self.cores.as_slice(), worker)
     }
 
     /// The core of a search.
