@@ -14,7 +14,7 @@ TOP = os.path.dirname(os.path.dirname(os.path.abspath(__file__)))
 PAGE = os.path.join(TOP, "docs", "AUDIT.md")
 FRONT = os.path.join(TOP, "README.md")  # it has the figures, too, in the same order
 FIGURE = re.compile(r"\d+ definitions in \d+ lines")
-HEADLINE = ("bf_search.specs.Run", "one_at_a_time")
+HEADLINE = ("bf_output.specs.Tested", "IsTestedAs")
 TEXT = ("bf_output.specs.Output", "IsOutput")
 USE = re.compile(r"^(?:ghost )?use Rattle\.(\S+?)(?:\.\{([^}]*)\}| as (\S+?));?$", re.M)
 HEAD = re.compile(r"^(?:(?:abbrev|unfoldable|opaque|pub|record|data)\s+)*([^\s:(){}]+)")
@@ -136,16 +136,29 @@ def sentences_of(page, columns):
     return {row[0]: row[-columns:] for row in rows}
 
 
+def sentences_by_file(page):
+    """What people wrote of each definition of the first table, by the row that names its file and the one of the definition."""
+    kept, file = {}, ""
+    for row in page.split("\n"):
+        if row.startswith("| **`"):
+            file = row
+        elif row.startswith("| `"):
+            cells = [cell.strip() for cell in row.strip("|").split("|")]
+            kept[file, cells[0]] = cells[-1]
+    return kept
+
+
 def headline_table(book, page):
-    kept = sentences_of(page, 1)
+    kept, file = sentences_by_file(page), ""
     yield "| Definition | Lines | What it says |\n|---|---:|---|"
-    file = ""
     for found in book.rest_of([HEADLINE]):
-        if found.file != file:
-            file = found.file
-            yield f"| **`{file.split('.')[0]}/specs/{file.split('.')[2]}.antt`** | | |"
-        said = kept.get(f"`{found.name}`", [" ".join(found.comment)])
-        yield f"| `{found.name}` | {len(found.lines)} | {said[0]} |"
+        crate, _, name = found.file.split(".")
+        heading = f"| **`{crate}/specs/{name}.antt`** | | |"
+        if heading != file:
+            file = heading
+            yield file
+        said = kept.get((file, f"`{found.name}`"), " ".join(found.comment))
+        yield f"| `{found.name}` | {len(found.lines)} | {said} |"
 
 
 def crates_table(book, page):

@@ -1,26 +1,52 @@
--- A certificate that is told is accepted.
-use Rattle.std.proofs.Common.{inl, refl, ap, subst}
-use Rattle.bf_certify.specs.Laws.{AreAccepted, IsAcceptedFor}
+-- A certificate that is told is accepted, and of each text what is told is right.
+use Rattle.std.proofs.Common.{◌≡◌, ◌⊎◌, inl, inr, ℕ, length, Result, Ok, Err, refl, sym, ap, ◌∙◌, subst}
+use Rattle.bf_cert.specs.declared.cert.Cert.{Cert}
+use Rattle.bf_cert.specs.declared.fault.CertFault.TheVariants.{Line as LineFails}
+use Rattle.bf_cert.specs.Certificates.{IsWithin}
+use Rattle.bf_cert.specs.Lines.{AreNames}
+use Rattle.bf_cert.specs.Reading.{read_text}
+use Rattle.bf_cert.proofs.Saying.{told_text, written_reads}
+use Rattle.bf_cert.proofs.Telling.{read_told, refusal_told}
+use Rattle.bf_certify.specs.Laws.{AreAccepted, AreChecked, IsAccepted, IsAcceptedFor, IsRefused}
 use Rattle.bf_commands.specs.Certify.{IsCertOf, IsCertTold}
+use Rattle.bf_commands.specs.Check.{checked, told_of_read}
 use Rattle.bf_history.specs.Meanings.{History}
 use Rattle.bf_output.specs.Told.{Told}
 use Rattle.bf_search.specs.Run.{End}
 use Rattle.bf_search.specs.State.{Search}
 
-accepted_of : (history : History) (s : Search) (told : Told) → IsCertOf history s told → IsAcceptedFor history s told
-accepted_of history s told is = record {
+accepted_of : (history : History) (s : Search) (told : Told) → AreNames history.names → length history.names ≡ length history.parents
+    → IsCertOf history s told → IsAcceptedFor history s told
+accepted_of history s told names long is = record {
   done = ap (λ (t : Told). t.status) is.tells;
   place = is.cert.bad;
   bad = is.made.bad;
-  checked = inl (record {
-    cert = is.cert;
-    text = ap (λ (t : Told). t.text) is.tells;
-    holds = is.holds;
-    within = is.within;
-    tells = refl;
-  });
+  accepted =
+      ap (λ (t : Told). checked history t.text) is.tells
+      ∙ ap (told_of_read history)
+      (written_reads history.names history.parents is.cert names (subst (λ (n : ℕ). IsWithin n is.cert) (sym long) is.within) is.holds);
 }
 
 pub accepted : AreAccepted
-accepted history first run place told found is =
-    accepted_of history run.search told (subst (λ (end : End). IsCertTold history first run end told) found is)
+accepted history first run place told names long found is =
+    accepted_of history run.search told names long (subst (λ (end : End). IsCertTold history first run end told) found is)
+
+pub are_checked : AreChecked
+are_checked history bytes = by (read_text history.names history.parents bytes) refl
+  where
+    by : (read : Result Cert ℕ) → read_text history.names history.parents bytes ≡ read
+        → IsAccepted history bytes (told_of_read history read) ⊎ IsRefused history bytes (told_of_read history read)
+    by (Ok cert) is =
+        let told = read_told history.names history.parents bytes cert is in
+        inl (record {
+          cert = cert;
+          text = told_text history.names history.parents bytes cert told;
+          said = told.said;
+          holds = told.holds;
+          tells = refl;
+        })
+    by (Err n) is = inr (record {
+      line = n;
+      fails = refusal_told history.names history.parents bytes (LineFails n) is;
+      tells = refl;
+    })

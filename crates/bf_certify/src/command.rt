@@ -68,6 +68,7 @@ pub fn certify<R: Host, S: Source, F: Shelf, T: Tester, K: Sink>(
     ensures unloaded { IsLeftUnless (asks_file (request_to_certify words.now)) shelf.old shelf.new }
     ensures untested { IsUntestedIfRefused (met_tester T.Tester tester.old tester.new) result }
     ensures is_split { T.is_split tester.new ≡ false }
+    ensures recalled { T.recalled tester.new ≡ T.recalled tester.old }
 {
     let answer = answer(rt, alloc, words, stream, shelf, tester);
     say_tested(out, answer)
@@ -100,6 +101,7 @@ fn answer<R: Host, S: Source, F: Shelf, T: Tester>(
     ensures unread { IsLeftUnless (reads (request_to_certify words.now)) stream.old stream.new }
     ensures unloaded { IsLeftUnless (asks_file (request_to_certify words.now)) shelf.old shelf.new }
     ensures is_split { T.is_split tester.new ≡ false }
+    ensures recalled { T.recalled tester.new ≡ T.recalled tester.old }
 {
     match read_to_certify(alloc, words) {
         Ok(request) => {
@@ -155,6 +157,7 @@ fn certify_stream<R: Host, S: Source, F: Shelf, T: Tester>(
     ensures used { IsUsedIn line.entry (met_tester T.Tester tester.old tester.new) }
     ensures unloaded { IsLeftUnless (is_some line.entry.request.now.replay) shelf.old shelf.new }
     ensures is_split { T.is_split tester.new ≡ false }
+    ensures recalled { T.recalled tester.new ≡ T.recalled tester.old }
 {
     match import(line.alloc, stream, Limits::standard()) {
         Ok(history) => certify_over(rt, line, history, shelf, tester),
@@ -188,6 +191,7 @@ fn certify_over<R: Host, F: Shelf, T: Tester>(
     ensures used { IsUsedIn line.entry (met_tester T.Tester tester.old tester.new) }
     ensures unloaded { IsLeftUnless (is_some line.entry.request.now.replay) shelf.old shelf.new }
     ensures is_split { T.is_split tester.new ≡ false }
+    ensures recalled { T.recalled tester.new ≡ T.recalled tester.old }
 {
     let file = load_file(line.words, line.request.replay, shelf)?;
     certify_file(rt, line, lent(&file), history, tester)
@@ -216,6 +220,7 @@ fn certify_file<R: Host, T: Tester>(
     ensures no_shelf { IsErrOf result Fault.Shelf → ⊥ }
     ensures used { IsUsedIn line.entry (met_tester T.Tester tester.old tester.new) }
     ensures is_split { T.is_split tester.new ≡ false }
+    ensures recalled { T.recalled tester.new ≡ T.recalled tester.old }
 {
     let reach = Reach::build(line.alloc, history.graph())?;
     match begin(line.alloc, line, file, &history, &reach) {

@@ -35,6 +35,7 @@ pub(crate) fn certify_search<R: Host, T: Tester>(
     ensures of_search { IfOk result IsOfSearch }
     ensures used { IsUsedIn line.entry (met_tester T.Tester tester.old tester.new) }
     ensures is_split { T.is_split tester.new ≡ false }
+    ensures recalled { T.recalled tester.new ≡ T.recalled tester.old }
 {
     match started.means {
         Means::Plan => certify_by_plan(rt, line, started),
@@ -73,6 +74,7 @@ fn certify_by_command<R: Host, T: Tester>(
     ensures of_search { IfOk result IsOfSearch }
     ensures used { IsUsedToTest line.entry (met_tester T.Tester tester.old tester.new) }
     ensures is_split { T.is_split tester.new ≡ false }
+    ensures recalled { T.recalled tester.new ≡ T.recalled tester.old }
 {
     tester.prepare(command_of(line), line.request.lenient)?;
     certify_run(rt, line, started, tester)

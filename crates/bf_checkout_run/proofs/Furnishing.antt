@@ -25,7 +25,7 @@ use Rattle.bf_checkout.specs.declared.folder.Folder as folder
 use Rattle.bf_checkout.specs.Checkouts.{grounds_of}
 use Rattle.bf_checkout.specs.Shops.{Shop, faults_of, furnished}
 use Rattle.bf_commands.specs.Checkout.{IsCheckedOut}
-use Rattle.bf_checkout_run.specs.CheckingOut.{AreGroundsOf, IsFurnishedFor}
+use Rattle.bf_checkout_run.specs.CheckingOut.{AreGroundsOf, IsFurnishedFor, IsFurnishedIf, IsLeftByAnswer}
 
 -- what is told over the history of a content is told of the stream that loads it
 loaded : (request : Request) (given : Given) (left : Option (List ℕ)) (content : Content) (told : Told) → MayFurnish left standard_limits (Ok content)
@@ -63,12 +63,6 @@ grounds_loaded : (left : Option (List ℕ)) (content : Content) (grounds : List 
 grounds_loaded None content grounds may same = tt
 grounds_loaded (Some bytes) content grounds may same = (content, may, same)
 
-pub furnished_for : (left : Option (List ℕ)) (content : Content) (grounds : List Ground) (result : Result Ready Fault)
-    → MayFurnish left standard_limits (Ok content) → grounds ≡ grounds_of content → IfOk result (IsFurnishedFor left grounds)
-furnished_for left content grounds (Err cut) may same = tt
-furnished_for left content grounds (Ok (Told_ answer)) may same = tt
-furnished_for left content grounds (Ok (Search started)) may same = grounds_loaded left content grounds may same
-
 -- ---- a workshop that is furnished
 
 -- what a workshop shows, by its tester and its folder
@@ -103,3 +97,28 @@ furnished_own {T} {D} before after content same = same ∙ ap (furnished before)
 pub grounds_furnished : {T D : Type 0} (before after : Shop T D) (given content : Content) → after ≡ furnished before given → given ≡ content
     → grounds_of after.content ≡ grounds_of content
 grounds_furnished {T} {D} before after given content same of = ap (λ (shop : Shop T D). grounds_of shop.content) same ∙ ap grounds_of of
+
+-- a search is furnished with a content, and an answer leaves the workshop
+pub furnished_if : {T D : Type 0} (before after : Shop T D) (content : Content) (ready : Ready) → IsFurnishedIf before after content ready
+    → after ≡ furnished before after.content
+furnished_if {T} {D} before after content (Told_ answer) same =
+    same ∙ ap (furnished before) (sym (ap (λ (shop : Shop T D). shop.content) same))
+furnished_if before after content (Search started) same = furnished_own before after content same
+
+pub left_if : {T D : Type 0} (before after : Shop T D) (content : Content) (ready : Ready) → IsFurnishedIf before after content ready
+    → IsLeftByAnswer before after ready
+left_if before after content (Told_ answer) same = same
+left_if before after content (Search started) same = tt
+
+pub grounds_if : {T D : Type 0} (left : Option (List ℕ)) (before after : Shop T D) (given content : Content) (ready : Ready)
+    → MayFurnish left standard_limits (Ok content) → given ≡ content → IsFurnishedIf before after given ready
+    → IsFurnishedFor left (grounds_of after.content) ready
+grounds_if left before after given content (Told_ answer) may of same = tt
+grounds_if left before after given content (Search started) may of same =
+    grounds_loaded left content (grounds_of after.content) may (grounds_furnished before after given content same of)
+
+-- an answer that was found leaves the workshop
+pub left_told : {S : Type 0} (before after : S) (ready : Result Ready Fault) (found : Ready) (answer : Answer) → ready ≡ Ok found → found ≡ Told_ answer
+    → IfOk ready (IsLeftByAnswer before after) → after ≡ before
+left_told before after ready found answer is of left =
+    subst (IsLeftByAnswer before after) of (subst (λ (r : Result Ready Fault). IfOk r (IsLeftByAnswer before after)) is left)

@@ -19,6 +19,7 @@ use Rattle.bf_answers.specs.Answers.{Command}
 use Rattle.bf_answers.specs.Devices.{Met, given_in}
 use Rattle.bf_answers.specs.Ready.{AllTold}
 use Rattle.bf_checkout.specs.Checkouts.{grounds_of}
+use Rattle.bf_checkout.specs.Shops.{Shop, furnished}
 use Rattle.bf_commands.specs.declared.order.Order.TheVariants.{Checkout}
 use Rattle.bf_commands.specs.Checkout.{IsCheckedOut, IsCheckoutFor}
 use Rattle.bf_commands.specs.Orders.{request_of}
@@ -67,3 +68,13 @@ HasGroundsOf left answers grounds = answers ≢ [] → AreGroundsOf left grounds
 abbrev pub IsFurnishedFor : Option (List ℕ) → List Ground → Ready → Type 0
 IsFurnishedFor left grounds (Told answer) = Unit {0}
 IsFurnishedFor left grounds (Search started) = AreGroundsOf left grounds
+
+-- what becomes of a workshop by what is ready: a search gives it the content to test in, an answer leaves it
+abbrev pub IsFurnishedIf : {T D : Type 0} → Shop T D → Shop T D → Content → Ready → Type 0
+IsFurnishedIf before after content (Told answer) = after ≡ before
+IsFurnishedIf before after content (Search started) = after ≡ furnished before content
+
+-- an answer leaves it
+abbrev pub IsLeftByAnswer : {S : Type 0} → S → S → Ready → Type 0
+IsLeftByAnswer before after (Told answer) = after ≡ before
+IsLeftByAnswer before after (Search started) = Unit {0}

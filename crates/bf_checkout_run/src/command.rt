@@ -3,7 +3,7 @@ ghost use Rattle.std.specs.Prelude.{◌≡◌, ◌≢◌, false, [], Ok};
 ghost use Rattle.bf_io.specs.Causes.{Rose};
 ghost use Rattle.bf_output.specs.Output.{IsUsedFor, asks_file, reads, tests};
 ghost use Rattle.bf_output.specs.Shown.{shown_by};
-ghost use Rattle.bf_answers.specs.Answers.{Answers, HasTestCause, IsComplete, IsUntestedIfRefused};
+ghost use Rattle.bf_answers.specs.Answers.{Answers, HasTestCause, IsBeforeSearch, IsComplete, IsUntestedIfRefused};
 ghost use Rattle.bf_answers.specs.Devices.{IsLeftUnless, met, met_shelf, met_sink, met_source, met_tester};
 ghost use Rattle.bf_answers.specs.Steps.{HasPlan};
 ghost use Rattle.bf_checkout.specs.Checkouts.{grounds_of};
@@ -66,6 +66,7 @@ pub fn checkout<R: Host, S: Source, F: Shelf, U: FolderTester<D>, D: Folder, K: 
     ensures unfurnished { IsLeftUnless (reads (asked_by words.now)) shop.old shop.new }
     ensures untested { let shops = met_tester ⟦<Workshop<U, D> as Tester>⟧ shop.old shop.new in
         IsUntestedIfRefused shops result }
+    ensures untouched { IsBeforeSearch result → shop.new ≡ shop.old }
     // What the workshop tested in.
     ensures is_split { U.is_split shop.new.tester ≡ false }
     ensures grounds { let grounds = grounds_of shop.new.content in
@@ -117,6 +118,7 @@ fn checkout_line<R: Host, S: Source, F: Shelf, U: FolderTester<D>, D: Folder, K:
     ensures unloaded { IsLeftUnless (asks_file (Ok line.entry.request.now)) shelf.old shelf.new }
     ensures untested { let shops = met_tester ⟦<Workshop<U, D> as Tester>⟧ shop.old shop.new in
         IsUntestedIfRefused shops result }
+    ensures untouched { IsBeforeSearch result → shop.new ≡ shop.old }
     ensures is_split { U.is_split shop.new.tester ≡ false }
     ensures grounds { let grounds = grounds_of shop.new.content in
         HasGroundsOf (S.left stream.old) (U.answers shop.new.tester) grounds }

@@ -1,23 +1,23 @@
 //! What stands before the tests: the stream with its contents, the file of a log, and the search that begins.
-ghost use Rattle.std.specs.Prelude.{◌≡◌, [], is_some, IfOk, IsErrOf, IsTrue};
+ghost use Rattle.std.specs.Prelude.{◌≡◌, [], is_some, IfOk, IsErrOf, IsTrue, OnErr};
 ghost use Rattle.bf_io.specs.Causes.{FailsOnlyAt};
 ghost use Rattle.bf_answers.specs.Devices.{IsLeftUnless};
 ghost use Rattle.bf_answers.specs.Ready.{IsSound, TellsHistory};
 ghost use Rattle.bf_checkout.specs.Checkouts.{grounds_of};
 ghost use Rattle.bf_checkout.specs.Shops.{furnished};
-ghost use Rattle.bf_checkout_run.specs.CheckingOut.{IsFurnishedFor, TellsCheckout};
+ghost use Rattle.bf_checkout_run.specs.CheckingOut.{IsFurnishedFor, IsFurnishedIf, IsLeftByAnswer, TellsCheckout};
 ghost use Rattle.bf_words.specs.declared.verb.Verb.TheVariants as Verb;
 
 use bf_answers::{Fault, Line, Means, Ready, refusal};
 use bf_begin::{lent, load_file, start};
 use bf_checkout::{Folder, FolderTester, Workshop};
 use bf_grammar::Limits;
-use bf_import::{History, import_with_blobs};
+use bf_import::{Content, History, import_with_blobs};
 use bf_io::{Shelf, Source};
 use std::sync::Arc;
 
-/// What a line is answered before any commit is tested, or the search that is to be tested. The workshop gets the
-/// content of the stream, which is read to its end.
+/// What a line is answered before any commit is tested, or the search that is to be tested. For a search the workshop
+/// gets the content of the stream, which is read to its end; by an answer, and by an error, it is left as it was.
 pub(crate) fn prepare<S: Source, F: Shelf, U: FolderTester<D>, D: Folder>(
     line: Line<'_>,
     stream: &mut S,
@@ -33,16 +33,34 @@ pub(crate) fn prepare<S: Source, F: Shelf, U: FolderTester<D>, D: Folder>(
     ensures file { FailsOnlyAt Fault.Shelf (F.faults shelf.old) (F.faults shelf.new) result }
     ensures unloaded { IsLeftUnless (is_some line.entry.request.now.replay) shelf.old shelf.new }
     ensures shop { shop.new ≡ furnished shop.old shop.new.content }
+    ensures left { IfOk result (IsLeftByAnswer shop.old shop.new) }
+    ensures err { OnErr result (shop.new ≡ shop.old) }
     ensures grounds { IfOk result
         (IsFurnishedFor (S.left stream.old) (grounds_of shop.new.content)) }
 {
     match import_with_blobs(line.alloc, stream, Limits::standard()) {
         Ok(content) => {
             let history = content.history().share()?;
-            shop.furnish(Arc::new(line.alloc, content)?);
-            prepare_over(line, history, shelf)
+            let shared = Arc::new(line.alloc, content)?;
+            let ready = prepare_over(line, history, shelf)?;
+            furnish_for(&ready, shared, shop);
+            Ok(ready)
         }
         Err(fault) => Ok(Ready::Told(refusal(line.alloc, fault)?)),
+    }
+}
+
+/// Gives the workshop the content of a search; an answer leaves it.
+fn furnish_for<U: FolderTester<D>, D: Folder>(
+    ready: &Ready,
+    content: Arc<Content>,
+    shop: &mut Workshop<U, D>,
+)
+    requires fresh { U.answers shop.old.tester ≡ [] }
+    ensures { IsFurnishedIf shop.old shop.new content.value ready.now }
+{
+    if let Ready::Search(_) = ready {
+        shop.furnish(content);
     }
 }
 

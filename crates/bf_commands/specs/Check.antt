@@ -1,10 +1,9 @@
 -- The command `check`: whether a file is a certificate that holds.
-use Rattle.std.specs.Prelude.{◌≡◌, ◌⊎◌, ℕ, List, ◌++◌, length, codes, Option, Some, None, Result, Ok, Err}
+use Rattle.std.specs.Prelude.{◌≡◌, ℕ, List, ◌++◌, codes, Option, Some, None, Result, Ok, Err}
 use Rattle.std.specs.Fmt.{decimal}
 use Rattle.bf_cert.specs.declared.cert.Cert.{Cert}
-use Rattle.bf_cert.specs.Certificates.{Holds, IsWithin}
-use Rattle.bf_cert.specs.Faults.{IsFirstFault}
-use Rattle.bf_cert.specs.Lines.{cert_text, digits_of, lines_of}
+use Rattle.bf_cert.specs.Lines.{digits_of}
+use Rattle.bf_cert.specs.Reading.{read_text}
 use Rattle.bf_history.specs.Meanings.{History}
 use Rattle.bf_io.specs.declared.shelf.ShelfFile.{ShelfFile}
 use Rattle.bf_terms.specs.Texts.{text_line}
@@ -27,31 +26,23 @@ cert_refused line = record {
   text = text_line (codes "certificate fails at line " ++ decimal line);
 }
 
--- the text is that of a certificate of commits that holds, whose bad one is named
-pub record IsAccepted (history : History) (bytes : List ℕ) (told : Told) : Type 0 where
-  pub cert : Cert
-  pub text : bytes ≡ cert_text history.names cert
-  pub holds : Holds history.parents cert
-  pub within : IsWithin (length history.parents) cert
-  pub tells : told ≡ cert_holds history cert.bad
+-- the bad commit of a certificate that was read, or the first line at fault
+abbrev pub told_of_read : History → Result Cert ℕ → Told
+told_of_read history (Ok cert) = cert_holds history cert.bad
+told_of_read history (Err line) = cert_refused line
 
--- the first line is named with which it is none
-pub record IsRefused (history : History) (bytes : List ℕ) (told : Told) : Type 0 where
-  pub line : ℕ
-  pub fails : IsFirstFault history.names history.parents (lines_of bytes) line
-  pub tells : told ≡ cert_refused line
+-- what is told of a text: it is read line by line
+abbrev pub checked : History → List ℕ → Told
+checked history bytes = told_of_read history (read_text history.names history.parents bytes)
 
-abbrev pub IsTextChecked : History → List ℕ → Told → Type 0
-IsTextChecked history bytes told = IsAccepted history bytes told ⊎ IsRefused history bytes told
-
-abbrev pub IsFileChecked : History → Result (List ℕ) Told → Told → Type 0
-IsFileChecked history (Ok bytes) told = IsTextChecked history bytes told
-IsFileChecked history (Err refusal) told = told ≡ refusal
+abbrev pub checked_file : History → Result (List ℕ) Told → Told
+checked_file history (Ok bytes) = checked history bytes
+checked_file history (Err refusal) = refusal
 
 -- the file that word 1 names, over a history
 abbrev pub IsChecked : List (List ℕ) → Option (List ShelfFile) → History → Told → Type 0
 IsChecked words files history told =
-    IsFiled (λ file told. IsFileChecked history (file_or_refusal file) told) words 1 files told
+    IsFiled (λ file told. told ≡ checked_file history (file_or_refusal file)) words 1 files told
 
 abbrev pub IsCheckedFor : Option ℕ → List (List ℕ) → Option (List ShelfFile) → Option (List ℕ) → Told → Type 0
 IsCheckedFor (Some word) words files stream told = told ≡ usage word

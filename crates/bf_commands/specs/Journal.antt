@@ -1,5 +1,5 @@
 -- The command `journal`: a run whose outcomes are kept in a file, leg by leg.
-use Rattle.std.specs.Prelude.{◌≡◌, ◌≢◌, ◌⊎◌, ℕ, max, Bool, List, [], ◌++◌, length, codes, Option, Some, None, IfSome, Result, Ok, Err}
+use Rattle.std.specs.Prelude.{◌≡◌, ◌≢◌, ◌⊎◌, ℕ, ◌≤◌, max, Bool, List, [], ◌++◌, length, codes, Option, Some, None, IfSome, Result, Ok, Err}
 use Rattle.bf_farm.specs.Reports.{IsAnswered}
 use Rattle.bf_history.specs.Meanings.{History}
 use Rattle.bf_io.specs.Causes.{Rose}
@@ -25,7 +25,7 @@ use Rattle.bf_output.specs.Inputs.{IsFiled, IsStreamed}
 use Rattle.bf_output.specs.Output.{Given}
 use Rattle.bf_output.specs.Refusals.{usage}
 use Rattle.bf_output.specs.Shown.{TesterShown, command_of}
-use Rattle.bf_output.specs.Tested.{IsFrontIfTold, IsTestedRun, IsTestCut, IsTestLost, run_on}
+use Rattle.bf_output.specs.Tested.{AreFirstUsed, IsFrontIfTold, IsTestedRun, IsTestCut, IsTestLost, run_on}
 use Rattle.bf_output.specs.Told.{Told}
 use Rattle.bf_commands.specs.declared.order.Order.TheVariants as order
 use Rattle.bf_commands.specs.Orders.{request_of}
@@ -129,11 +129,20 @@ abbrev pub IsLogFront : History → Begun → Run → List ℕ → Type 0
 IsLogFront history first run written =
     (written ≡ []) ⊎ ((entries : List Entry) × GoesOn entries run.entries × (written ≡ log_on history first entries))
 
--- the disk failed behind the lines of some legs, of a run on what the tester answered
-pub record IsJournalCut (disk : DiskMet) (tested : TesterShown) (history : History) (first : Begun) (table : List (Option Outcome)) (told : Told) : Type 0 where
+-- all that was answered is what a run on it used, as far as it came
+pub record AreUsedFirst (tested : TesterShown) (history : History) (first : Begun) : Type 0 where
+  pub table : List (Option Outcome)
+  pub known : IsKnown history.names tested.plan tested.answers table
+  pub used : AreFirstUsed tested.answers (run_on history first table)
+
+-- The disk failed behind the lines of some legs, of a run on what the tester answered. One worker tested what a run asked for, and
+-- nothing else, in the leg that could not be kept, too.
+pub record IsJournalCut (disk : DiskMet) (request : Request) (tested : TesterShown) (history : History) (first : Begun) (table : List (Option Outcome)) (told : Told)
+    : Type 0 where
   pub failed : HasDiskFailed disk
   pub known : IsKnown history.names tested.plan tested.answers table
   pub planned : IsFrontIfTold tested.plan history first (run_on history first table)
+  pub alone : request.workers ≤ 1 → AreUsedFirst tested history first
   pub written : List ℕ
   pub front : IsLogFront history first (run_on history first table) written
   pub tells : told ≡ journal_fault written
@@ -144,14 +153,14 @@ IsRunKept disk identity found request tested history first told =
     ((is : IsTestedRun request tested history first told) × AreImagesOf disk identity history.names tested found is.table)
     ⊎ (((is : IsTestCut request tested history first told) × AreImagesOf disk identity history.names tested found is.table)
     ⊎ (((is : IsTestLost tested history first told) × AreImagesOf disk identity history.names tested found is.table)
-    ⊎ ((table : List (Option Outcome)) × IsJournalCut disk tested history first table told
+    ⊎ ((table : List (Option Outcome)) × IsJournalCut disk request tested history first table told
     × AreImagesOf disk identity history.names tested found table)))
 
 abbrev pub IsOpenedTold : Opened → DiskMet → Oid → Request → TesterShown → History → Begun → Told → Type 0
 IsOpenedTold (Kept found) disk identity request tested history first told = IsRunKept disk identity found request tested history first told
 IsOpenedTold (Other kept) disk identity request tested history first told = (told ≡ journal_refused kept) × IfSome disk.before (IsLeftAlone disk)
 IsOpenedTold Failed disk identity request tested history first told =
-    (told ≡ journal_fault []) × IfSome disk.before (IsOpenedAt disk identity (length history.names))
+    (told ≡ journal_fault []) × (tested.answers ≡ []) × IfSome disk.before (IsOpenedAt disk identity (length history.names))
 
 -- the journal is opened once the search has begun
 abbrev pub IsJournalled : DiskMet → Request → List (List ℕ) → TesterShown → History → Begun → Told → Type 0

@@ -1,8 +1,10 @@
 -- What a call of the whole program has to do, by the command that its first word gives.
-use Rattle.std.specs.Prelude.{ℕ, Bool, false, List, Option, Some, None}
+use Rattle.std.specs.Prelude.{◌≡◌, ℕ, Bool, false, List, [], Option, Some, None}
 use Rattle.bf_output.specs.declared.status.Status.{Status}
 use Rattle.bf_output.specs.Output.{IsUsedFor, asks_file, reads}
 use Rattle.bf_output.specs.Shown.{TesterShown}
+use Rattle.bf_io.specs.declared.shelf.ShelfFile.{ShelfFile}
+use Rattle.bf_journal.specs.declared.disk.Disk.{Ghosts}
 use Rattle.bf_tester.specs.declared.answer.Answer.{Answer}
 use Rattle.bf_words.specs.Words.{request, word_at}
 use Rattle.bf_answers.specs.Answers.{Answers, Command, HasTestCause, IsComplete, IsUntested}
@@ -12,6 +14,7 @@ use Rattle.bf_program.specs.Printing.{PrintsLog}
 use Rattle.bf_certify.specs.Checking.{checks_file, to_check}
 use Rattle.bf_certify.specs.Certifying.{to_certify}
 use Rattle.bf_checkout_run.specs.CheckingOut.{asked_by, to_checkout}
+use Rattle.bf_journal_run.specs.Held.{IsHeldBy}
 use Rattle.bf_journal_run.specs.Journalling.{IsRecalledBy, to_journal}
 use Rattle.bf_many_run.specs.Command.{loads_list, to_many}
 use Rattle.bf_commands.specs.declared.order.Order.{Order}
@@ -112,7 +115,7 @@ duty_of None farm = record {
   Logs = PrintsLog farm.met;
   Uses = IsUsedFor (request farm.met.words) farm.met.words farm.met.tester.before farm.met.tester.after;
   UsesShop = IsUntested farm.shop;
-  Recalls = Unit {0};
+  Recalls = farm.recalled ≡ [];
 }
 duty_of (Some Certify) farm = record {
   command = to_certify farm.met;
@@ -120,7 +123,7 @@ duty_of (Some Certify) farm = record {
   Logs = λ result. Unit {0};
   Uses = IsUsedFor (request_to_certify farm.met.words) farm.met.words farm.met.tester.before farm.met.tester.after;
   UsesShop = IsUntested farm.shop;
-  Recalls = Unit {0};
+  Recalls = farm.recalled ≡ [];
 }
 duty_of (Some Check) farm = record {
   command = to_check farm.met;
@@ -128,7 +131,7 @@ duty_of (Some Check) farm = record {
   Logs = λ result. Unit {0};
   Uses = IsUntested farm.met.tester;
   UsesShop = IsUntested farm.shop;
-  Recalls = Unit {0};
+  Recalls = farm.recalled ≡ [];
 }
 duty_of (Some Checkout) farm = record {
   command = to_checkout (in_folders farm);
@@ -136,7 +139,7 @@ duty_of (Some Checkout) farm = record {
   Logs = λ result. Unit {0};
   Uses = IsUntested farm.met.tester;
   UsesShop = IsUsedFor (asked_by farm.met.words) farm.met.words farm.shop.before farm.shop.after;
-  Recalls = Unit {0};
+  Recalls = farm.recalled ≡ [];
 }
 duty_of (Some Journal) farm = record {
   command = to_journal farm.met farm.disk;
@@ -154,7 +157,7 @@ duty_of (Some Many) farm = record {
   Logs = λ result. Unit {0};
   Uses = IsUntested farm.met.tester;
   UsesShop = IsUntested farm.shop;
-  Recalls = Unit {0};
+  Recalls = farm.recalled ≡ [];
 }
 
 -- A call did what it had to.
@@ -176,3 +179,15 @@ duty_in farm = duty_of (order_in farm.met.words) farm
 
 abbrev pub asks_in : List (List ℕ) → Asks
 asks_in words = asks_of (order_in words) words
+
+-- ---- the disk
+
+-- With whatever status: only a journal touches the disk, once its search began, and then a crash leaves no less than was kept.
+abbrev pub IsDiskHeld : {J : Type 0} → Ghosts J → J → J → Option Order → List (List ℕ) → Option (List ℕ) → Option (List ShelfFile) → List Answer → Type 0
+IsDiskHeld by before after None words left files answers = after ≡ before
+IsDiskHeld by before after (Some Certify) words left files answers = after ≡ before
+IsDiskHeld by before after (Some Check) words left files answers = after ≡ before
+IsDiskHeld by before after (Some Checkout) words left files answers = after ≡ before
+IsDiskHeld by before after (Some Journal) words left files answers =
+    IsHeldBy by before after (request_to_journal words) words left files answers
+IsDiskHeld by before after (Some Many) words left files answers = after ≡ before

@@ -1,8 +1,8 @@
 //! The top call of all commands.
-ghost use Rattle.std.specs.Prelude.{◌≡◌, [], false};
+ghost use Rattle.std.specs.Prelude.{◌≡◌, [], false, All, IsTrue};
 ghost use Rattle.bf_io.specs.Causes.{Rose};
 ghost use Rattle.bf_output.specs.Shown.{shown_by};
-ghost use Rattle.bf_answers.specs.Answers.{IsUntestedIfRefused};
+ghost use Rattle.bf_answers.specs.Answers.{IsBeforeSearch, IsUntestedIfRefused};
 ghost use Rattle.bf_answers.specs.Devices.{IsLeftUnless, met, met_shelf, met_sink, met_source, met_tester};
 ghost use Rattle.bf_checkout.specs.Checkouts.{grounds_of};
 ghost use Rattle.bf_checkout.specs.Shops.{AreTestedIn};
@@ -10,9 +10,9 @@ ghost use Rattle.bf_checkout_run.specs.CheckingOut.{HasGroundsOf};
 ghost use Rattle.bf_journal_run.specs.Journalling.{AreUnasked};
 ghost use Rattle.bf_journal_run.specs.Legs.{met_disk};
 ghost use Rattle.bf_journal_run.specs.Searching.{IsUnopenedIfRefused};
-ghost use Rattle.bf_journal.specs.Recalling.{remembering};
+ghost use Rattle.bf_journal.specs.Recalling.{IsOwn, remembering};
 ghost use Rattle.bf_farmed.specs.Farming as farming;
-ghost use Rattle.bf_farmed.specs.Farming.{IsDone, asks_in, asks_of, duty_in, duty_of, farm_met};
+ghost use Rattle.bf_farmed.specs.Farming.{IsDiskHeld, IsDone, asks_in, asks_of, duty_in, duty_of, farm_met};
 
 use bf_answers::word_at;
 use bf_certify::{certify, check};
@@ -76,16 +76,21 @@ pub fn farm_main<
         tester.new.remembered
         (shown_by ⟦<Recall<T> as Tester>⟧ (remembering tester.old tester.new.remembered)) in
         IsDone (duty_in farm) result }
+    // Each answer on a place that is not remembered is that of the tester below, which has no other.
+    ensures own { All (IsOwn tester.new.remembered (T.answers tester.new.inner)) tester.new.answers }
     ensures unasked { AreUnasked tester.new.remembered (T.answers tester.new.inner) }
     ensures tested_in { AreTestedIn shop.new.content
         (U.tested_in shop.new.tester) (U.answers shop.new.tester) }
     ensures grounds { let grounds = grounds_of shop.new.content in
         HasGroundsOf (S.left stream.old) (U.answers shop.new.tester) grounds }
-    // A fault of a device is answered only where its count of faults rose.
-    ensures read { result ≡ Status.ReadFault → Rose (S.faults stream.old) (S.faults stream.new) }
-    ensures file { result ≡ Status.ShelfFault → Rose (F.faults shelf.old) (F.faults shelf.new) }
+    // A fault of a device is answered only where the words ask for it, and its count of faults rose.
+    ensures read { result ≡ Status.ReadFault
+        → IsTrue (asks_in words.now).stream × Rose (S.faults stream.old) (S.faults stream.new) }
+    ensures file { result ≡ Status.ShelfFault
+        → IsTrue (asks_in words.now).file × Rose (F.faults shelf.old) (F.faults shelf.new) }
     ensures write { result ≡ Status.WriteFault → Rose (K.faults out.old) (K.faults out.new) }
-    ensures disk { result ≡ Status.JournalFault → Rose (J.faults disk.old) (J.faults disk.new) }
+    ensures disk { result ≡ Status.JournalFault
+        → IsTrue (asks_in words.now).disk × Rose (J.faults disk.old) (J.faults disk.new) }
     // What the words do not ask for is left as it was.
     ensures unread { IsLeftUnless (asks_in words.now).stream stream.old stream.new }
     ensures unloaded { IsLeftUnless (asks_in words.now).file shelf.old shelf.new }
@@ -94,11 +99,13 @@ pub fn farm_main<
     // A refusal leaves the testers, the disk, and the journal of another run.
     ensures untested { IsUntestedIfRefused
         (met_tester ⟦<Recall<T> as Tester>⟧ tester.old tester.new) result }
-    ensures shop_untested { IsUntestedIfRefused
-        (met_tester ⟦<Workshop<U, D> as Tester>⟧ shop.old shop.new) result }
+    ensures shop_untouched { IsBeforeSearch result → shop.new ≡ shop.old }
     ensures unopened { IsUnopenedIfRefused disk.old disk.new result }
     ensures untouched { (kept : _) → result ≡ Status.JournalRefused kept
         → J.told disk.new ≡ J.told disk.old }
+    // With whatever status a crash leaves no less than the disk kept.
+    ensures held { IsDiskHeld J.Disk disk.old disk.new (farming.order_in words.now) words.now
+        (S.left stream.old) (F.files shelf.old) tester.new.answers }
     // No tester of a worker is apart.
     ensures is_split { T.is_split tester.new.inner ≡ false }
     ensures shop_is_split { U.is_split shop.new.tester ≡ false }
@@ -169,7 +176,9 @@ fn carry_out<
     ensures read { result ≡ Status.ReadFault → Rose (S.faults stream.old) (S.faults stream.new) }
     ensures file { result ≡ Status.ShelfFault → Rose (F.faults shelf.old) (F.faults shelf.new) }
     ensures write { result ≡ Status.WriteFault → Rose (K.faults out.old) (K.faults out.new) }
-    ensures disk { result ≡ Status.JournalFault → Rose (J.faults disk.old) (J.faults disk.new) }
+    ensures disk { result ≡ Status.JournalFault
+        → IsTrue (asks_of asked.entry.order asked.entry.words.now).disk
+        × Rose (J.faults disk.old) (J.faults disk.new) }
     ensures unread { IsLeftUnless (asks_of asked.entry.order asked.entry.words.now).stream
         stream.old stream.new }
     ensures unloaded { IsLeftUnless (asks_of asked.entry.order asked.entry.words.now).file
@@ -180,11 +189,12 @@ fn carry_out<
         disk.old disk.new }
     ensures untested { IsUntestedIfRefused
         (met_tester ⟦<Recall<T> as Tester>⟧ tester.old tester.new) result }
-    ensures shop_untested { IsUntestedIfRefused
-        (met_tester ⟦<Workshop<U, D> as Tester>⟧ shop.old shop.new) result }
+    ensures shop_untouched { IsBeforeSearch result → shop.new ≡ shop.old }
     ensures unopened { IsUnopenedIfRefused disk.old disk.new result }
     ensures untouched { (kept : _) → result ≡ Status.JournalRefused kept
         → J.told disk.new ≡ J.told disk.old }
+    ensures held { IsDiskHeld J.Disk disk.old disk.new asked.entry.order asked.entry.words.now
+        (S.left stream.old) (F.files shelf.old) tester.new.answers }
     ensures is_split { T.is_split tester.new.inner ≡ false }
     ensures shop_is_split { U.is_split shop.new.tester ≡ false }
 {

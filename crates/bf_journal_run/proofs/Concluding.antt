@@ -178,7 +178,7 @@ module _ (disk now : DiskMet) (meant : Oid) (found : List (Option Outcome)) (Ima
   never = never_refused disk meant found request words tester.after history first ends
 
   -- the disk failed behind some legs
-  of_disk : (before mid after : Option (List ℕ)) (result : Status) → IsCutByDisk Images now tester.after history first before mid
+  of_disk : (before mid after : Option (List ℕ)) (result : Status) → IsCutByDisk Images now request tester.after history first before mid
       → IsWritten mid after (codes "journal fault\n") status.JournalFault result → IsConcluded (IsCausedTold true tester Tells) before after result
   of_disk before mid after result is written =
       let told = journal_fault is.written in
@@ -189,6 +189,7 @@ module _ (disk now : DiskMet) (meant : Oid) (found : List (Option Outcome)) (Ima
           failed = rose is.is.failed;
           known = is.is.known;
           planned = is.is.planned;
+          alone = is.is.alone;
           written = is.is.written;
           front = is.is.front;
           tells = is.is.tells;
@@ -280,11 +281,11 @@ module _ (disk : DiskMet) (request : Request) (words : List (List ℕ)) (tester 
   of_another kept opened alone untested written =
       inl (journal_refused kept, ((Other kept, opened, (refl, alone)), (λ place e. cc e, λ refused. untested)), (λ e. cc e), written)
 
-  pub of_failed : HasDiskFailed disk → IfSome disk.before (IsOpenedAt disk (identity_of history request words) (length history.names))
+  pub of_failed : HasDiskFailed disk → tester.after.answers ≡ [] → IfSome disk.before (IsOpenedAt disk (identity_of history request words) (length history.names))
       → IsWritten before after (codes "journal fault\n") status.JournalFault result
       → IsConcluded (IsCausedTold true tester (IsJournalled disk request words tester.after history first)) before after result
-  of_failed failed opened written =
-      inl (journal_fault [], ((Failed, failed, (refl, opened)), (λ place e. cc e, λ refused. absurd refused)), (λ e. cc e), written)
+  of_failed failed none opened written =
+      inl (journal_fault [], ((Failed, failed, (refl, none, opened)), (λ place e. cc e, λ refused. absurd refused)), (λ e. cc e), written)
 
 -- ---- the statuses before a search
 

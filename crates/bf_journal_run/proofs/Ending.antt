@@ -121,6 +121,7 @@ module _ (images : List (Option Outcome) → Type 0) (disk : DiskMet) (search : 
           failed = failed refl;
           known = led.0;
           planned = front_if_told tester.after.plan search.history.now first table led.0.planned;
+          alone = led.2;
           written = written;
           front = log_front request tester.before search.history.now first written running is begun;
           tells = refl;

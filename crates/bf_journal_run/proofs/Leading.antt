@@ -1,9 +1,10 @@
 -- One leg more of a run whose outcomes are kept.
-use Rattle.std.proofs.Common.{◌≡◌, ◌≢◌, ℕ, List, Option, Some, IfSome, Result, Ok, Err, IfErr, IfOk, refl, sym, ap, ◌∙◌, subst}
+use Rattle.std.proofs.Common.{◌≡◌, ◌≢◌, ℕ, ◌≤◌, List, [], ◌++◌, Option, Some, IfSome, Result, Ok, Err, IfErr, IfOk, refl, sym, ap, ◌∙◌, subst}
 use Rattle.std.specs.Prelude.{IsErrOf}
 use Rattle.std.specs.Result.{IsErrAnd}
+use Rattle.std.proofs.lemmas.List.{append-nil}
 use Rattle.bf_answers.specs.Devices.{TesterMet}
-use Rattle.bf_commands.specs.Journal.{KeepsAll, MayBePut}
+use Rattle.bf_commands.specs.Journal.{AreUsedFirst, KeepsAll, MayBePut}
 use Rattle.bf_farm.specs.Answering.{HasFault}
 use Rattle.bf_farm.specs.declared.report.Report.{Report}
 use Rattle.bf_farm.specs.Reports.{TableFollows}
@@ -17,14 +18,17 @@ use Rattle.bf_output.specs.Beginning.{Begun}
 use Rattle.bf_output.specs.Shown.{TesterShown}
 use Rattle.bf_output.specs.Traces.{course_of}
 use Rattle.bf_journal.specs.Recalling.{KeepsRemembered}
-use Rattle.bf_runs.proofs.Sequences.{Keeps}
+use Rattle.bf_runs.proofs.Sequences.{Keeps, part_same}
 use Rattle.bf_runs.specs.Courses.{course_from, stand_of}
 use Rattle.bf_runs.specs.declared.case.Search.{Search as Searched}
-use Rattle.bf_runs.specs.Legs.{Course, IsKnown, IsLegRun, IsReady, LeadsOn}
+use Rattle.bf_runs.specs.Legs.{Course, IsKnown, IsLegRun, IsReady, LeadsOn, leg_run}
+use Rattle.bf_search.specs.declared.farm.Ending.{Ending}
 use Rattle.bf_search.specs.declared.farm.Ending.TheVariants as ending
 use Rattle.bf_search.specs.declared.outcomes.Outcome.{Outcome}
 use Rattle.bf_search.specs.Outcomes.{outcomes_of_table}
+use Rattle.bf_search.specs.Run.{Run, one_at_a_time}
 use Rattle.bf_search.specs.State.{Search, IsSearchOver}
+use Rattle.bf_state.specs.Runs.{in_sequence}
 use Rattle.bf_searches.proofs.Going.{goes_cause, gone_on, leg_ended, next_ready, over_tells, run_over_on, same_course}
 use Rattle.bf_searches.specs.declared.legs.Gone.{Gone}
 use Rattle.bf_searches.specs.declared.legs.Gone.TheVariants.{On, Over}
@@ -101,6 +105,40 @@ module _ (Leaves : (ℕ → Outcome → Type 0) → Type 0) (search : Searched) 
       more : (p : ℕ) (outcome : Outcome) → outcomes_of_table running.standing.table p ≡ Some outcome → outcomes_of_table report.table p ≡ Some outcome
       more p outcome was = subst (λ (o : Option Outcome). IfSome o (λ x. outcomes_of_table report.table p ≡ Some x)) was (grown.part p)
 
+  -- one worker gave what the run used by then
+  alone_still : request.workers ≤ 1 → AreUsedFirst tester.after search.history.now first
+  alone_still one = by report.ending refl
+    where
+      by : (e : Ending) → report.ending ≡ e → AreUsedFirst tester.after search.history.now first
+      by ending.Leg leg =
+          let between = leads_on.between is.so_far.whole is.so_far.run is.so_far.between leg in
+          let known = outcomes_of_table report.table in
+          let so_far = in_sequence is.so_far.run (leg_run (course_of request search.history.now first) running.standing.state.search report.table) in
+          let rest = one_at_a_time search.history.now.parents so_far.search known 0 in
+          record {
+            table = report.table;
+            known =
+                subst (λ (plan : Option (List Outcome)). IsKnown search.history.now.names plan tester.after.answers report.table) (sym same) between.known;
+            used = record {
+              rest = rest.used;
+              begins =
+                  ap (λ (r : Run). r.used) (between.goes_on known (part_same known))
+                  ∙ ap (λ (used : List (ℕ × Outcome)). used ++ rest.used) (sym (between.alone one).given);
+            };
+          }
+      by other ends =
+          let over =
+          run_over_on request tester.before tester.after search.history.now first written running report is.so_far ran_on leads_on same
+          (λ leg. cc (sym ends ∙ leg)) in
+          record {
+            table = report.table;
+            known = over.known;
+            used = record {
+              rest = [];
+              begins = sym (over.alone one).given ∙ sym (append-nil _);
+            };
+          }
+
   kept_on : (inner : List Answered) → KeepsSince kept report.table new
       → KeepsRemembered tester.after.is_lenient now_remembered tester.after.answers inner → Leaves (IsToKeep report.table)
       → IsKeptOn Leaves tester.after.is_lenient opened new running.standing.table report.table
@@ -159,8 +197,8 @@ module _ (Leaves : (ℕ → Outcome → Type 0) → Type 0) (search : Searched) 
   -- where an outcome could not be kept, too
   pub led_cut : (fault : JournalFault) → Leaves (MayBePut search.history.now.names tester.after.answers)
       → IsLedKept Leaves search request tester now_remembered opened first written new running.standing.table (Err (cut_of_journal fault))
-  led_cut journals.Failed left = (known_still, left)
-  led_cut (journals.Mismatch found) left = (known_still, left)
+  led_cut journals.Failed left = (known_still, left, alone_still)
+  led_cut (journals.Mismatch found) left = (known_still, left, alone_still)
   led_cut journals.NoMemory left = (known_still, left)
 
 -- ---- whatever search it is

@@ -3,6 +3,7 @@ pub mod Beginning
 pub mod Concluding
 pub mod Ending
 pub mod Growing
+pub mod Held
 pub mod Kept
 pub mod Keeping
 pub mod Lasting

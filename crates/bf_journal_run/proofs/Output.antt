@@ -211,6 +211,11 @@ pub refused_recalled : (disk : DiskMet) (read : Result Request ℕ) (words : Lis
 refused_recalled disk (Err word) words left answers remembered none = none
 refused_recalled disk (Ok request) words left answers remembered none = λ some. absurd (some none)
 
+-- so it asks for the disk
+pub asks_disk : (words : List (List ℕ)) (request : Request) → request_to_journal words ≡ Ok request → request.verb ≡ Run
+    → IsTrue (reads (request_to_journal words))
+asks_disk words request read run = subst (λ (r : Result Request ℕ). IsTrue (reads r)) (sym read) (reads_run request.verb run)
+
 -- a line that asks for a run reads the stream
 pub reads_always : (words : List (List ℕ)) (request : Request) → request_to_journal words ≡ Ok request → request.verb ≡ Run
     → reads (request_to_journal words) ≡ false → ⊥

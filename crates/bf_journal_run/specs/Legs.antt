@@ -1,8 +1,8 @@
 -- A run whose outcomes are kept, leg by leg.
-use Rattle.std.specs.Prelude.{◌≡◌, ℕ, Bool, List, [], ◌++◌, length, Option, Result, Ok, Err}
+use Rattle.std.specs.Prelude.{◌≡◌, ℕ, ◌≤◌, Bool, List, [], ◌++◌, length, Option, Result, Ok, Err}
 use Rattle.bf_answers.specs.Devices.{SinkMet, TesterMet}
 use Rattle.bf_answers.specs.declared.answer.Answer.{Answer}
-use Rattle.bf_commands.specs.Journal.{DiskMet, IsJournalCut, KeepsAll, MayBePut, journal_fault}
+use Rattle.bf_commands.specs.Journal.{AreUsedFirst, DiskMet, IsJournalCut, KeepsAll, MayBePut, journal_fault}
 use Rattle.bf_farm.specs.declared.report.Report.{Report}
 use Rattle.bf_history.specs.Meanings.{History}
 use Rattle.bf_io.specs.Told.{Appends, AppendsFront}
@@ -81,6 +81,7 @@ IsLedKept Leaves search request tester remembered opened first written kept know
 IsLedKept Leaves search request tester remembered opened first written kept known (Err Journal) =
     IsKnown search.history.now.names tester.after.plan tester.after.answers known
     × Leaves (MayBePut search.history.now.names tester.after.answers)
+    × (request.workers ≤ 1 → AreUsedFirst tester.after search.history.now first)
 IsLedKept Leaves search request tester remembered opened first written kept known (Err Output) = ⊥
 IsLedKept Leaves search request tester remembered opened first written kept known (Err NoMemory) =
     IsKnown search.history.now.names tester.after.plan tester.after.answers known
@@ -105,12 +106,12 @@ pub record IsToldKept (images : List (Option Outcome) → Type 0) (request : Req
   pub kept : images is.table
 
 -- a run that the disk cut short, behind the lines of its legs
-pub record IsCutByDisk (images : List (Option Outcome) → Type 0) (disk : DiskMet) (tested : TesterShown) (history : History) (first : Begun)
+pub record IsCutByDisk (images : List (Option Outcome) → Type 0) (disk : DiskMet) (request : Request) (tested : TesterShown) (history : History) (first : Begun)
     (before after : Option (List ℕ)) : Type 0 where
   pub table : List (Option Outcome)
   pub written : List ℕ
   pub gained : Appends before after written
-  pub is : IsJournalCut disk tested history first table (journal_fault written)
+  pub is : IsJournalCut disk request tested history first table (journal_fault written)
   pub kept : images table
 
 -- one that a write cut short, and one that want of memory did: a front of its log was written
@@ -132,7 +133,7 @@ pub record IsCutByMemory (images : List (Option Outcome) → Type 0) (tested : T
 abbrev pub IsEndedKept : (List (Option Outcome) → Type 0) → DiskMet → Request → TesterShown → History → Begun → Option (List ℕ) → Option (List ℕ)
     → Result Answer Cut → Type 0
 IsEndedKept images disk request tested history first before after (Ok answer) = IsToldKept images request tested history first before after answer
-IsEndedKept images disk request tested history first before after (Err Journal) = IsCutByDisk images disk tested history first before after
+IsEndedKept images disk request tested history first before after (Err Journal) = IsCutByDisk images disk request tested history first before after
 IsEndedKept images disk request tested history first before after (Err Output) = IsCutByWrite images request tested history first before after
 IsEndedKept images disk request tested history first before after (Err NoMemory) = IsCutByMemory images tested history first before after
 

@@ -1,4 +1,5 @@
 pub mod Cuts
+pub mod Held
 pub mod Journalling
 pub mod Kept
 pub mod Legs

@@ -1,10 +1,11 @@
 //! The command `journal`.
-ghost use Rattle.std.specs.Prelude.{◌≡◌, ◌≢◌, ℕ, [], false, true, IfOk};
+ghost use Rattle.std.specs.Prelude.{◌≡◌, ◌≢◌, ℕ, [], false, true, IfOk, IsTrue};
 ghost use Rattle.bf_answers.specs.Answers.{Answers, HasTestCause, IsComplete, IsUntestedIfRefused};
 ghost use Rattle.bf_answers.specs.Devices.{IsLeftUnless, met, met_shelf, met_sink, met_source, met_tester};
 ghost use Rattle.bf_answers.specs.Ready.{IsRefused, IsSound};
 ghost use Rattle.bf_commands.specs.Journal.{request_to_journal};
 ghost use Rattle.bf_io.specs.Causes.{Rose};
+ghost use Rattle.bf_journal_run.specs.Held.{IsHeldBy, IsHeldReady};
 ghost use Rattle.bf_journal_run.specs.Journalling.{AreUnasked, ConcludesReady, IsRecalledBy, IsRecalledReady, to_journal};
 ghost use Rattle.bf_journal_run.specs.Legs.{met_disk};
 ghost use Rattle.bf_journal_run.specs.Searching.{IsUnopenedIfRefused};
@@ -61,7 +62,8 @@ pub fn journal<R: Host, S: Source, F: Shelf, T: Tester, J: Disk, K: Sink>(
     ensures read { result ≡ Status.ReadFault → Rose (S.faults stream.old) (S.faults stream.new) }
     ensures file { result ≡ Status.ShelfFault → Rose (F.faults shelf.old) (F.faults shelf.new) }
     ensures write { result ≡ Status.WriteFault → Rose (K.faults out.old) (K.faults out.new) }
-    ensures disk { result ≡ Status.JournalFault → Rose (J.faults disk.old) (J.faults disk.new) }
+    ensures disk { result ≡ Status.JournalFault
+        → IsTrue (reads (request_to_journal words.now)) × Rose (J.faults disk.old) (J.faults disk.new) }
     ensures test { HasTestCause (tests (request_to_journal words.now))
         (met_tester ⟦<Recall<T> as Tester>⟧ tester.old tester.new) result }
     // How the tester is used, and what it remembers.
@@ -81,6 +83,9 @@ pub fn journal<R: Host, S: Source, F: Shelf, T: Tester, J: Disk, K: Sink>(
     ensures unopened { IsUnopenedIfRefused disk.old disk.new result }
     ensures untouched { (kept : _) → result ≡ Status.JournalRefused kept
         → J.told disk.new ≡ J.told disk.old }
+    // With whatever status: the disk is as it was, or the search began, and a crash leaves no less than was kept.
+    ensures held { IsHeldBy J.Disk disk.old disk.new (request_to_journal words.now) words.now
+        (S.left stream.old) (F.files shelf.old) tester.new.answers }
     ensures is_split { T.is_split tester.new.inner ≡ false }
 {
     match read_line(alloc, words) {
@@ -147,6 +152,7 @@ fn conclude<R: Host, T: Tester, J: Disk, K: Sink>(
     ensures unopened { IsUnopenedIfRefused disk.old disk.new result }
     ensures untouched { (kept : _) → result ≡ Status.JournalRefused kept
         → J.told disk.new ≡ J.told disk.old }
+    ensures held { IsHeldReady J.Disk disk.old disk.new line.entry ready tester.new.answers }
     ensures is_split { T.is_split tester.new.inner ≡ false }
 {
     match ready {

@@ -10,6 +10,7 @@ ghost use Rattle.bf_commands.specs.Journal.{Opened as opened};
 ghost use Rattle.bf_io.specs.Causes.{FailsOnlyAt, Rose};
 ghost use Rattle.bf_journal.specs.Disk.{LeavesOnly};
 ghost use Rattle.bf_journal.specs.Journal.{Fits, IsAsOpened};
+ghost use Rattle.bf_journal_run.specs.Held.{IsHeldIn};
 ghost use Rattle.bf_journal_run.specs.Kept.{AreLasting, answers_of};
 ghost use Rattle.bf_journal_run.specs.Legs.{IsEndedKept, met_disk};
 ghost use Rattle.bf_journal_run.specs.Searching.{ConcludesKept, IsRecalledIn, IsRefusedOnly, SaysKept};
@@ -196,6 +197,8 @@ pub(crate) fn search<R: Host, T: Tester, J: Disk, K: Sink>(
         (shown_by ⟦<Recall<T> as Tester>⟧ tester.new) }
     ensures recalled { IsRecalledIn (met_disk J.Disk disk.old disk.new) line.entry started.history
         tester.new.answers tester.new.remembered }
+    ensures held { IsHeldIn (met_disk J.Disk disk.old disk.new) line.entry started.history
+        tester.new.answers }
     ensures is_split { T.is_split tester.new.inner ≡ false }
 {
     match open_journal(line, &started.history, disk) {

@@ -1,6 +1,6 @@
 -- What `simulate` and `run` tell of a search that came to its end begins with its log.
 use Rattle.std.proofs.Common.{◌≡◌, ℕ, Bool, true, false, List, [], ◌∷◌, ◌++◌, Option, Some, None, IfSome, Result, Ok, Err, IfErr, inl, inr, refl, sym, ap}
-use Rattle.std.proofs.Common.{subst, ◌∙◌, append_assoc, if◌then◌else◌}
+use Rattle.std.proofs.Common.{subst, ◌∙◌, append-nil, if◌then◌else◌}
 use Rattle.bf_grammar.specs.Limits.{standard_limits}
 use Rattle.bf_grammar.specs.declared.fault.StreamFault.{StreamFault}
 use Rattle.bf_grammar.specs.declared.fault.StreamFault.TheVariants as stream
@@ -30,19 +30,19 @@ use Rattle.bf_words.specs.declared.verb.Verb.TheVariants.{Simulate, Run, Next, R
 use Rattle.bf_words.specs.Words as asked
 use Rattle.bf_words.specs.Words.{word_at}
 use Rattle.bf_output.specs.Beginning.{Begun, name_or_refusal, named, named_if_given, gathered, one_named, all_named, meant, places_meant, all_meant}
-use Rattle.bf_output.specs.Beginning.{begun_by_words, begun_by_log, begun_by, with_ends, begun_with_skips, has_ends, log_on}
-use Rattle.bf_output.specs.Logged.{EndsSearch, IsFileGiven, searches, AreOutcomesOf, IsLogged}
+use Rattle.bf_output.specs.Beginning.{begun_by_words, begun_by_log, begun_by, commits_of, with_ends, begun_with_skips, has_ends}
+use Rattle.bf_output.specs.Logged.{EndsSearch, IsFileGiven, IsGivenBack, searches, AreOutcomesOf, IsLogged, told_as}
 use Rattle.bf_output.specs.Logs.{file_or_refusal, lines_or_refusal, replayed_or_refusal, replayed_log}
 use Rattle.bf_output.specs.Output.{Given, IsOverFile, IsOverLog, IsOverLoaded, IsOverStream, IsOutput, IsOutputFor, IsOutputOf, IsSearched, IsSearchedFrom}
 use Rattle.bf_output.specs.Inputs.{file_of}
 use Rattle.bf_output.specs.Refusals.{name_refused, no_content, refused_at, waiting, refusal, too_large, log_refused}
-use Rattle.bf_output.specs.Returning.{FileGiven}
-use Rattle.bf_output.specs.Simulate.{IsRunTold, IsSimulated, plan_of, run_over}
+use Rattle.bf_output.specs.Returning.{FileGiven, HasTerms}
+use Rattle.bf_output.specs.Simulate.{IsRunTold, IsSimulated, plan_of, ran, run_over}
 use Rattle.bf_output.specs.Shown.{TesterShown}
 use Rattle.bf_output.specs.Tested.{IsTestedRun, run_on, told_of_run}
 use Rattle.bf_output.specs.Told.{Told}
-use Rattle.bf_output.specs.Traces.{traced_if}
-use Rattle.bf_output.proofs.Returning.{log_gives_back, goes_on_from_start, goes_on_from_parts}
+use Rattle.bf_output.specs.Traces.{trace_lines, traced, traced_if}
+use Rattle.bf_output.proofs.Returning.{given_back, gone_on_from_parts, gone_on_from_start, log_gives_back, goes_on_from_start, goes_on_from_parts}
 
 -- ---- no refusal has the status of an end
 
@@ -156,38 +156,43 @@ import_ends (faults.NoContent line) = λ e. e
 import_ends (faults.TooLarge what) = λ e. e
 import_ends faults.NoMemory = λ e. e
 
--- ---- what is told of a run begins with its log
+-- ---- what is told of a run begins with its log, and how it ended
 
-abbrev BeginsWith : List ℕ → List ℕ → Type 0
-BeginsWith log text = (rest : List ℕ) × (text ≡ log ++ rest)
+abbrev BeginsWith : Told → Told → Type 0
+BeginsWith whole told = (told.status ≡ whole.status) × (rest : List ℕ) × (told.text ≡ whole.text ++ rest)
+
+is_whole : (whole told : Told) → told ≡ whole → BeginsWith whole told
+is_whole whole told is = (ap (λ (t : Told). t.status) is, [], ap (λ (t : Told). t.text) is ∙ sym (append-nil whole.text))
+
+is_traced : (history : History) (legs : Legs) (whole told : Told) → told ≡ traced history legs whole → BeginsWith whole told
+is_traced history legs whole told is =
+    (ap (λ (t : Told). t.status) is, trace_lines (commits_of history) legs, ap (λ (t : Told). t.text) is)
 
 run_begins : (is_asked : Bool) (request : Request) (plan : List Outcome) (history : History) (first : Begun) (told : Told)
     → IsRunTold is_asked request plan history first told
-    → BeginsWith (log_on history first (run_over history first plan).entries) told.text
-run_begins false request plan history first told is = (_, ap (λ (t : Told). t.text) is)
-run_begins true request plan history first told is =
-    (_, ap (λ (t : Told). t.text) is.tells ∙ append_assoc (log_on history first (run_over history first plan).entries) _ _)
+    → BeginsWith (ran history first (run_over history first plan)) told
+run_begins false request plan history first told is = is_whole (ran history first (run_over history first plan)) told is
+run_begins true request plan history first told is = is_traced history is.legs (ran history first (run_over history first plan)) told is.tells
 
 simulated_begins : (request : Request) (words : List (List ℕ)) (history : History) (first : Begun) (told : Told) → EndsSearch told.status
     → IsSimulated request words history first told
-    → BeginsWith (log_on history first (run_over history first (plan_of request words)).entries) told.text
+    → BeginsWith (ran history first (run_over history first (plan_of request words))) told
 simulated_begins request words history first told ends (inl is) = run_begins request.trace request (plan_of request words) history first told is
 simulated_begins request words history first told ends (inr cut) = absurd (subst (λ (t : Told). EndsSearch t.status) cut ends)
 
 traced_begins : (is_asked : Bool) (history : History) (first : Begun) (legs : Legs) (run : searched.Run) (told : Told)
-    → told ≡ traced_if is_asked history legs (told_of_run history first run) → BeginsWith (log_on history first run.entries) told.text
-traced_begins false history first legs run told is = (_, ap (λ (t : Told). t.text) is)
-traced_begins true history first legs run told is =
-    (_, ap (λ (t : Told). t.text) is ∙ append_assoc (log_on history first run.entries) _ _)
+    → told ≡ traced_if is_asked history legs (told_of_run history first run) → BeginsWith (told_of_run history first run) told
+traced_begins false history first legs run told is = is_whole (told_of_run history first run) told is
+traced_begins true history first legs run told is = is_traced history legs (told_of_run history first run) told is
 
--- a search on these outcomes, and the log that a text begins with
-abbrev Searched : Verb → Request → List (List ℕ) → TesterShown → History → Begun → List ℕ → Type 0
-Searched verb request words tested history first text =
+-- a search on these outcomes, with whose log a text begins
+abbrev Searched : Verb → Request → List (List ℕ) → TesterShown → History → Begun → Told → Type 0
+Searched verb request words tested history first told =
     (known : Outcomes) × AreOutcomesOf verb request words tested history known
-    × BeginsWith (log_on history first (one_at_a_time history.parents first.search known 0).entries) text
+    × BeginsWith (told_as verb history first (one_at_a_time history.parents first.search known 0)) told
 
 tested_begins : (request : Request) (words : List (List ℕ)) (tested : TesterShown) (history : History) (first : Begun) (told : Told)
-    → IsTestedRun request tested history first told → Searched Run request words tested history first told.text
+    → IsTestedRun request tested history first told → Searched Run request words tested history first told
 tested_begins request words tested history first told is = (
   outcomes_of_table is.table,
   (is.table, is.over.known, refl {a = outcomes_of_table is.table}),
@@ -196,7 +201,7 @@ tested_begins request words tested history first told is = (
 
 searched_begins : (verb : Verb) (request : Request) (words : List (List ℕ)) (tested : TesterShown) (history : History) (first : Begun) (told : Told)
     → EndsSearch told.status → IsSearched verb request words tested history first told
-    → Searched verb request words tested history first told.text
+    → Searched verb request words tested history first told
 searched_begins Simulate request words tested history first told ends is = (
   outcomes_of_plan (plan_of request words),
   refl {a = outcomes_of_plan (plan_of request words)},
@@ -238,9 +243,9 @@ module _ (request : Request) (words : List (List ℕ)) (read : asked.request wor
     (told : Told) (ends : EndsSearch told.status) where
   returning : (file : FileGiven) (history : History) (first : Begun) → Loads bytes standard_limits (Ok history)
       → begun_with_skips request words file history ≡ Ok first
-      → Searched request.verb request words tested history first told.text
-      → IsLogged request words tested file bytes told.text
-  returning file history first loads begins (known, outcomes, (rest, is)) = record {
+      → Searched request.verb request words tested history first told
+      → IsLogged request words tested file bytes told
+  returning file history first loads begins (known, outcomes, (status, rest, is)) = record {
     history = history;
     loads = loads;
     first = first;
@@ -248,6 +253,7 @@ module _ (request : Request) (words : List (List ℕ)) (read : asked.request wor
     known = known;
     outcomes = outcomes;
     is = record {
+      status = status;
       rest = rest;
       printed = is;
       gives_back = log_gives_back request words file history first known None read loaded begins;
@@ -264,7 +270,7 @@ module _ (request : Request) (words : List (List ℕ)) (read : asked.request wor
 
   from_search : (file : FileGiven) (history : History) (begun : Result Begun Told) → begun_with_skips request words file history ≡ begun
       → Loads bytes standard_limits (Ok history) → IsSearchedFrom begun request.verb request words tested history told
-      → IsLogged request words tested file bytes told.text
+      → IsLogged request words tested file bytes told
   from_search file history (Err refused) e loads is =
       absurd (subst NeverEnds e (begun_ends request words file history) (subst (λ (t : Told). EndsSearch t.status) is ends))
   from_search file history (Ok first) e loads is =
@@ -284,7 +290,7 @@ module _ (request : Request) (words : List (List ℕ)) (read : asked.request wor
   from_loaded : (files : Option (List ShelfFile)) (file : FileGiven) → IsFileGiven request.replay words files file → searches request.verb ≡ true
       → (result : Result History ImportFault) → Loads bytes standard_limits result
       → IsOverLoaded request (record { words = words; files = files; tested = tested }) result told
-      → IsLogged request words tested file bytes told.text
+      → IsLogged request words tested file bytes told
   from_loaded files file given_so does (Err fault) loads is =
       absurd (import_ends fault (subst (λ (t : Told). EndsSearch t.status) is ends))
   from_loaded files file given_so does (Ok history) loads is =
@@ -294,9 +300,33 @@ module _ (request : Request) (words : List (List ℕ)) (read : asked.request wor
 -- what a command tells of a search that came to its end
 pub logged : (given : Given) (bytes : List ℕ) (file : FileGiven) (request : Request) (told : Told) → asked.request given.words ≡ Ok request
     → searches request.verb ≡ true → IsFileGiven request.replay given.words given.files file → EndsSearch told.status
-    → IsOutput given (Some bytes) told → IsLogged request given.words given.tested file bytes told.text
+    → IsOutput given (Some bytes) told → IsLogged request given.words given.tested file bytes told
 logged given bytes file request told read does given_so ends is =
     let output : IsOutputOf request.verb request given (Some bytes) told =
     subst (λ (r : Result Request ℕ). IsOutputFor r given (Some bytes) told) read is in
     let over : IsOverStream request given (Some bytes) told = over_stream request.verb request given (Some bytes) told does output in
     from_loaded request given.words read given.tested bytes told ends given.files file given_so does over.0 over.1 over.2
+
+-- ---- every run that tests tell
+
+pub given_back_told : (request : Request) (words : List (List ℕ)) (tested : TesterShown) (file : FileGiven) (history : History) (first : Begun) (told : Told)
+    → HasTerms request → IsLoaded history → begun_with_skips request words file history ≡ Ok first → IsTestedRun request tested history first told
+    → IsGivenBack tested file history first told
+given_back_told request words tested file history first told terms loaded begins is =
+    let known = outcomes_of_table is.table in
+    let begun = traced_begins request.trace history first is.legs (run_on history first is.table) told is.tells in
+    record {
+      table = is.table;
+      known = is.over.known;
+      is = record {
+        status = begun.0;
+        rest = begun.1;
+        printed = begun.2;
+        gives_back = given_back request words file history first known None terms loaded begins;
+        from_start = λ none. gone_on_from_start request words history first known terms loaded (by_words none);
+        from_parts = λ none. gone_on_from_parts request words history first known terms loaded (by_words none);
+      };
+    }
+  where
+    by_words : file ≡ None → begun_with_skips request words None history ≡ Ok first
+    by_words none = subst (λ (f : FileGiven). begun_with_skips request words f history ≡ Ok first) none begins

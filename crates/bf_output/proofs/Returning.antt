@@ -22,7 +22,7 @@ use Rattle.bf_terms.specs.Texts.{Sides, Known, nothing_known, log_from, log}
 use Rattle.bf_words.specs.declared.request.Request.{Request}
 use Rattle.bf_words.specs.Words as asked
 use Rattle.bf_output.specs.Beginning.{Begun, begun_behind, begun_with_skips, commits_of, has_ends, log_on, with_skips}
-use Rattle.bf_output.specs.Returning.{LogGivesBack, GoesOnFromStart, GoesOnFromParts}
+use Rattle.bf_output.specs.Returning.{LogGivesBack, GoesOnFromStart, GoesOnFromParts, HasTerms}
 use Rattle.bf_output.proofs.Accepted.{terms_read}
 use Rattle.bf_output.proofs.Begins.{is_begun, are_named}
 use Rattle.bf_output.proofs.Loading.{IsWhole, whole_loaded}
@@ -39,13 +39,13 @@ module _ (history : History) (loaded : IsLoaded history) where
 
   -- ---- by words
 
-  started : (request : Request) (words : List (List ℕ)) (first : Begun) → asked.request words ≡ Ok request
+  started : (request : Request) (words : List (List ℕ)) (first : Begun) → HasTerms request
       → begun_with_skips request words None history ≡ Ok first → IsStarted history first
-  started request words first read is =
+  started request words first terms is =
       let b = is_begun request words None history first (whole_of history loaded) is in
       let n = are_named request words history b.bare (whole_of history loaded) b.by in
       subst (IsStarted history) b.is
-      (started_by request history (terms_read words request read) n.bad n.goods b.places b.bare n.bad_below n.goods_below n.is b.ends b.within)
+      (started_by request history terms n.bad n.goods b.places b.bare n.bad_below n.goods_below n.is b.ends b.within)
 
   -- the text of a search that has started
   text_of : (first : Begun) (s : IsStarted history first) (entries : List Entry)
@@ -145,22 +145,42 @@ module _ (history : History) (loaded : IsLoaded history) where
       (ap (λ (x : Begun). with_skips history.parents x b.places) on.is ∙ b.is)
       (behind file on.replayed b.places on.log ends (are_skips history.parents (begun_behind on.replayed) b.places b.within) known left)
 
+pub given_back : (request : Request) (words : List (List ℕ)) (file : Option (Result (List ℕ) LoadFault)) (history : History) (first : Begun)
+    (known : Outcomes) (left : Option ℕ) → HasTerms request → IsLoaded history
+    → begun_with_skips request words file history ≡ Ok first → LogGivesBack file history first (run history.parents known left first.search)
+given_back request words None history first known left terms loaded is =
+    started_back history loaded first (started history loaded request words first terms is) known left
+given_back request words (Some file) history first known left terms loaded is =
+    behind_file history loaded request words file first is known left
+
+pub gone_on_from_start : (request : Request) (words : List (List ℕ)) (history : History) (first : Begun) (known : Outcomes)
+    → HasTerms request → IsLoaded history → begun_with_skips request words None history ≡ Ok first
+    → GoesOnFromStart history first known (run history.parents known None first.search)
+gone_on_from_start request words history first known terms loaded is =
+    started_from history loaded first (started history loaded request words first terms is) known
+
+pub gone_on_from_parts : (request : Request) (words : List (List ℕ)) (history : History) (first : Begun) (known : Outcomes)
+    → HasTerms request → IsLoaded history → begun_with_skips request words None history ≡ Ok first
+    → GoesOnFromParts history first known (run history.parents known None first.search)
+gone_on_from_parts request words history first known terms loaded is =
+    started_on history loaded first (started history loaded request words first terms is) known
+
+-- ---- of words that are read
+
 pub log_gives_back : (request : Request) (words : List (List ℕ)) (file : Option (Result (List ℕ) LoadFault)) (history : History) (first : Begun)
     (known : Outcomes) (left : Option ℕ) → asked.request words ≡ Ok request → IsLoaded history
     → begun_with_skips request words file history ≡ Ok first → LogGivesBack file history first (run history.parents known left first.search)
-log_gives_back request words None history first known left read loaded is =
-    started_back history loaded first (started history loaded request words first read is) known left
-log_gives_back request words (Some file) history first known left read loaded is =
-    behind_file history loaded request words file first is known left
+log_gives_back request words file history first known left read =
+    given_back request words file history first known left (terms_read words request read)
 
 pub goes_on_from_start : (request : Request) (words : List (List ℕ)) (history : History) (first : Begun) (known : Outcomes)
     → asked.request words ≡ Ok request → IsLoaded history → begun_with_skips request words None history ≡ Ok first
     → GoesOnFromStart history first known (run history.parents known None first.search)
-goes_on_from_start request words history first known read loaded is =
-    started_from history loaded first (started history loaded request words first read is) known
+goes_on_from_start request words history first known read =
+    gone_on_from_start request words history first known (terms_read words request read)
 
 pub goes_on_from_parts : (request : Request) (words : List (List ℕ)) (history : History) (first : Begun) (known : Outcomes)
     → asked.request words ≡ Ok request → IsLoaded history → begun_with_skips request words None history ≡ Ok first
     → GoesOnFromParts history first known (run history.parents known None first.search)
-goes_on_from_parts request words history first known read loaded is =
-    started_on history loaded first (started history loaded request words first read is) known
+goes_on_from_parts request words history first known read =
+    gone_on_from_parts request words history first known (terms_read words request read)

@@ -1,5 +1,5 @@
 -- What a log gives back: the state of the run that it was printed for, and, where it is cut, the rest of that run.
-use Rattle.std.specs.Prelude.{◌≡◌, ℕ, true, List, [], ◌∷◌, ◌++◌, Option, Some, None, Result, Ok, Err}
+use Rattle.std.specs.Prelude.{◌≡◌, ℕ, true, List, [], ◌∷◌, ◌++◌, Option, Some, None, IfSome, Result, Ok, Err}
 use Rattle.bf_history.specs.Meanings.{History}
 use Rattle.bf_replay.specs.Laws.{IsLoaded}
 use Rattle.bf_log.specs.Back.{GivesBack}
@@ -12,6 +12,7 @@ use Rattle.bf_search.specs.Outcomes.{Outcomes}
 use Rattle.bf_search.specs.Run.{Run, run}
 use Rattle.bf_io.specs.declared.shelf.LoadFault.{LoadFault}
 use Rattle.bf_terms.specs.Texts.{log_from}
+use Rattle.bf_terms.specs.Words.{term_fault}
 use Rattle.bf_words.specs.declared.request.Request.{Request}
 use Rattle.bf_words.specs.Words as words_asked
 use Rattle.bf_output.specs.Beginning.{Begun, begun_with_skips, commits_of, log_on}
@@ -67,6 +68,10 @@ GoesOnFromParts history first known run =
     → EndsWithCommand front
     → GoesOnText (setting_of history) (commits_of history) first.sides known
     (log_on history first [] ++ (front ++ 10 ∷ [])) back run
+
+-- the terms that a request has, where words give some, may stand for the two sides
+abbrev pub HasTerms : Request → Type 0
+HasTerms request = IfSome request.terms (λ sides. term_fault sides.new sides.old ≡ None)
 
 -- The log of every run gives the state of the run back, on whatever outcomes it ran and however long its leg was.
 abbrev pub LogsGiveBack : Type 0

@@ -1,5 +1,6 @@
 //! Laws of what the program answers, each on a function that does nothing.
 ghost use Rattle.bf_output.specs.Laws as laws;
+ghost use Rattle.bf_output.specs.Logged as logged;
 ghost use Rattle.bf_output.specs.Returning as returning;
 
 /// What is given with the files of a shelf and the bytes of a stream has at most one output, where no commit is
@@ -37,4 +38,10 @@ pub fn runs_go_on_from_starts()
 /// from the state that such a part leads to, it prints the rest of the log and ends alike.
 pub fn runs_go_on_from_parts()
     ensures { returning.RunsGoOnFromParts }
+{}
+
+/// The log that a run by tests tells gives the state of the run back, and the run goes on from its beginning and from the
+/// parts of its log, whatever command stands before its words: `run`, `checkout run` and `journal run` tell it alike.
+pub fn told_runs_give_back()
+    ensures { logged.ToldRunsGiveBack }
 {}

@@ -68,6 +68,7 @@ pub fn bisect_main<R: Host, S: Source, F: Shelf, T: Tester, K: Sink>(
     ensures unloaded { IsLeftUnless (asks_file (request words.now)) shelf.old shelf.new }
     ensures untested { IsUntestedIfRefused (met_tester T.Tester tester.old tester.new) result }
     ensures is_split { T.is_split tester.new ≡ false }
+    ensures recalled { T.recalled tester.new ≡ T.recalled tester.old }
 {
     match read_words(alloc, words) {
         Ok(request) => {
@@ -121,6 +122,7 @@ fn conclude<R: Host, T: Tester, K: Sink>(
     ensures used { IsUsedIn line.entry (met_tester T.Tester tester.old tester.new) }
     ensures untested { IsUntestedIfRefused (met_tester T.Tester tester.old tester.new) result }
     ensures is_split { T.is_split tester.new ≡ false }
+    ensures recalled { T.recalled tester.new ≡ T.recalled tester.old }
 {
     match ready {
         Ok(Ready::Search(started)) => search(rt, line, started, tester, out),

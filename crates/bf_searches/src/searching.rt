@@ -49,6 +49,7 @@ pub fn search<R: Host, T: Tester, K: Sink>(
     ensures no_journal { result ≢ Status.JournalFault }
     ensures is_split { T.is_split tester.new ≡ false }
     ensures grounds { T.grounds tester.new ≡ T.grounds tester.old }
+    ensures recalled { T.recalled tester.new ≡ T.recalled tester.old }
     ensures used { IsUsedIn line.entry (met_tester T.Tester tester.old tester.new) }
 {
     match search_by(rt, line, started, tester, out) {
@@ -80,6 +81,7 @@ fn search_by<R: Host, T: Tester, K: Sink>(
     ensures used { IsUsedIn line.entry (met_tester T.Tester tester.old tester.new) }
     ensures is_split { T.is_split tester.new ≡ false }
     ensures grounds { T.grounds tester.new ≡ T.grounds tester.old }
+    ensures recalled { T.recalled tester.new ≡ T.recalled tester.old }
 {
     match started.means {
         Means::Plan => search_by_plan(rt, line, started, out),
@@ -127,6 +129,7 @@ pub fn search_by_command<R: Host, T: Tester, K: Sink>(
     ensures used { IsUsedToTest line.entry (met_tester T.Tester tester.old tester.new) }
     ensures is_split { T.is_split tester.new ≡ false }
     ensures grounds { T.grounds tester.new ≡ T.grounds tester.old }
+    ensures recalled { T.recalled tester.new ≡ T.recalled tester.old }
 {
     tester.prepare(command_of(line), line.request.lenient)?;
     run_legs(rt, line, started, tester, out)

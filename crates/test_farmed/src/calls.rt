@@ -9,6 +9,7 @@ use std::alloc::{AllocError, Global};
 use std::process::{Processes, SystemProcess};
 use std::sync::Wait;
 use std::thread::Threads;
+use std::time::Clock;
 
 /// The name of the file that is checked.
 const FILE: &[u8] = b"certificate.txt";
@@ -44,7 +45,13 @@ fn source_of(alloc: Global, stream: &[u8]) -> Result<MemSource, AllocError> {
 /// What `certify` answers to these words, with a tester that is not to be asked.
 pub(crate) fn certified<R>(rt: &R, words: &[&[u8]], stream: &[u8]) -> Result<Answered, AllocError>
 where
-    R: Threads + Wait + Processes<Started = SystemProcess> + Eprint + Sync + Alloc<A = Global>,
+    R: Threads
+        + Wait
+        + Processes<Started = SystemProcess>
+        + Clock
+        + Eprint
+        + Sync
+        + Alloc<A = Global>,
 {
     let mut tester = PlanTester::new(rt.alloc(), b"")?;
     certified_by(rt, words, stream, &mut tester)
@@ -58,7 +65,13 @@ pub(crate) fn certified_by<R, T: Tester>(
     tester: &mut T,
 ) -> Result<Answered, AllocError>
 where
-    R: Threads + Wait + Processes<Started = SystemProcess> + Eprint + Sync + Alloc<A = Global>,
+    R: Threads
+        + Wait
+        + Processes<Started = SystemProcess>
+        + Clock
+        + Eprint
+        + Sync
+        + Alloc<A = Global>,
     requires fresh { T.answers tester.old ≡ [] }
     requires whole { T.is_split tester.old ≡ false }
 {

@@ -14,6 +14,7 @@ use std::process::{Processes, SystemProcess};
 use std::sync::{Arc, Wait};
 use std::test::Fail;
 use std::thread::Threads;
+use std::time::Clock;
 
 /// What a call is given beside its disk and its sink. Its tester finds commits from the fifth on bad, its workshop those
 /// that have the file `bug`, and its shelf has one file, named `file`.
@@ -26,6 +27,14 @@ pub(crate) struct Call<'a> {
     pub rules: &'a [FailRule],
     /// The calls of the folder that fail, counted from 1.
     pub folder: &'a [u64],
+}
+
+/// What a call answers, with the tester and the workshop as it leaves them.
+#[derive(Drop)]
+pub(crate) struct Made {
+    pub status: Status,
+    pub tester: Recall<ScriptTester>,
+    pub shop: Workshop<LookTester, MemFolder>,
 }
 
 /// Texts as words.
@@ -76,15 +85,21 @@ pub(crate) fn disk_of(
     Ok(MemDisk::new(Bytes::from_slice(alloc, bytes)?, Vec::new(alloc), stop))
 }
 
-/// The status of a call over a disk, which writes to a sink, and the workshop as the call leaves it.
+/// A call over a disk, which writes to a sink.
 pub(crate) fn make_call<R, K: Sink>(
     rt: &R,
     call: Call<'_>,
     disk: &mut MemDisk,
     out: &mut K,
-) -> Result<(Status, Workshop<LookTester, MemFolder>), Fail>
+) -> Result<Made, Fail>
 where
-    R: Threads + Wait + Processes<Started = SystemProcess> + Eprint + Sync + Alloc<A = Global>,
+    R: Threads
+        + Wait
+        + Processes<Started = SystemProcess>
+        + Clock
+        + Eprint
+        + Sync
+        + Alloc<A = Global>,
 {
     let alloc = rt.alloc();
     let words = words_of(alloc, call.words)?;
@@ -103,7 +118,11 @@ where
         disk,
         out,
     );
-    Ok((status, shop))
+    Ok(Made {
+        status,
+        tester,
+        shop,
+    })
 }
 
 /// What a call over a disk tells: its status and its text.
@@ -113,11 +132,17 @@ pub(crate) fn told_on<R>(
     disk: &mut MemDisk,
 ) -> Result<(Status, Bytes), Fail>
 where
-    R: Threads + Wait + Processes<Started = SystemProcess> + Eprint + Sync + Alloc<A = Global>,
+    R: Threads
+        + Wait
+        + Processes<Started = SystemProcess>
+        + Clock
+        + Eprint
+        + Sync
+        + Alloc<A = Global>,
 {
     let mut out = PlainSink::new(rt.alloc());
-    let (status, _shop) = make_call(rt, given, disk, &mut out)?;
-    Ok((status, out.into_bytes()))
+    let made = make_call(rt, given, disk, &mut out)?;
+    Ok((made.status, out.into_bytes()))
 }
 
 /// What a call over an empty disk tells, where nothing fails: its status and its text.
@@ -128,7 +153,13 @@ pub(crate) fn told<R>(
     file: &[u8],
 ) -> Result<(Status, Bytes), Fail>
 where
-    R: Threads + Wait + Processes<Started = SystemProcess> + Eprint + Sync + Alloc<A = Global>,
+    R: Threads
+        + Wait
+        + Processes<Started = SystemProcess>
+        + Clock
+        + Eprint
+        + Sync
+        + Alloc<A = Global>,
 {
     let given = Call {
         words,

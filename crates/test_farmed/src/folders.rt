@@ -67,14 +67,14 @@ fn each_commit_is_tested_with_its_files(rt: HostRuntime) -> Result<(), Fail> {
     let alloc = rt.alloc();
     let mut out = PlainSink::new(alloc);
     let mut disk = disk_of(alloc, &[], None)?;
-    let (status, shop) = make_call(&rt, search_in(&[]), &mut disk, &mut out)?;
-    assert_eq!(rt; status, Status::Done);
+    let made = make_call(&rt, search_in(&[]), &mut disk, &mut out)?;
+    assert_eq!(rt; made.status, Status::Done);
     assert_eq!(rt; out.bytes(), BUG_FOUND);
     for path in [b"a".as_slice(), b"bug"] {
         let path = read_path(alloc, path)?;
-        assert_eq!(rt; shop.folder().get(&path), Some(b"x".as_slice()));
+        assert_eq!(rt; made.shop.folder().get(&path), Some(b"x".as_slice()));
     }
-    assert!(rt; !shop.folder().has(&read_path(alloc, b"lib/z")?));
+    assert!(rt; !made.shop.folder().has(&read_path(alloc, b"lib/z")?));
     assert_eq!(rt; disk.calls(), 0);
     Ok(())
 }
@@ -100,8 +100,8 @@ fn each_call_of_the_folder_fails(rt: HostRuntime) -> Result<(), Fail> {
     for fails in 1..4 {
         let mut out = PlainSink::new(alloc);
         let mut disk = disk_of(alloc, &[], None)?;
-        let (status, _shop) = make_call(&rt, search_in(&[fails]), &mut disk, &mut out)?;
-        assert_eq!(rt; status, Status::TestFault { place: 1 }, "call {fails}");
+        let made = make_call(&rt, search_in(&[fails]), &mut disk, &mut out)?;
+        assert_eq!(rt; made.status, Status::TestFault { place: 1 }, "call {fails}");
         assert!(rt; is_cut(out.bytes()), "call {fails}");
     }
     Ok(())

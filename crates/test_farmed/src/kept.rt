@@ -1,8 +1,9 @@
 //! Runs whose outcomes are kept on a disk, from which the same line goes on.
-use crate::devices::{Call, disk_of, told_on};
+use crate::devices::{Call, disk_of, make_call, told_on};
 use crate::line::{EIGHT, FOUND};
+use bf_io::MemSink;
 use bf_output::Status;
-use bf_tester::{FailRule, Side};
+use bf_tester::{FailRule, Side, Tester};
 use std::test::Fail;
 
 /// A run over the line of eight.
@@ -93,5 +94,21 @@ fn a_failed_test_is_made_again(rt: HostRuntime) -> Result<(), Fail> {
     let again = told_on(&rt, run_with(&[]), &mut disk)?;
     assert_eq!(rt; again.0, Status::Done);
     assert_eq!(rt; again.1.as_slice(), FOUND);
+    Ok(())
+}
+
+// Each leg is kept before its lines are flushed: where the first flush fails, one commit was tested, and the disk
+// stands for its outcome alone.
+#[test]
+fn each_leg_is_kept(rt: HostRuntime) -> Result<(), Fail> {
+    let alloc = rt.alloc();
+    let mut disk = disk_of(alloc, &[], None)?;
+    let mut out = MemSink::new(alloc, 65_536, [2].to_vec(alloc)?);
+    let made = make_call(&rt, run_with(&[]), &mut disk, &mut out)?;
+    assert_eq!(rt; made.status, Status::WriteFault);
+    assert!(rt; made.tester.answer(0).is_some() && made.tester.answer(1).is_none());
+    assert!(rt; FOUND.starts_with(out.bytes()) && out.bytes().len() > 300);
+    let later = told_on(&rt, run_with(&[fails_at(3), fails_at(5)]), &mut disk)?;
+    assert_eq!(rt; later.0, Status::TestFault { place: 5 });
     Ok(())
 }

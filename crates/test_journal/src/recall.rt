@@ -10,13 +10,14 @@ use std::process::{Processes, SystemProcess};
 use std::sync::Wait;
 use std::test::Fail;
 use std::thread::Threads;
+use std::time::Clock;
 
 const NAME: Oid = Oid([7; 20]);
 
 /// The reply to a test that no flag withdraws.
 fn reply<R, T>(rt: &R, tester: &mut T, place: u32) -> TestReply
 where
-    R: Threads + Wait + Processes<Started = SystemProcess> + Eprint + Sync,
+    R: Threads + Wait + Processes<Started = SystemProcess> + Clock + Eprint + Sync,
     T: Tester,
     ensures command { T.command tester.new ≡ T.command tester.old }
     ensures is_lenient { T.is_lenient tester.new ≡ T.is_lenient tester.old }

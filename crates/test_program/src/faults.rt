@@ -12,6 +12,7 @@ use std::process::{Abort, Processes, SystemProcess};
 use std::sync::Wait;
 use std::test::Fail;
 use std::thread::Threads;
+use std::time::Clock;
 
 /// A search over the line of eight.
 static SEARCH: [&[u8]; 4] = [b"simulate", b"main", b"main~7", b"ggggbbbb"];
@@ -51,7 +52,13 @@ fn each_write_fails(rt: HostRuntime) -> Result<(), Fail> {
 /// The status and the text of a search over the export, in pieces of so many bytes, where it ends early.
 fn cut<R>(rt: &R, len: usize, piece: usize) -> Result<(Status, Bytes), AllocError>
 where
-    R: Threads + Wait + Processes<Started = SystemProcess> + Eprint + Sync + Alloc<A = Global>,
+    R: Threads
+        + Wait
+        + Processes<Started = SystemProcess>
+        + Clock
+        + Eprint
+        + Sync
+        + Alloc<A = Global>,
     requires { 0 < piece }
 {
     let alloc = rt.alloc();

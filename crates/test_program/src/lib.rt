@@ -17,4 +17,6 @@ mod refused;
 #[cfg(test)]
 mod searches;
 #[cfg(test)]
+mod skips;
+#[cfg(test)]
 mod workers;

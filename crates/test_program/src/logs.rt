@@ -9,6 +9,7 @@ use std::process::{Processes, SystemProcess};
 use std::sync::Wait;
 use std::test::Fail;
 use std::thread::Threads;
+use std::time::Clock;
 
 /// Words, the file that they name, and what they are answered.
 struct Row {
@@ -264,7 +265,7 @@ fn run<R, F: Shelf>(
     out: &mut PlainSink,
 ) -> Result<Status, AllocError>
 where
-    R: Threads + Wait + Processes<Started = SystemProcess> + Eprint + Sync,
+    R: Threads + Wait + Processes<Started = SystemProcess> + Clock + Eprint + Sync,
 {
     let words = words_of(alloc, words)?;
     let mut stream = PlainSource::new(Bytes::from_slice(alloc, EIGHT)?);
@@ -284,7 +285,7 @@ where
 /// Whether a row holds.
 fn holds<R>(rt: &R, alloc: Global, row: &Row) -> Result<bool, AllocError>
 where
-    R: Threads + Wait + Processes<Started = SystemProcess> + Eprint + Sync,
+    R: Threads + Wait + Processes<Started = SystemProcess> + Clock + Eprint + Sync,
 {
     let mut shelf = PlainShelf::new(files_of(alloc, row)?);
     let mut out = PlainSink::new(alloc);

@@ -8,6 +8,7 @@ use std::alloc::{AllocError, Global};
 use std::process::{Processes, SystemProcess};
 use std::sync::Wait;
 use std::thread::Threads;
+use std::time::Clock;
 
 /// Texts as words.
 pub(crate) fn words_of(alloc: Global, texts: &[&[u8]]) -> Result<Vec<Word>, AllocError> {
@@ -27,7 +28,13 @@ fn over_no_files<R, S: Source, T: Tester, K: Sink>(
     out: &mut K,
 ) -> Status
 where
-    R: Threads + Wait + Processes<Started = SystemProcess> + Eprint + Sync + Alloc<A = Global>,
+    R: Threads
+        + Wait
+        + Processes<Started = SystemProcess>
+        + Clock
+        + Eprint
+        + Sync
+        + Alloc<A = Global>,
     requires fresh { T.answers tester.old ≡ [] }
     requires whole { T.is_split tester.old ≡ false }
 {
@@ -43,7 +50,13 @@ pub(crate) fn run<R, S: Source, K: Sink>(
     out: &mut K,
 ) -> Result<Status, AllocError>
 where
-    R: Threads + Wait + Processes<Started = SystemProcess> + Eprint + Sync + Alloc<A = Global>,
+    R: Threads
+        + Wait
+        + Processes<Started = SystemProcess>
+        + Clock
+        + Eprint
+        + Sync
+        + Alloc<A = Global>,
 {
     let words = words_of(rt.alloc(), words)?;
     let mut tester = PlanTester::new(rt.alloc(), b"")?;
@@ -59,7 +72,13 @@ pub(crate) fn test<R, T: Tester, K: Sink>(
     out: &mut K,
 ) -> Result<Status, AllocError>
 where
-    R: Threads + Wait + Processes<Started = SystemProcess> + Eprint + Sync + Alloc<A = Global>,
+    R: Threads
+        + Wait
+        + Processes<Started = SystemProcess>
+        + Clock
+        + Eprint
+        + Sync
+        + Alloc<A = Global>,
     requires fresh { T.answers tester.old ≡ [] }
     requires whole { T.is_split tester.old ≡ false }
 {

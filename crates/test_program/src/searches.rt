@@ -9,8 +9,9 @@ use std::process::{Processes, SystemProcess};
 use std::sync::Wait;
 use std::test::Fail;
 use std::thread::Threads;
+use std::time::Clock;
 
-const FIRST: &[u8] = b"commit refs/heads/old
+pub(crate) const FIRST: &[u8] = b"commit refs/heads/old
 mark :1
 committer T <t@e> 0 +0000
 data 2
@@ -476,7 +477,13 @@ f787b661a09be3b12ce49117534de60c034a8fc3 is the first bad commit
 /// Whether the row holds, with the stream in pieces of so many bytes.
 fn holds<R>(rt: &R, row: &Row, piece: usize) -> Result<bool, AllocError>
 where
-    R: Threads + Wait + Processes<Started = SystemProcess> + Eprint + Sync + Alloc<A = Global>,
+    R: Threads
+        + Wait
+        + Processes<Started = SystemProcess>
+        + Clock
+        + Eprint
+        + Sync
+        + Alloc<A = Global>,
     requires { 0 < piece }
 {
     let alloc = rt.alloc();

@@ -9,11 +9,18 @@ use std::process::{Abort, Processes, SystemProcess};
 use std::sync::{Arc, Wait};
 use std::test::Fail;
 use std::thread::Threads;
+use std::time::Clock;
 
 /// The status and the text of a run by so many workers over the line of eight, where tests fail by a rule.
 fn ruled<R>(rt: &R, workers: &[u8], rule: FailRule) -> Result<(Status, Bytes), AllocError>
 where
-    R: Threads + Wait + Processes<Started = SystemProcess> + Eprint + Sync + Alloc<A = Global>,
+    R: Threads
+        + Wait
+        + Processes<Started = SystemProcess>
+        + Clock
+        + Eprint
+        + Sync
+        + Alloc<A = Global>,
 {
     let alloc = rt.alloc();
     let line: [&[u8]; 7] = [
@@ -130,6 +137,37 @@ fn tests_overlap(rt: HostRuntime) -> Result<(), Fail> {
     Ok(())
 }
 
+/// Asserts that the first event is a claim of the third commit by one of the two workers.
+fn third_is_claimed(rt: &impl Abort, trace: &[u8]) {
+    assert!(rt;
+        trace.starts_with(b"claim 1 771edca49728d8c78d5b371976ec2debc7c92b35\n")
+            || trace.starts_with(b"claim 2 771edca49728d8c78d5b371976ec2debc7c92b35\n")
+    );
+}
+
+// Two workers make the tests of a plan, too: the trace is theirs alone, and begins with what the search asks first.
+#[test]
+fn two_workers_are_traced(rt: HostRuntime) -> Result<(), Fail> {
+    let alloc = rt.alloc();
+    let line: [&[u8]; 7] = [
+        b"simulate",
+        b"--workers",
+        b"2",
+        b"--trace",
+        b"main",
+        b"main~7",
+        b"ggggbbbb",
+    ];
+    let mut stream = MemSource::new(Bytes::from_slice(alloc, EIGHT)?, 65_536, Vec::new(alloc));
+    let mut out = PlainSink::new(alloc);
+    let status = run(&rt, &line, &mut stream, &mut out)?;
+    assert_eq!(rt; status, Status::Done);
+    let trace = out.bytes().strip_prefix(FOUND).unwrap_or_default();
+    third_is_claimed(&rt, trace);
+    workers_post(&rt, trace);
+    Ok(())
+}
+
 const SECOND_IS_BAD: &[u8] = b"f570778fec974dd2b05ee862e235ff38a61118d3 is the first bad commit\n";
 
 const IS_ANOTHER: &[u8] = b"test \"$0\" != f570778fec974dd2b05ee862e235ff38a61118d3";
@@ -150,7 +188,13 @@ fn a_command_tests_commits(rt: HostRuntime) -> Result<(), Fail> {
 /// What a search over a generated history prints.
 fn sampled<R>(rt: &R, words: &[&[u8]]) -> Result<Bytes, AllocError>
 where
-    R: Threads + Wait + Processes<Started = SystemProcess> + Eprint + Sync + Alloc<A = Global>,
+    R: Threads
+        + Wait
+        + Processes<Started = SystemProcess>
+        + Clock
+        + Eprint
+        + Sync
+        + Alloc<A = Global>,
 {
     let alloc = rt.alloc();
     let mut stream = MemSource::new(Bytes::new(alloc), 16, Vec::new(alloc));

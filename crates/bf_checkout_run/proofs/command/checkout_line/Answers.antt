@@ -4,7 +4,7 @@ use Rattle.bf_answers.proofs.Concluding.{sound_answer, sound_started}
 use Rattle.bf_output.specs.Output.{is_run}
 use Rattle.bf_searches.proofs.Untested.{search_began}
 use Rattle.bf_searches.proofs.Using.{unused}
-use Rattle.bf_checkout_run.proofs.Furnishing.{no_answers, not_split, shown, shown_furnished}
+use Rattle.bf_checkout_run.proofs.Furnishing.{left_told, no_answers, not_split, shown, shown_furnished}
 use Rattle.bf_checkout_run.proofs.Searched.{between, failed_at_once, grounds_since, no_grounds, run_reads, searched, test_since, told_at_once, used_since}
 use Rattle.bf_checkout_run.proofs.command.checkout_line.Given.{Over}
 use Rattle.bf_checkout_run.proofs.command.checkout_line.Goals as goal
@@ -47,6 +47,16 @@ returns-in-Ok-Search-clause-untested g c = λ refused.
     (sound_started line.request.now c.prepare.result c.in-Ok-Search.field-0 started c.in-Ok-Search.is c.in-Ok-Search.field-0-is c.prepare.ensures.sound)
     c.search.ensures.told refused)
 
+pub returns-in-Ok-Search-clause-untouched : goal.returns-in-Ok-Search-clause-untouched
+returns-in-Ok-Search-clause-untouched g c = λ refused.
+    let line = c.args.line in
+    let started = c.in-Ok-Search.started in
+    let after = shown g.U.Tester g.D.Folder c.search.new.tester in
+    absurd {A = c.search.new.tester ≡ c.args.shop.now} (search_began line.request.now.verb line.request.now line.words.now (is_run line.request.now.verb)
+    (between (shown g.U.Tester g.D.Folder c.prepare.new.shop) after) started _ _ c.search.result
+    (sound_started line.request.now c.prepare.result c.in-Ok-Search.field-0 started c.in-Ok-Search.is c.in-Ok-Search.field-0-is c.prepare.ensures.sound)
+    c.search.ensures.told refused)
+
 pub returns-in-Ok-Search-clause-grounds : goal.returns-in-Ok-Search-clause-grounds
 returns-in-Ok-Search-clause-grounds g c =
     grounds_since (g.S.Source.left c.args.stream.now) (g.U.Tester.answers c.search.new.tester.tester) _ _ c.prepare.result c.in-Ok-Search.field-0
@@ -85,6 +95,11 @@ returns-in-Ok-Told-clause-used g c =
 pub returns-in-Ok-Told-clause-untested : goal.returns-in-Ok-Told-clause-untested
 returns-in-Ok-Told-clause-untested g c = λ refused.
     shown_furnished g.U.Tester g.D.Folder c.args.shop.now c.prepare.new.shop c.prepare.ensures.shop
+
+pub returns-in-Ok-Told-clause-untouched : goal.returns-in-Ok-Told-clause-untouched
+returns-in-Ok-Told-clause-untouched g c = λ refused.
+    left_told c.args.shop.now c.prepare.new.shop c.prepare.result c.in-Ok-Told.field-0 c.in-Ok-Told.answer c.in-Ok-Told.is c.in-Ok-Told.field-0-is
+    c.prepare.ensures.left
 
 pub returns-in-Ok-Told-clause-is_split : goal.returns-in-Ok-Told-clause-is_split
 returns-in-Ok-Told-clause-is_split g c = not_split g.U.Tester c.args.shop.now c.prepare.new.shop c.prepare.ensures.shop c.requires.whole

@@ -4,6 +4,7 @@ use Rattle.bf_answers.specs.declared.answer.Fault.{Fault}
 use Rattle.bf_answers.specs.declared.started.Ready.{Ready}
 use Rattle.bf_answers.specs.declared.started.Ready.TheVariants.{Told, Search}
 use Rattle.bf_answers.specs.Devices.{met_sink, met_tester}
+use Rattle.bf_journal_run.specs.Held.{IsHeldReady}
 use Rattle.bf_journal_run.specs.Journalling.{IsRecalledReady, TellsReady}
 use Rattle.bf_journal_run.proofs.Concluding.{unopened_only, untouched_only}
 use Rattle.bf_journal_run.specs.Legs.{met_disk}
@@ -108,3 +109,18 @@ returns-in-Err-clause-recalled g c =
 
 pub returns-in-Err-clause-unasked : goal.returns-in-Err-clause-unasked
 returns-in-Err-clause-unasked g c = unasked_none _ _ c.requires.remembers
+
+pub returns-in-Ok-Search-clause-held : goal.returns-in-Ok-Search-clause-held
+returns-in-Ok-Search-clause-held g c =
+    subst (λ (r : Result Ready Fault). IsHeldReady g.J.Disk c.args.disk.now c.search-status.new.disk c.args.line r c.search-status.new.tester.answers)
+    (sym (c.in-Ok-Search.is ∙ ap (λ (r : Ready). Ok r) c.in-Ok-Search.field-0-is)) c.search-status.ensures.held
+
+pub returns-in-Ok-Told-clause-held : goal.returns-in-Ok-Told-clause-held
+returns-in-Ok-Told-clause-held g c =
+    subst (λ (r : Result Ready Fault). IsHeldReady g.J.Disk c.args.disk.now c.args.disk.now c.args.line r c.args.tester.now.answers)
+    (sym (c.in-Ok-Told.is ∙ ap (λ (r : Ready). Ok r) c.in-Ok-Told.field-0-is)) refl
+
+pub returns-in-Err-clause-held : goal.returns-in-Err-clause-held
+returns-in-Err-clause-held g c =
+    subst (λ (r : Result Ready Fault). IsHeldReady g.J.Disk c.args.disk.now c.args.disk.now c.args.line r c.args.tester.now.answers)
+    (sym c.in-Err.is) refl

@@ -5,10 +5,12 @@ use Rattle.bf_answers.specs.Answers.{HasTestCause}
 use Rattle.bf_answers.specs.declared.line.Line.{Line}
 use Rattle.bf_answers.specs.Devices.{Met, met, met_shelf, met_sink, met_source, met_tester}
 use Rattle.bf_commands.specs.Journal.{DiskMet, request_to_journal}
+use Rattle.bf_journal_run.specs.Held.{IsHeldBy}
 use Rattle.bf_journal_run.specs.Journalling.{IsRecalledBy, to_journal}
 use Rattle.bf_journal_run.specs.Legs.{met_disk}
 use Rattle.bf_journal_run.proofs.Asking.{run_asked}
-use Rattle.bf_journal_run.proofs.Output.{answered, reads_always, recalled, refused_any, remembering_none, tests_run, used_for, refused_used, refused_recalled, unasked_none}
+use Rattle.bf_journal_run.proofs.Held.{held_ready, held_refused}
+use Rattle.bf_journal_run.proofs.Output.{answered, asks_disk, reads_always, recalled, refused_any, remembering_none, tests_run, used_for, refused_used, refused_recalled, unasked_none}
 use Rattle.bf_journal_run.proofs.Recalled.{recall_by}
 use Rattle.bf_output.specs.Output.{asks_file}
 use Rattle.bf_output.specs.Shown.{shown_by}
@@ -128,3 +130,21 @@ returns-in-Err-clause-recalled g c =
 
 pub returns-in-Err-clause-unasked : goal.returns-in-Err-clause-unasked
 returns-in-Err-clause-unasked g c = unasked_none _ _ c.requires.remembers
+
+-- ---- the disk, with whatever status
+
+pub returns-in-Ok-clause-held : goal.returns-in-Ok-clause-held
+returns-in-Ok-clause-held g c =
+    subst (λ (r : Result Request ℕ). IsHeldBy g.J.Disk c.args.disk.now c.conclude.new.disk r c.args.words.now (g.S.Source.left c.args.stream.now)
+    (g.F.Shelf.files c.args.shelf.now) c.conclude.new.tester.answers) (sym c.in-Ok.ensures)
+    (held_ready g.J.Disk c.args.disk.now c.conclude.new.disk (line_in g c) (g.F.Shelf.files c.args.shelf.now) (g.S.Source.left c.args.stream.now)
+    c.prepare-ready.result c.conclude.new.tester.answers c.prepare-ready.ensures.begins c.prepare-ready.ensures.read c.conclude.ensures.held)
+
+pub returns-in-Err-clause-held : goal.returns-in-Err-clause-held
+returns-in-Err-clause-held g c =
+    held_refused g.J.Disk c.args.disk.now (request_to_journal c.args.words.now) c.args.words.now (g.S.Source.left c.args.stream.now)
+    (g.F.Shelf.files c.args.shelf.now) c.args.tester.now.answers
+
+pub returns-in-Ok-clause-disk : goal.returns-in-Ok-clause-disk
+returns-in-Ok-clause-disk g c = λ e.
+    (asks_disk c.args.words.now c.in-Ok.request c.in-Ok.ensures (run_asked c.args.words.now c.in-Ok.request c.in-Ok.ensures), c.conclude.ensures.disk e)

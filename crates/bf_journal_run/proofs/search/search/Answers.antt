@@ -1,15 +1,16 @@
-use Rattle.std.proofs.Common.{◌∙◌, ◌≡◌, true, refl, Err, ⊎_elim, ap}
+use Rattle.std.proofs.Common.{◌∙◌, ◌≡◌, true, refl, Err, ⊎_elim, ap, length}
 use Rattle.bf_answers.proofs.Answering.{mapped}
 use Rattle.bf_answers.specs.Devices.{met_sink, met_tester}
 use Rattle.bf_answers.specs.Ready.{IsCausedTold, IsConcluded}
 use Rattle.bf_answers.specs.Tellings.{begun_of}
-use Rattle.bf_commands.specs.Journal.{IsJournalled, IsRunKept, identity_of}
+use Rattle.bf_commands.specs.Journal.{IsJournalled, IsRunKept, MayBePut, identity_of}
 use Rattle.bf_commands.specs.Journal.Opened.{Kept}
 use Rattle.bf_farm.proofs.Asked.{rose_since}
 use Rattle.bf_journal_run.specs.declared.cut.Cut.TheVariants.{Output}
 use Rattle.bf_journal_run.specs.Kept.{AreLasting}
 use Rattle.bf_journal_run.specs.Legs.{met_disk}
 use Rattle.bf_journal_run.proofs.Concluding.{another_refused, caused_no_write, fault_refused, images_of_run, kept_concluded, never_refused, of_another, of_failed, opened_at, run_refused, said_disk, said_own, said_test, said_write}
+use Rattle.bf_journal_run.proofs.Held.{ended_images, held_images, held_opened}
 use Rattle.bf_journal_run.proofs.Recalled.{recall_by}
 use Rattle.bf_oid.specs.declared.object.Oid.{Oid}
 use Rattle.bf_output.specs.Shown.{shown_by}
@@ -121,5 +122,40 @@ returns-in-Err-Failed-clause-told g c =
     of_failed (met_disk g.J.Disk c.args.disk.now c.open_journal.new.disk) c.args.line.request.now c.args.line.words.now
     (met_tester (recall_by g.T.Tester) c.args.tester.now c.args.tester.now) c.args.started.history (begun_of c.args.started.first) _ _
     c.say-in-Err-Failed.result (c.open_journal.ensures.failed.failed (c.in-Err-Failed.is ∙ ap (λ f. Err f) c.in-Err-Failed.field-0-is))
-    (opened_at g.J.Disk c.args.disk.now c.open_journal.new.disk _ _ c.open_journal.ensures.any_moment)
+    c.requires.fresh (opened_at g.J.Disk c.args.disk.now c.open_journal.new.disk _ _ c.open_journal.ensures.any_moment)
     c.say-in-Err-Failed.ensures.written
+
+-- ---- the disk, with whatever status
+
+pub returns-in-Ok-clause-held : goal.returns-in-Ok-clause-held
+returns-in-Ok-clause-held g c =
+    let history = c.args.started.history in
+    let first = begun_of c.args.started.first in
+    let journal = c.in-Ok.journal in
+    let tested = shown_by (recall_by g.T.Tester) c.search_kept-answer.new.tester in
+    let disk = g.J.Disk in
+    let (table, lasting) =
+    ended_images (AreLasting disk c.open_journal.new.disk c.search_kept-answer.new.disk journal history.names tested journal.kept)
+    (met_disk disk c.open_journal.new.disk c.search_kept-answer.new.disk) c.args.line.request.now tested history first _ _ c.search_kept-answer.result
+    c.search_kept-answer.ensures.told in
+    held_images (met_disk disk c.args.disk.now c.search_kept-answer.new.disk) (run_in g c) history tested journal.kept table c.in-Ok.ensures.kept
+    (images_of_run disk c.args.disk.now c.open_journal.new.disk c.search_kept-answer.new.disk journal (run_in g c) history.names
+    tested table c.in-Ok.ensures.run c.in-Ok.ensures.commits c.open_journal.ensures.told c.open_journal.ensures.any_moment c.in-Ok.ensures.kept lasting)
+
+pub returns-in-Err-Mismatch-clause-held : goal.returns-in-Err-Mismatch-clause-held
+returns-in-Err-Mismatch-clause-held g c =
+    held_opened g.J.Disk g.met.J.Disk.counts_now c.args.disk.now c.open_journal.new.disk
+    (identity_of c.args.started.history c.args.line.request.now c.args.line.words.now) (length c.args.started.history.names)
+    (MayBePut c.args.started.history.names c.args.tester.now.answers) c.open_journal.ensures.any_moment
+
+pub returns-in-Err-Failed-clause-held : goal.returns-in-Err-Failed-clause-held
+returns-in-Err-Failed-clause-held g c =
+    held_opened g.J.Disk g.met.J.Disk.counts_now c.args.disk.now c.open_journal.new.disk
+    (identity_of c.args.started.history c.args.line.request.now c.args.line.words.now) (length c.args.started.history.names)
+    (MayBePut c.args.started.history.names c.args.tester.now.answers) c.open_journal.ensures.any_moment
+
+pub returns-clause-held : goal.returns-clause-held
+returns-clause-held g c =
+    held_opened g.J.Disk g.met.J.Disk.counts_now c.args.disk.now c.open_journal.new.disk
+    (identity_of c.args.started.history c.args.line.request.now c.args.line.words.now) (length c.args.started.history.names)
+    (MayBePut c.args.started.history.names c.args.tester.now.answers) c.open_journal.ensures.any_moment
