@@ -2,45 +2,62 @@
 //! the system does.
 ghost use Rattle.std.specs.Prelude.{◌≡◌, ℕ, List, Option, None, Some, IfOk, string_bytes};
 ghost use Rattle.bf_tester.specs.Grounds.{File};
+ghost use Rattle.bf_io.specs.Causes.{FailsOnlyAt};
 ghost use Rattle.bf_checkout.specs.Folders.{name_of};
 
+use crate::emptying::remove_folder;
 use crate::folder::{Folder, FolderFault};
+use crate::trees::{SystemFiles, TREES, Trees, TreesRefusal};
 use bf_io::Bytes;
 use bf_paths::Path;
 use std::alloc::{AllocError, Global};
 use std::fs;
 use std::io::{self, ErrorKind};
-use std::rt::Files;
 use std::sync::Arc;
 use std::sync::atomic::{AtomicU64, Ordering};
 
-/// A folder of the system below `bisect-trees`, with a number of its own. All that are split from one draw
-/// their numbers from one count.
+/// What the folders of a run share: the count that they draw their numbers from, and the claim on `bisect-trees`.
 #[derive(Drop)]
-pub struct DirFolder<R: Files + Clone + Drop + Send> {
+struct Shared {
+    next: AtomicU64,
+    trees: Trees,
+}
+
+/// A folder of the system below `bisect-trees`, with a number of its own. All that are split from one draw
+/// their numbers from one count, and hold `bisect-trees` together: while another run holds it, each call fails.
+#[derive(Drop)]
+pub struct DirFolder<R: SystemFiles + Send> {
     rt: R,
-    alloc: Global,
     number: u64,
-    next: Arc<AtomicU64>,
+    shared: Arc<Shared>,
     faults: u64,
 }
 
-impl<R: Files + Clone + Drop + Send> DirFolder<R> {
-    /// A folder over the files that `rt` opens, with no fault so far.
-    pub fn new(rt: R, alloc: Global) -> Result<DirFolder<R>, AllocError>
+impl<R: SystemFiles + Send> DirFolder<R> {
+    /// A folder over the files that `rt` opens, with no fault so far. It opens nothing yet.
+    pub fn new(rt: R) -> Result<DirFolder<R>, AllocError>
         ensures { IfOk result (λ folder. folder.faults ≡ 0) }
     {
+        let alloc = rt.alloc();
+        let shared = Shared {
+            next: AtomicU64::new(1),
+            trees: Trees::new(alloc),
+        };
         Ok(DirFolder {
             rt,
-            alloc,
             number: 0,
-            next: Arc::new(alloc, AtomicU64::new(1))?,
+            shared: Arc::new(alloc, shared)?,
             faults: 0,
         })
     }
+
+    /// Why the folders of this run may not work in `bisect-trees`, where that is so.
+    pub fn refusal(&self) -> Option<TreesRefusal> {
+        self.shared.trees.refusal()
+    }
 }
 
-impl<R: Files + Clone + Drop + Send> Folder for DirFolder<R> {
+impl<R: SystemFiles + Send> Folder for DirFolder<R> {
     ghost files = { λ _. None };
 
     ghost faults = { λ f. f.faults };
@@ -48,53 +65,50 @@ impl<R: Files + Clone + Drop + Send> Folder for DirFolder<R> {
     ghost called = { λ f. Some (name_of f.number) };
 
     fn empty(&mut self) -> Result<(), FolderFault> {
-        match remove_files(&self.rt, self.alloc, self.number) {
-            Ok(()) => Ok(()),
-            Err(error) => {
-                if is_memory(&error) {
-                    return Err(FolderFault::NoMemory);
-                }
-                self.faults = self.faults.saturating_add(1);
-                Err(FolderFault::Failed)
-            }
-        }
+        let emptied = match self.shared.trees.claim(&self.rt)? {
+            Ok(()) => remove_files(&self.rt, self.number),
+            Err(_) => Err(io::Error::from(ErrorKind::ResourceBusy)),
+        };
+        answer(&mut self.faults, emptied)
     }
 
     /// Writes the file, and makes the folders that it stands in. A path that is not UTF-8 is a fault.
     fn put(&mut self, path: &Path, bytes: &[u8]) -> Result<(), FolderFault> {
-        match write_file(&self.rt, self.alloc, self.number, path, bytes) {
-            Ok(()) => Ok(()),
-            Err(error) => {
-                if is_memory(&error) {
-                    return Err(FolderFault::NoMemory);
-                }
-                self.faults = self.faults.saturating_add(1);
-                Err(FolderFault::Failed)
-            }
-        }
+        let written = match self.shared.trees.claim(&self.rt)? {
+            Ok(()) => write_file(&self.rt, self.number, path, bytes),
+            Err(_) => Err(io::Error::from(ErrorKind::ResourceBusy)),
+        };
+        answer(&mut self.faults, written)
     }
 
     fn name(&self, out: &mut Bytes) -> Result<(), AllocError> {
-        let name = name_of(self.alloc, self.number)?;
+        let name = name_of(self.rt.alloc(), self.number)?;
         out.append(name.as_str().as_bytes())
     }
 
+    /// The claim is made here, before there are other threads. Where it is refused each call of the folders fails.
     fn split(&self) -> Result<DirFolder<R>, AllocError> {
+        let _ = self.shared.trees.claim(&self.rt)?;
         Ok(DirFolder {
             rt: self.rt.clone()?,
-            alloc: self.alloc,
-            number: self.next.fetch_add(1, Ordering::SeqCst),
-            next: self.next.clone()?,
+            number: self.shared.next.fetch_add(1, Ordering::SeqCst),
+            shared: self.shared.clone()?,
             faults: 0,
         })
     }
 }
 
-/// Whether memory ran out.
-fn is_memory(error: &io::Error) -> bool {
-    match error.kind() {
-        ErrorKind::OutOfMemory => true,
-        _ => false,
+/// An answer of the system, of which each error but want of memory is a fault, and counted.
+fn answer(faults: &mut u64, answer: io::Result<()>) -> Result<(), FolderFault>
+    ensures cause { FailsOnlyAt FolderFault.Failed faults.old faults.new result }
+{
+    match answer {
+        Ok(()) => Ok(()),
+        Err(error) if error.kind() == ErrorKind::OutOfMemory => Err(FolderFault::NoMemory),
+        Err(_) => {
+            *faults = faults.saturating_add(1);
+            Err(FolderFault::Failed)
+        }
     }
 }
 
@@ -106,26 +120,16 @@ fn name_of(alloc: Global, number: u64) -> Result<String, AllocError>
 }
 
 /// Makes the folder with a number, without files.
-fn remove_files<R: Files>(rt: &R, alloc: Global, number: u64) -> io::Result<()> {
-    let name = name_of(alloc, number)?;
-    if let Err(error) = rt.remove_dir_all(alloc, name.as_str()) {
-        match error.kind() {
-            ErrorKind::NotFound => {}
-            _ => return Err(error),
-        }
-    }
-    fs::create_dir_all(rt, name.as_str())
+fn remove_files<R: SystemFiles>(rt: &R, number: u64) -> io::Result<()> {
+    let name = name_of(rt.alloc(), number)?;
+    let aside = format!(in rt.alloc(); "{TREES}/{number}.old")?;
+    remove_folder(rt, name.as_str(), aside.as_str())?;
+    fs::create_dir(rt, name.as_str())
 }
 
 /// Writes a file into the folder with a number.
-fn write_file<R: Files>(
-    rt: &R,
-    alloc: Global,
-    number: u64,
-    path: &Path,
-    bytes: &[u8],
-) -> io::Result<()> {
-    let mut name = name_of(alloc, number)?;
+fn write_file<R: SystemFiles>(rt: &R, number: u64, path: &Path, bytes: &[u8]) -> io::Result<()> {
+    let mut name = name_of(rt.alloc(), number)?;
     let Some((last, folders)) = path.components().split_last() else {
         return Err(io::Error::from(ErrorKind::InvalidInput));
     };

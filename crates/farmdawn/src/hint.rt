@@ -1,4 +1,5 @@
 //! What is said on the standard error of a word that is at fault, and of a command that cannot be started.
+use bf_checkout::TreesRefusal;
 use bf_io::Word;
 use bf_tester::ProcessTester;
 use std::io::Error;
@@ -99,4 +100,28 @@ pub(crate) fn tell_refusal<R: Eprint>(rt: &R, tester: &ProcessTester) {
         let reason = Error::from_raw_os_error(refusal);
         let _ = eprintln!(rt; "farmdawn: the command {program} cannot be started: {reason}");
     }
+}
+
+/// Says on the standard error how a stream that is refused for a command of git goes through git. Where it cannot be
+/// written nothing is said.
+pub(crate) fn tell_stream<R: Eprint>(rt: &R) {
+    let _ = eprintln!(rt;
+        "farmdawn: git reads what other systems write: git init -q --bare through.git,"
+    );
+    let _ = eprintln!(rt;
+        "then git -C through.git fast-import <STREAM && git -C through.git fast-export --all"
+    );
+}
+
+/// Says on the standard error why a run may not work in `bisect-trees`, where that is so. Where it cannot be written
+/// nothing is said.
+pub(crate) fn tell_trees<R: Eprint>(rt: &R, refusal: Option<TreesRefusal>) {
+    let why = match refusal {
+        None => return,
+        Some(TreesRefusal::InUse) => "another run works in it; run in another folder, or wait",
+        Some(TreesRefusal::NotOurs) =>
+            "it is not one that a run made; move it away, or run elsewhere",
+        Some(TreesRefusal::Failed) => "it cannot be made, or locked, here",
+    };
+    let _ = eprintln!(rt; "farmdawn: the folder bisect-trees is not used: {why}");
 }

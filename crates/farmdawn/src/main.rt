@@ -9,12 +9,12 @@ mod help;
 mod hint;
 
 use args::Line;
-use bf_checkout::{DirFolder, Folder, FolderTester, Workshop};
+use bf_checkout::{DirFolder, Folder, FolderTester, TreesRefusal, Workshop};
 use bf_farmed::farm_main;
 use bf_import::Content;
 use bf_io::{DirShelf, Shelf, Sink, Source, StdSink, StdSource, Word};
 use bf_journal::{Disk, DiskFile, Recall};
-use bf_program::{Status, say};
+use bf_program::{Status, StreamKind, say};
 use bf_tester::{ProcessTester, Tester};
 use help::{HELP, VERSION};
 use std::alloc::{AllocError, Global};
@@ -24,6 +24,7 @@ use std::process::{ExitCode, Processes, SystemProcess};
 use std::rt::Env;
 use std::sync::{Arc, Wait};
 use std::thread::Threads;
+use std::time::Clock;
 
 /// The file that `journal` keeps outcomes in.
 const JOURNAL: &str = "bisect.journal";
@@ -40,7 +41,13 @@ fn run<R, S: Source, F: Shelf, T: Tester, U: FolderTester<D>, D: Folder, J: Disk
     out: &mut K,
 ) -> Status
 where
-    R: Threads + Wait + Processes<Started = SystemProcess> + Eprint + Sync + Alloc<A = Global>,
+    R: Threads
+        + Wait
+        + Processes<Started = SystemProcess>
+        + Clock
+        + Eprint
+        + Sync
+        + Alloc<A = Global>,
     requires fresh { tester.old.answers ≡ [] }
     requires remembers { tester.old.remembered ≡ [] }
     requires whole { T.is_split tester.old.inner ≡ false }
@@ -61,16 +68,20 @@ where
 }
 
 /// A tester that starts commands. It tells of its tests on the standard error, unless the environment has
-/// `FARMDAWN_QUIET`.
+/// `FARMDAWN_QUIET`, and ends those that nobody asks for any more, unless it has `FARMDAWN_PATIENT`.
 fn tester_of<R: Env + Alloc<A = Global>>(rt: &R) -> ProcessTester
     ensures answers { ⟦<ProcessTester as Tester>⟧.answers result ≡ [] }
     ensures whole { ⟦<ProcessTester as Tester>⟧.is_split result ≡ false }
     ensures is_lenient { ⟦<ProcessTester as Tester>⟧.is_lenient result ≡ false }
 {
     let tester = ProcessTester::new(rt.alloc());
-    match env::var(rt, "FARMDAWN_QUIET") {
+    let tester = match env::var(rt, "FARMDAWN_QUIET") {
         Err(VarError::NotPresent) => tester,
         _ => tester.silent(),
+    };
+    match env::var(rt, "FARMDAWN_PATIENT") {
+        Err(VarError::NotPresent) => tester,
+        _ => tester.patient(),
     }
 }
 
@@ -79,20 +90,30 @@ fn nothing(alloc: Global) -> Result<Arc<Content>, AllocError> {
     Ok(Arc::new(alloc, Content::empty(alloc)?)?)
 }
 
-/// Says on the standard error what a word that is at fault should be, or why a command was not started.
-fn tell_why<R: Eprint>(
-    rt: &R,
-    line: &Line,
-    status: Status,
-    tester: &ProcessTester,
-    shop: &ProcessTester,
-) {
+/// What may tell why a test was not made: both testers, and the folders.
+#[derive(Drop)]
+struct Makers<'a> {
+    tester: &'a ProcessTester,
+    shop: &'a ProcessTester,
+    trees: Option<TreesRefusal>,
+}
+
+/// Says on the standard error what a word that is at fault should be, or why a test was not made.
+fn tell_why<R: Eprint>(rt: &R, line: &Line, status: Status, makers: &Makers<'_>) {
     match (status, line.no_text) {
         (Status::Usage { .. }, Some(argument)) => hint::tell_no_text(rt, argument),
         (Status::Usage { word }, None) => hint::tell(rt, line.words.as_slice(), word),
+        (
+            Status::StreamRefused {
+                kind: StreamKind::Unsupported,
+                ..
+            },
+            _,
+        ) => hint::tell_stream(rt),
         (Status::TestFault { .. }, _) => {
-            hint::tell_refusal(rt, tester);
-            hint::tell_refusal(rt, shop);
+            hint::tell_refusal(rt, makers.tester);
+            hint::tell_refusal(rt, makers.shop);
+            hint::tell_trees(rt, makers.trees);
         }
         _ => {}
     }
@@ -107,7 +128,7 @@ fn main(rt: HostRuntime) -> ExitCode {
                 say(&mut out, VERSION, Status::Done)
             }
             words => match (
-                DirFolder::new(rt, rt.alloc()),
+                DirFolder::new(rt),
                 nothing(rt.alloc()),
                 JOURNAL.to_string(rt.alloc()),
             ) {
@@ -127,7 +148,12 @@ fn main(rt: HostRuntime) -> ExitCode {
                         &mut disk,
                         &mut out,
                     );
-                    tell_why(&rt, &line, status, tester.inner(), shop.tester());
+                    let makers = Makers {
+                        tester: tester.inner(),
+                        shop: shop.tester(),
+                        trees: shop.folder().refusal(),
+                    };
+                    tell_why(&rt, &line, status, &makers);
                     status
                 }
                 _ => Status::NoMemory,

@@ -14,6 +14,7 @@ use std::process::{Processes, SystemProcess};
 use std::sync::{Arc, Wait};
 use std::test::Fail;
 use std::thread::Threads;
+use std::time::Clock;
 
 const NAME: Oid = Oid([7; 20]);
 
@@ -31,7 +32,7 @@ fn shop(alloc: Global, fails: Vec<u64>) -> Result<Workshop<LookTester, MemFolder
 /// The reply to a test that no flag withdraws.
 fn reply<R, T>(rt: &R, tester: &mut T, place: u32) -> TestReply
 where
-    R: Threads + Wait + Processes<Started = SystemProcess> + Eprint + Sync,
+    R: Threads + Wait + Processes<Started = SystemProcess> + Clock + Eprint + Sync,
     T: Tester,
     ensures command { T.command tester.new ≡ T.command tester.old }
     ensures is_lenient { T.is_lenient tester.new ≡ T.is_lenient tester.old }

@@ -1,18 +1,17 @@
 //! Folders of the system: what stands in them, and that no path leads out of them.
-use bf_checkout::{DirFolder, Folder, FolderFault};
+use bf_checkout::{DirFolder, Folder, FolderFault, SystemFiles, TreesRefusal};
 use bf_io::Bytes;
 use bf_paths::{Path, PathFault, read_path};
 use std::alloc::{AllocError, Global};
 use std::fs;
 use std::process::Abort;
-use std::rt::Files;
 use std::test::Fail;
 
 /// Puts a file, and tells whether it then stands under the same path below the first folder, with its
 /// bytes.
 fn stands<R>(rt: &R, folder: &mut DirFolder<R>, path: &[u8], bytes: &[u8]) -> Result<bool, Fail>
 where
-    R: Files + Clone + Drop + Send + Alloc<A = Global>,
+    R: SystemFiles + Send,
 {
     folder.put(&read_path(rt.alloc(), path)?, bytes)?;
     let text = std::str::from_utf8(path)?;
@@ -30,7 +29,7 @@ fn numbered(alloc: Global, folder: &str, number: u32) -> Result<Path, Fail> {
 /// Names with spaces, tabs, quotes and umlauts, and files without bytes and with any.
 fn has_odd_names<R>(rt: &R, folder: &mut DirFolder<R>) -> Result<(), Fail>
 where
-    R: Files + Clone + Drop + Send + Alloc<A = Global> + Abort,
+    R: SystemFiles + Send + Abort,
 {
     folder.empty()?;
     for path in [
@@ -52,7 +51,7 @@ where
 /// A thousand files in a folder, and one that stands deep below it.
 fn has_many_files<R>(rt: &R, folder: &mut DirFolder<R>) -> Result<(), Fail>
 where
-    R: Files + Clone + Drop + Send + Alloc<A = Global> + Abort,
+    R: SystemFiles + Send + Abort,
 {
     folder.empty()?;
     for number in 0..1000 {
@@ -72,7 +71,7 @@ where
 /// A file that becomes a folder, and a file again.
 fn turns_a_file_into_a_folder<R>(rt: &R, folder: &mut DirFolder<R>) -> Result<(), Fail>
 where
-    R: Files + Clone + Drop + Send + Alloc<A = Global> + Abort,
+    R: SystemFiles + Send + Abort,
 {
     folder.empty()?;
     assert!(rt; !fs::exists(rt, "bisect-trees/0/many")?);
@@ -87,7 +86,7 @@ where
 /// What a run left that was killed is gone; a link is removed, and not what it leads to.
 fn empties_what_was_left<R>(rt: &R, folder: &mut DirFolder<R>) -> Result<(), Fail>
 where
-    R: Files + Clone + Drop + Send + Alloc<A = Global> + Abort,
+    R: SystemFiles + Send + Abort,
 {
     fs::create_dir_all(rt, "outside")?;
     fs::write(rt, "outside/kept", b"kept".as_slice())?;
@@ -139,7 +138,7 @@ fn has_no_way_out(rt: &impl Abort, alloc: Global) {
 /// What the system refuses is a fault of the folder, and the next time it is emptied it is whole again.
 fn fails_where_the_system_does<R>(rt: &R, folder: &mut DirFolder<R>) -> Result<(), Fail>
 where
-    R: Files + Clone + Drop + Send + Alloc<A = Global> + Abort,
+    R: SystemFiles + Send + Abort,
 {
     let mut long = Bytes::new(rt.alloc());
     for _ in 0..300 {
@@ -154,19 +153,90 @@ where
     assert!(rt; stands(rt, folder, b"file", b"x")?);
     fs::remove_dir_all(rt, "bisect-trees/0")?;
     fs::write(rt, "bisect-trees/0", b"no folder".as_slice())?;
+    folder.empty()?;
+    assert!(rt; stands(rt, folder, b"file", b"x")?);
+    Ok(())
+}
+
+/// A chain of folders, each in the one before, far deeper than a path may be long, with a file at each level.
+fn makes_a_deep_chain<R>(rt: &R, levels: u32) -> Result<(), Fail>
+where
+    R: SystemFiles + Send,
+{
+    fs::create_dir(rt, "bisect-trees/0/chain")?;
+    for _ in 0..levels {
+        fs::create_dir(rt, "bisect-trees/0/above")?;
+        fs::write(rt, "bisect-trees/0/above/file", b"x".as_slice())?;
+        fs::rename(rt, "bisect-trees/0/chain", "bisect-trees/0/above/chain")?;
+        fs::rename(rt, "bisect-trees/0/above", "bisect-trees/0/chain")?;
+    }
+    Ok(())
+}
+
+/// What is deep is emptied, also where a run was killed as it did so.
+fn empties_what_is_deep<R>(rt: &R, folder: &mut DirFolder<R>) -> Result<(), Fail>
+where
+    R: SystemFiles + Send + Abort,
+{
+    folder.empty()?;
+    makes_a_deep_chain(rt, 1500)?;
+    fs::create_dir(rt, "bisect-trees/0.old")?;
+    fs::rename(rt, "bisect-trees/0/chain", "bisect-trees/0.old/3")?;
+    makes_a_deep_chain(rt, 1500)?;
+    folder.empty()?;
+    assert!(rt; !fs::exists(rt, "bisect-trees/0/chain")?);
+    assert!(rt; !fs::exists(rt, "bisect-trees/0.old")?);
+    assert!(rt; stands(rt, folder, b"chain", b"x")?);
+    Ok(())
+}
+
+/// While a run has the folder, another one touches nothing there and says why; once it is free, the next one takes it.
+fn is_held_by_one_run<R>(rt: &R, mut first: DirFolder<R>) -> Result<(), Fail>
+where
+    R: SystemFiles + Send + Abort,
+{
+    assert!(rt; stands(rt, &mut first, b"kept", b"x")?);
+    let mut second = DirFolder::new(rt.clone()?)?;
+    let mut split = second.split()?;
+    assert_eq!(rt; second.empty(), Err(FolderFault::Failed));
+    assert_eq!(rt; split.empty(), Err(FolderFault::Failed));
+    assert_eq!(rt; second.refusal(), Some(TreesRefusal::InUse));
+    assert!(rt; fs::exists(rt, "bisect-trees/0/kept")?);
+    assert!(rt; !fs::exists(rt, "bisect-trees/1")?);
+    drop(first);
+    let mut third = DirFolder::new(rt.clone()?)?;
+    third.empty()?;
+    assert_eq!(rt; third.refusal(), None);
+    Ok(())
+}
+
+/// What no run has made is left alone.
+fn leaves_what_is_not_ours<R>(rt: &R) -> Result<(), Fail>
+where
+    R: SystemFiles + Send + Abort,
+{
+    fs::remove_dir_all(rt, "bisect-trees")?;
+    fs::create_dir_all(rt, "bisect-trees/0")?;
+    fs::write(rt, "bisect-trees/0/mine", b"x".as_slice())?;
+    let mut folder = DirFolder::new(rt.clone()?)?;
     assert_eq!(rt; folder.empty(), Err(FolderFault::Failed));
+    assert_eq!(rt; folder.refusal(), Some(TreesRefusal::NotOurs));
+    assert!(rt; fs::exists(rt, "bisect-trees/0/mine")?);
     Ok(())
 }
 
 #[test]
 fn a_folder_of_the_system_holds_its_files(rt: HostRuntime) -> Result<(), Fail> {
-    let mut folder = DirFolder::new(rt, rt.alloc())?;
+    let mut folder = DirFolder::new(rt)?;
     has_odd_names(&rt, &mut folder)?;
     has_many_files(&rt, &mut folder)?;
     turns_a_file_into_a_folder(&rt, &mut folder)?;
     empties_what_was_left(&rt, &mut folder)?;
     has_no_way_out(&rt, rt.alloc());
     fails_where_the_system_does(&rt, &mut folder)?;
+    empties_what_is_deep(&rt, &mut folder)?;
+    is_held_by_one_run(&rt, folder)?;
+    leaves_what_is_not_ours(&rt)?;
     fs::remove_dir_all(&rt, "bisect-trees")?;
     Ok(())
 }
@@ -181,7 +251,7 @@ fn name_of(alloc: Global, folder: &impl Folder) -> Result<Bytes, AllocError> {
 #[test]
 fn each_split_has_a_folder_of_its_own(rt: HostRuntime) -> Result<(), Fail> {
     let alloc = rt.alloc();
-    let folder = DirFolder::new(rt, alloc)?;
+    let folder = DirFolder::new(rt)?;
     let first = folder.split()?;
     let second = first.split()?;
     assert_eq!(rt;
