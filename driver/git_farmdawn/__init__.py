@@ -1,0 +1,1 @@
+"""git farmdawn: a driver of the proved engine `farmdawn serve`."""

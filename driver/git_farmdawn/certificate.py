@@ -1,0 +1,329 @@
+"""Certificates: those of the engine, as files that others can check, and their check by `farmdawn check`.
+
+The engine certifies its answer over the history that it was given, in which the first base stands for all commits behind it. So
+steps that lead no commit of the repository to its parent are left out, and those that lead from a good commit to a parent there
+come behind. Whether the file is right says the check, by the proved program, over the commits that it names with their parents as
+they stand in the repository: no file is left that fails it.
+"""
+from __future__ import annotations
+
+import hashlib
+import os
+import subprocess
+from typing import TYPE_CHECKING, Dict, Iterable, List, NamedTuple, Set, Tuple
+
+from .answer_file import Answer, Fault, encoded, read_answer, with_sum
+from .ending import Ending, marks_of
+from .facts import SKIP
+from .outputs import has_room, write_whole
+from .words import Stop
+
+if TYPE_CHECKING:
+    from .record import Test
+    from .repository import Repository
+    from .telling import Telling
+
+MOST_BYTES = 16777216
+MOST_COMMITS = 100000
+EMPTY_TREE = '4b825dc642cb6eb9a060e54bf8d69288fbee4904'
+Parents = Dict[str, List[str]]
+
+
+# -- the history as it stands ----------------------------------------------------------
+
+def plain_env(repo: Repository) -> Dict[str, str]:
+    """An environment in which no file of git puts other parents in the place of a commit's own."""
+    return dict(repo.env, GIT_NO_REPLACE_OBJECTS='1', GIT_GRAFT_FILE='/dev/null')
+
+
+def parents_of(repo: Repository, names: Iterable[str]) -> Parents:
+    """The parents that commits have in the repository."""
+    text = '\n'.join(sorted(set(names))) + '\n'
+    env = dict(plain_env(repo), GIT_SHALLOW_FILE='/dev/null')
+    listed = repo.text('rev-list', '--no-walk=unsorted', '--parents', '--stdin', input=text.encode(), env=env)
+    return {words[0]: words[1:] for words in (line.split() for line in listed.split('\n')) if words}
+
+
+def led_from(lines: Iterable[str]) -> Set[str]:
+    """The commits whose parents a certificate tells of."""
+    found = set()
+    for line in lines:
+        words = line.split(' ')
+        if words[0] == 'bad':
+            found.add(words[1])
+        elif words[0] == 'reach':
+            found.add(words[3])
+    return found
+
+
+# -- writing -------------------------------------------------------------------------
+
+def keep_steps(lines: List[str], parents: Parents) -> Tuple[List[str], List[str]]:
+    """The lines whose steps the repository has, without `end`; and the parents of the bad commit that none of them reaches."""
+    kept: List[str] = []
+    reached: Set[str] = set()
+    wanted: List[str] = []
+    for line in lines:
+        words = line.split(' ')
+        if words[0] == 'bad':
+            wanted = parents.get(words[1], [])
+        elif words[0] == 'first-parent':
+            wanted = wanted[:1]
+        elif words[0] == 'good':
+            reached.add(words[1])
+        elif words[0] == 'reach':
+            if words[3] not in reached or words[1] not in parents.get(words[3], []):
+                continue
+            reached.add(words[1])
+        if words[0] != 'end':
+            kept.append(line)
+    return kept, [parent for parent in wanted if parent not in reached]
+
+
+def steps_to(repo: Repository, target: str, goods: Set[str]) -> List[str]:
+    """The steps of a shortest way from a good commit to this one."""
+    text = '\n'.join(sorted(goods) + ['^' + target]) + '\n'
+    listed = repo.text('rev-list', '--topo-order', '--reverse', '--parents', '--ancestry-path', '--stdin', input=text.encode(),
+                       check=False, env=dict(plain_env(repo)))
+    steps: Dict[str, int] = {target: 0}
+    following: Dict[str, str] = {}
+    best = ''
+    for name, *parents in (line.split() for line in listed.split('\n') if line):
+        for parent in parents:
+            if parent in steps and (name not in steps or steps[parent] + 1 < steps[name]):
+                steps[name], following[name] = steps[parent] + 1, parent
+        if name in goods and name in steps and (not best or steps[name] < steps[best]):
+            best = name
+    out = []
+    while best and best != target:
+        out.append('reach %s from %s' % (following[best], best))
+        best = following[best]
+    return out
+
+
+def head_lines(ending: Ending, test: Test) -> List[str]:
+    """What was tested, by what, and how it ended."""
+    settings, repo = ending.settings, ending.repo
+    lines = [encoded('word', os.fsencode(word)) for word in test.words]
+    lines += [encoded('folder', os.fsencode(repo.prefix))] if repo.prefix else []
+    lines += ['term-new ' + settings.term_new] if settings.term_new is not None else []
+    lines += ['term-old ' + settings.term_old] if settings.term_old is not None else []
+    for kind, name in [('called-bad', settings.bad)] + [('called-good', good) for good in settings.goods]:
+        lines.append('%s %s%s' % (kind, name, ' %d' % test.known[name] if name in test.known else ''))
+    ends = set(settings.goods + [settings.bad])
+    for word, name in dict.fromkeys(marks_of(test.log)):
+        # a commit that --skip names may have an outcome, which the answer does not stand on
+        if name in test.known and name not in ends and (word == 'skip') == (test.known[name] == SKIP):
+            lines.append('outcome %s %d' % (name, test.known[name]))
+    return lines + ['against %s %d' % (one.commit, one.status) for one in ending.contradictions(test)]
+
+
+def make(ending: Ending, test: Test) -> bytes:
+    """The whole file."""
+    lines = [line.decode() for line in ending.search.certificate(test)]
+    kept, lacking = keep_steps(lines, parents_of(ending.repo, led_from(lines)))
+    goods = {line.split(' ')[1] for line in kept if line.startswith('good ')}
+    for parent in lacking:
+        kept += steps_to(ending.repo, parent, goods)
+    return with_sum(head_lines(ending, test) + kept + ['end'])
+
+
+def write_one(ending: Ending, test: Test, path: str) -> int:
+    """The file of one search, which is checked before it has its name; gives 0, or the status that says why it is not there."""
+    voice = ending.voice
+    if test.status != 0:
+        voice.say('no first %s commit was found: there is no certificate, and %s is left as it was' % (ending.settings.terms[0], path))
+        return 0
+    why = path + ' cannot be written'
+    try:
+        data = make(ending, test)
+        check_answer(Checker(ending.repo, ending.search.run.state, ending.settings.farmdawn, path), data)
+        if has_room(os.path.dirname(path)):
+            write_whole(path, data)
+            return 0
+    except Stop as stop:
+        why = 'it cannot be made (status %d, %s)' % (stop.status, stop.text)
+    except (OSError, subprocess.CalledProcessError) as fault:
+        why = str(fault)
+    voice.say('there is no certificate: %s' % why)
+    return 14
+
+
+def write_all(ending: Ending, status: int) -> int:
+    """The files of all searches; of several each has the name of its test behind it."""
+    path = ending.settings.certificate or ''
+    for test in ending.tests:
+        failed = write_one(ending, test, path + ('.' + test.name if test.name else ''))
+        status = failed or status
+    return status
+
+
+# -- checking ------------------------------------------------------------------------
+
+class Checker(NamedTuple):
+    """What a check needs."""
+
+    repo: Repository
+    folder: str                 # in which the program is run
+    farmdawn: str
+    shown: str                  # the name of the file
+
+
+class Mirror:
+    """A stream of commits with their parents, for `farmdawn check`, and the names that the program computes for them."""
+
+    def __init__(self, order: List[str], parents: Parents) -> None:
+        out: List[str] = []
+        self.computed: Dict[str, str] = {}
+        place = {name: at for at, name in enumerate(order, 1)}
+        for at, name in enumerate(order, 1):
+            out.append('reset refs/heads/p%d\n\ncommit refs/heads/p%d\nmark :%d\ncommitter f <f> %d +0000\ndata %d\n%s\n'
+                       % (at, at, at, at, len(name), name))
+            body = 'tree %s\n' % EMPTY_TREE
+            for number, parent in enumerate(parents.get(name, [])):
+                out.append('%s :%d\n' % ('merge' if number else 'from', place[parent]))
+                body += 'parent %s\n' % self.computed[parent]
+            out.append('\n')
+            body += 'author f <f> %d +0000\ncommitter f <f> %d +0000\n\n%s' % (at, at, name)
+            self.computed[name] = hashlib.sha1(b'commit %d\0' % len(body) + body.encode()).hexdigest()
+        self.stream = ''.join(out).encode()
+
+    def turned(self, lines: List[str]) -> bytes:
+        """Lines with the computed names in place of the repository's."""
+        turned = [' '.join(self.computed.get(word, word) for word in line.split(' ')) for line in lines]
+        return ''.join(line + '\n' for line in turned).encode()
+
+
+def in_order(names: List[str], parents: Parents) -> List[str]:
+    """The commits and their parents, each behind its parents."""
+    out: List[str] = []
+    state: Dict[str, int] = {}              # 1 where its parents are on their way, 2 where it stands
+    for first in names + sorted(parents):
+        waiting = [first]
+        while waiting:
+            name = waiting[-1]
+            if name not in state:
+                state[name] = 1
+                waiting += [parent for parent in parents.get(name, []) if parent not in state]
+                continue
+            waiting.pop()
+            if state[name] == 1:
+                state[name] = 2
+                out.append(name)
+    return out
+
+
+def lacking_commit(repo: Repository, name: str) -> Stop:
+    """What is said where the repository lacks a commit."""
+    if repo.is_shallow():
+        return Stop(8, 'this clone is shallow, and lacks the commit %s; git fetch --unshallow brings it' % name)
+    return Stop(8, 'this repository lacks the commit %s' % name)
+
+
+def find_commits(repo: Repository, answer: Answer, shown: str) -> None:
+    """The repository has all commits that are named."""
+    text = '\n'.join(answer.commits()) + '\n'
+    out = repo.text('cat-file', '--batch-check=%(objectname) %(objecttype)', input=text.encode(), check=False, env=plain_env(repo))
+    rows = [line.split(' ') for line in out.split('\n') if line]
+    if len(rows) != len(answer.commits()):
+        raise Stop(8, 'the commits of %s cannot be looked for' % shown)
+    for row in rows:
+        if row[-1] in ('missing', 'ambiguous'):
+            raise lacking_commit(repo, row[0])
+        if row[-1] != 'commit':
+            raise Stop(20, '%s does not hold: %s is no commit' % (shown, row[0]))
+
+
+def run_check(checker: Checker, mirror: Mirror, answer: Answer) -> None:
+    """The verdict of the proved program over the certificate."""
+    program, shown = checker.farmdawn, checker.shown
+    try:
+        write_whole(os.path.join(checker.folder, 'certificate'), mirror.turned(answer.certificate()))
+        done = subprocess.run([program, 'check', 'certificate'], cwd=checker.folder, input=mirror.stream, stdout=subprocess.PIPE,
+                              check=False)
+    except OSError as fault:
+        raise Stop(14, '%s cannot be run in %s: %s' % (program, checker.folder, fault.strerror)) from None
+    if done.returncode == 20:
+        line = int(done.stdout.split()[-1]) + answer.start - 1
+        raise Stop(20, '%s does not hold: line %d, %s' % (shown, line, answer.lines[line - 1] if line <= len(answer.lines) else 'the end'))
+    if done.returncode:
+        raise Stop(done.returncode, '%s ended with %d' % (program, done.returncode))
+
+
+def check_marks(repo: Repository, answer: Answer, shown: str) -> None:
+    """Each commit that was bad comes behind the one that was found, and none that was good does, says git."""
+    env = plain_env(repo)
+    for name in answer.marked_bad():
+        if repo.succeeds('merge-base', '--is-ancestor', answer.bad, name, env=env):
+            continue
+        if repo.is_shallow():
+            raise Stop(8, 'this clone is shallow, and lacks commits between %s and %s' % (answer.bad, name))
+        raise Stop(20, '%s does not hold: %s was bad, and does not come behind %s' % (shown, name, answer.bad))
+    text = '\n'.join([answer.bad] + ['^' + name for name in sorted(answer.listed)]) + '\n'
+    if repo.text('rev-list', '--topo-order', '--max-count=1', '--stdin', input=text.encode(), check=False, env=env) != answer.bad:
+        raise Stop(20, '%s does not hold: a commit that was good comes behind %s' % (shown, answer.bad))
+
+
+def check_answer(checker: Checker, data: bytes) -> Answer:
+    """The lines of a file by themselves, its commits, and its certificate by `farmdawn check`; raises Stop where it does not hold."""
+    repo, shown = checker.repo, checker.shown
+    if len(data) > MOST_BYTES:
+        raise Stop(9, '%s is too large' % shown)
+    if any(byte != 10 and not 32 <= byte <= 126 for byte in set(data)):
+        raise Stop(20, '%s does not hold: it has bytes that no line of an answer has' % shown)
+    try:
+        answer = read_answer(data)
+    except Fault as fault:
+        raise Stop(20, '%s does not hold: %s' % (shown, fault)) from None
+    find_commits(repo, answer, shown)
+    try:
+        parents = parents_of(repo, led_from(answer.certificate()))
+    except subprocess.CalledProcessError:
+        raise Stop(8, 'the parents of the commits cannot be listed') from None
+    order = in_order(answer.commits(), parents)
+    if len(order) > MOST_COMMITS:
+        raise Stop(9, '%s names %d commits; the limit is %d' % (shown, len(order), MOST_COMMITS))
+    run_check(checker, Mirror(order, parents), answer)
+    check_marks(repo, answer, shown)
+    return answer
+
+
+def told(answer: Answer) -> List[str]:
+    """What is said of a file that holds: what is known by it, and what is not."""
+    statuses = list(answer.outcomes.values())
+    good, skipped = statuses.count(0), statuses.count(125)
+    lines = ['certificate holds for ' + answer.bad,
+             'it is the first %s commit, by %d tests (%d good, %d skipped) of: %s'
+             % (answer.term, len(statuses), good, skipped, ' '.join(answer.words).rstrip(' ')),
+             '%s of it are good, where the %d good commits of the certificate and all of their ancestors are'
+             % ('the first parent' if answer.first_parent else 'the parents', len(answer.listed))]
+    own = answer.outcomes.get(answer.bad, answer.tested_ends.get(answer.bad))
+    untested = [name for name in answer.called if name not in answer.tested_ends]
+    lines.append('%s; of the %d ends %d were tested; whether the tests ended so is not checked'
+                 % ('its test ended with %d' % own if own is not None else 'it was called so, and not tested', len(answer.called),
+                    len(answer.called) - len(untested)))
+    if not good and not any(status == 0 for status in answer.tested_ends.values()):
+        lines.append('no test was good: a command that always fails has such a certificate, too')
+    if answer.against:
+        lines.append('%d further outcomes contradict it: %s' % (len(answer.against), ', '.join(name[:12] for name in answer.against)))
+    return lines
+
+
+def check(checker: Checker, voice: Telling) -> int:
+    """git farmdawn --check FILE; gives the status."""
+    path = checker.shown
+    try:
+        with open(path, 'rb') as file:
+            if not os.path.isfile(path):
+                raise OSError
+            data = file.read(MOST_BYTES + 1)
+    except OSError:
+        raise Stop(16, path + ': no such file') from None
+    answer = check_answer(checker, data)
+    text = ''.join(line + '\n' for line in told(answer)).encode()
+    try:
+        os.write(1, text)
+    except OSError:
+        voice.say('the standard output cannot be written')
+        return 13
+    return 0

@@ -1,0 +1,167 @@
+"""The drawings of a report: the history with its outcomes, and who tested what, and when."""
+from __future__ import annotations
+
+import re
+import time
+from html import escape
+from typing import Dict, List, NamedTuple, Optional, Sequence
+
+from .report_facts import Facts, TestFact, is_needless
+from .telling import NAME, span
+
+HIDDEN = re.compile('[\x00-\x08\x0b-\x1f\x7f-\x9f\u200e\u200f\u2028-\u202e\u2066-\u2069]')
+COLOURS = re.compile('\033\\[[0-9;]*[A-Za-z]')
+MEANT = {'ended': 'ended before it was done', 'stopped': 'stopped the search', 'lost': 'lost: no verdict'}
+OUTCOMES = ('good', 'bad', 'skipped', 'stopped', 'lost', 'ended', 'running')
+STEPS = (0.1, 0.2, 0.5, 1, 2, 5, 10, 15, 30, 60, 120, 300, 600, 900, 1800, 3600, 7200, 14400, 28800, 86400, 172800, 604800)
+# a pattern for each outcome, for those who see few colours
+PATTERNS = (('good', ''), ('bad', 'M-2 2 2-2M-2 10 10-2M6 10 10 6'), ('skipped', 'M2 2h2M6 6h2'), ('stopped', 'M0 0 8 8M8 0 0 8'),
+            ('lost', 'M4 0v8'))
+MOST_CELLS = 160
+CELL, GAP = 9, 4
+
+
+def page_text(text: str) -> str:
+    """A text as the page has it: controls, and what turns the direction of a text, by sign or number."""
+    def sign(match: re.Match[str]) -> str:
+        code = ord(match.group())
+        return '^' + chr(64 + code) if code < 32 else '^?' if code == 127 else '[U+%04X]' % code
+    return escape(re.sub('[\ufffe\uffff]|[\U0001fffe-\U0001ffff]', '\ufffd', HIDDEN.sub(sign, COLOURS.sub('', text))))
+
+
+def patterns() -> str:
+    """What fills the bars and cells."""
+    out = ['<svg width="0" height="0" aria-hidden="true" style="position:absolute"><defs>']
+    for name, path in PATTERNS:
+        mark = '<path class="m" d="%s"/>' % path if path else ''
+        out.append('<pattern id="p-%s" width="8" height="8" patternUnits="userSpaceOnUse"><rect width="8" height="8" class="c-%s"/>'
+                   '%s</pattern>' % (name, name, mark))
+    return '\n'.join(out) + '</defs></svg>'
+
+
+def legend(words: Sequence[str], faint: str = '') -> List[str]:
+    """What the fillings mean."""
+    out = ['<ul class="legend">']
+    for word in OUTCOMES:
+        if word in words:
+            out.append('<li><svg width="22" height="12" aria-hidden="true"><rect x="1" y="1" width="20" height="10" class="%s"/></svg>'
+                       '%s</li>' % (word, MEANT.get(word, word)))
+    return out + (['<li>%s</li>' % faint] if faint else []) + ['</ul>']
+
+
+# -- the history -------------------------------------------------------------------
+
+class Cell(NamedTuple):
+    """A commit of the strip."""
+
+    commit: str
+    at: int                     # its place in the history
+    outcome: str
+    number: Optional[int]       # of its row in the table
+
+
+def cells_of(facts: Facts, place: Dict[str, int]) -> List[Cell]:
+    """The commits that have an outcome, and the ends, in the order of the history."""
+    found: Dict[str, Cell] = {}
+    for end in facts['ends']:
+        called = 'bad' if end['commit'] == facts['bad'] else 'good'
+        if end['commit'] in place and end['status'] is None:
+            found[end['commit']] = Cell(end['commit'], place[end['commit']], called, None)
+    for number, one in enumerate(facts['tests'], 1):
+        if one['commit'] in place and one['status'] is not None:
+            found[one['commit']] = Cell(one['commit'], place[one['commit']], one['outcome'], number)
+    cells = sorted(found.values(), key=lambda cell: cell.at)
+    if len(cells) <= MOST_CELLS:
+        return cells
+    answer = facts['answer']
+    middle = next((at for at, cell in enumerate(cells) if answer and cell.commit == answer['name']), len(cells) // 2)
+    begin = max(0, min(middle - MOST_CELLS // 2, len(cells) - MOST_CELLS))
+    return cells[begin:begin + MOST_CELLS]
+
+
+def strip(facts: Facts, place: Dict[str, int]) -> List[str]:
+    """The history from the good commits to the bad one: a cell for each commit that has an outcome, with the answer marked."""
+    cells = cells_of(facts, place)
+    if len(cells) < 2:
+        return []
+    name = facts['answer']['name'] if facts['answer'] else ''
+    contradicts = {one['commit'] for one in facts['contradictions']}
+    out, x, last = [], 0, cells[0].at - 1
+    for cell in cells:
+        x += 0 if cell.at == last + 1 else GAP
+        if cell.commit == name:
+            out.append('<path d="M%d 0v30" class="boundary"/>' % (x - 1))
+        kind = cell.outcome + (' doubt' if cell.commit in contradicts else '')
+        title = '<title>%s %s%s</title>' % (cell.commit[:NAME], cell.outcome, ': contradicts' if cell.commit in contradicts else '')
+        bar = '<rect x="%d" y="6" width="%d" height="18" class="%s"/>' % (x, CELL - 1, kind)
+        out.append('<a href="#t%d" tabindex="-1">%s%s</a>' % (cell.number, title, bar) if cell.number else bar)
+        x, last = x + CELL, cell.at
+    words = {cell.outcome for cell in cells}
+    return (['<h2>The history</h2>', *legend(sorted(words), 'the line stands before the first %s commit' % page_text(facts['terms']['new'])
+                                             if name else ''),
+             '<svg class="strip" width="%d" height="30" role="img"><title>Outcomes from the oldest commit to the newest one</title>' % (x + 1)]
+            + out + ['</svg>', '<p class="kind">From the oldest commit to the newest one; commits without an outcome are left out.</p>'])
+
+
+# -- who tested what -----------------------------------------------------------------
+
+class Scale(NamedTuple):
+    """The time and the places of the drawing."""
+
+    first: float
+    total: float
+    places: int
+    row: int
+    now: float
+
+
+def scale_of(ran: List[TestFact]) -> Scale:
+    """The scale of these tests."""
+    now = time.time()
+    first, places = min(one['began'] or now for one in ran), max(one['worker'] or 1 for one in ran)
+    total = max(0.001, max(one['ended'] or now for one in ran) - first)
+    return Scale(first, total, places, 12 if places > 24 else 16 if places > 8 else 22, now)
+
+
+def ticks(scale: Scale) -> List[str]:
+    """The rows of the workers, and lines of time."""
+    out = []
+    for i in range(scale.places):
+        if i % 2 == 0:
+            out.append('<rect x="0" y="%d" width="100%%" height="%d" class="row"/>' % (i * scale.row, scale.row))
+        if scale.places <= 24 or i == 0 or i % 4 == 3:
+            out.append('<text x="-6" y="%d" text-anchor="end">%d</text>' % ((i + 0.5) * scale.row + 4, i + 1))
+    step = next((step for step in STEPS if scale.total / step <= 5), STEPS[-1])
+    for i in range(int(scale.total / step) + 1):
+        share = i * step / scale.total * 100
+        anchor = 'start' if share < 4 else 'end' if share > 94 else 'middle'
+        out.append('<line x1="%.3f%%" x2="%.3f%%" y1="0" y2="%d" class="tick"/>' % (share, share, scale.places * scale.row))
+        out.append('<text x="%.3f%%" y="%d" text-anchor="%s">%s</text>' % (share, scale.places * scale.row + 14, anchor, span(i * step)))
+    return out
+
+
+def bar_of(number: int, one: TestFact, scale: Scale) -> str:
+    """The bar of a test."""
+    began = one['began'] or scale.first
+    spent = max(0.0, (one['ended'] or scale.now) - began)
+    title = '%s %s: %s, worker %d, from %.1f s for %s' % (one['commit'][:NAME], page_text(one['subject']), one['outcome'],
+                                                          one['worker'] or 1, began - scale.first, span(spent))
+    return ('<a href="#t%d" tabindex="-1"><rect x="%.3f%%" y="%d" width="%.3f%%" height="%d" class="%s%s"><title>%s</title></rect></a>'
+            % (number, (began - scale.first) / scale.total * 100, ((one['worker'] or 1) - 1) * scale.row + 2,
+               spent / scale.total * 100, scale.row - 4, one['outcome'], ' needless' if is_needless(one) else '', title))
+
+
+def farm(facts: Facts, counts: str) -> List[str]:
+    """Each test as a bar, by worker and time."""
+    ran = [one for one in facts['tests'] if not one['kept']]
+    if not ran:
+        return ['<p class="kind">No test ran.</p>']
+    scale = scale_of(ran)
+    words = {one['outcome'] for one in ran}
+    faint = 'faint: needless, not in the log' if any(is_needless(one) for one in ran) else ''
+    return (legend(sorted(words), faint)
+            + ['<svg class="drawing" height="%d" role="group" aria-labelledby="drawing-title drawing-text">' % (scale.places * scale.row + 20),
+               '<title id="drawing-title">Tests by worker and time</title><desc id="drawing-text">%s, by %d workers. Each bar is a test; '
+               'the table below has the same.</desc>' % (counts, scale.places)]
+            + ticks(scale)
+            + [bar_of(number, one, scale) for number, one in enumerate(facts['tests'], 1) if not one['kept']] + ['</svg>'])

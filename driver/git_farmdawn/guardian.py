@@ -1,0 +1,140 @@
+"""A process beside the driver that knows the groups under way, and ends them where the driver is killed."""
+from __future__ import annotations
+
+import os
+import signal
+import time
+from typing import Callable, NoReturn, Set
+
+from .process import end_holders, list_holders, signal_group
+
+SIGNALS = (signal.SIGINT, signal.SIGHUP, signal.SIGTERM, signal.SIGQUIT, signal.SIGCHLD, signal.SIGWINCH, signal.SIGPIPE)
+
+
+def group_lives(group: int) -> bool:
+    """Whether a group has a process that is no zombie."""
+    try:
+        os.killpg(group, 0)
+    except OSError:
+        return False
+    return any(is_living_member(name, group) for name in os.listdir('/proc') if name.isdigit())
+
+
+def is_living_member(pid: str, group: int) -> bool:
+    """Whether a process is of this group, and no zombie."""
+    try:
+        with open(f'/proc/{pid}/stat', 'rb') as file:
+            words = file.read().rsplit(b')', 1)[1].split()
+    except (OSError, IndexError):
+        return False
+    return int(words[2]) == group and words[0] not in (b'Z', b'X')
+
+
+class Guardian:
+    """It reads the groups from a pipe. Where that ends, the driver is gone, however: then it ends the groups and whoever else has a
+    lock of the run open, and cleans up. Where it is killed itself, `replace` forks another one."""
+
+    def __init__(self, lock: str, clean: Callable[[], object]) -> None:
+        self.lock, self.clean = lock, clean
+        self.groups: Set[int] = set()
+        self.fd, self.pid, self.over = -1, 0, False
+        self.fork()
+
+    def fork(self) -> None:
+        """Begins the process. It is forked while there is one thread, and keeps no file of the driver's open."""
+        reads, writes = os.pipe()
+        pid = os.fork()
+        if pid:
+            os.close(reads)
+            self.fd, self.pid = writes, pid
+            return
+        try:
+            signal.set_wakeup_fd(-1)
+            for number in SIGNALS:
+                signal.signal(number, signal.SIG_IGN)
+            os.setsid()
+            self.let_go(reads)
+            self.guard(reads)
+        finally:
+            os._exit(0)
+
+    @staticmethod
+    def let_go(reads: int) -> None:
+        """Closes all files but the pipe: others wait for the end of the driver by them."""
+        for name in os.listdir('/proc/self/fd'):
+            if int(name) != reads:
+                try:
+                    os.close(int(name))
+                except OSError:
+                    pass
+        null = os.open(os.devnull, os.O_RDWR)
+        for fd in range(3):
+            if fd not in (null, reads):
+                os.dup2(null, fd)
+
+    def guard(self, reads: int) -> NoReturn:
+        """Waits for the end of the driver."""
+        text = b''
+        while True:
+            part = os.read(reads, 65536)
+            if not part:
+                self.end_all()
+                os._exit(0)
+            *lines, text = (text + part).split(b'\n')
+            for line in lines:
+                if line == b'done':
+                    os._exit(0)
+                (self.groups.add if line[:1] == b'+' else self.groups.discard)(int(line[1:]))
+
+    def end_all(self) -> None:
+        """Ends all that runs, and removes the folder of the run."""
+        for number in (signal.SIGTERM, signal.SIGKILL):
+            for group in self.groups:
+                signal_group(group, number)
+            end_holders(self.lock, number)
+            turns = 0
+            while turns < 40 and (any(group_lives(group) for group in self.groups) or list_holders(self.lock)):
+                time.sleep(0.05)
+                turns += 1
+        self.clean()
+
+    # -- the driver's side ---------------------------------------------------
+
+    def tell(self, line: bytes) -> None:
+        """Writes a line; where it was killed, the next one gets all groups."""
+        try:
+            os.write(self.fd, line)
+        except OSError:
+            pass
+
+    def begun(self, group: int) -> None:
+        """A group is under way."""
+        self.groups.add(group)
+        self.tell(b'+%d\n' % group)
+
+    def ended(self, group: int) -> None:
+        """A group has ended, and its number is about to be free."""
+        self.groups.discard(group)
+        self.tell(b'-%d\n' % group)
+
+    def replace(self) -> None:
+        """Forks another one where it has ended before its time."""
+        if self.over:
+            return
+        try:
+            gone = os.waitpid(self.pid, os.WNOHANG)[0] == self.pid
+        except ChildProcessError:
+            gone = True
+        if gone:
+            os.close(self.fd)
+            self.fork()
+            self.tell(b''.join(b'+%d\n' % group for group in self.groups))
+
+    def dismiss(self) -> None:
+        """The driver has cleaned up itself."""
+        self.over = True
+        self.tell(b'done\n')
+        try:
+            os.waitpid(self.pid, 0)
+        except ChildProcessError:
+            pass

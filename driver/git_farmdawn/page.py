@@ -1,0 +1,207 @@
+"""index.html: first what was found, what failed, and what speaks for it; then the change, the search and its tests."""
+from __future__ import annotations
+
+import os
+import re
+import time
+from typing import TYPE_CHECKING, List, Optional
+
+from .drawing import farm, page_text, patterns, strip
+from .outputs import last_lines
+from .report_facts import AnswerFact, Facts, TestFact, is_needless, text_of
+from .style import STYLE
+from .telling import NAME, span
+from .words import counted, quoted
+
+if TYPE_CHECKING:
+    from .record import Test
+    from .search import Search
+
+SHOW = ('-c', 'log.showSignature=false', '-c', 'core.quotePath=false', 'show', '--no-color', '--no-notes')
+CHANGE = SHOW + ('--no-ext-diff', '--no-textconv', '--format=', '--diff-merges=first-parent')
+MOST_LINES, MOST_BYTES, OPEN_LINES = 2000, 200000, 120
+PLACES = re.compile(r'[+]{3} |--- |diff |index |(new|deleted) file mode |@@|\\')
+
+
+def shown_time(seconds: float) -> str:
+    """A time of the clock on the wall."""
+    return time.strftime('%Y-%m-%d %H:%M:%S %z', time.localtime(seconds))
+
+
+def fact(name: str, text: object) -> str:
+    """A line of a list of facts."""
+    return '<dt>%s</dt><dd>%s</dd>' % (name, page_text(str(text)))
+
+
+def block(text: str, kind: str = '') -> str:
+    """A text that keeps its lines."""
+    return '<pre tabindex="0"%s>%s</pre>' % (' class="%s"' % kind if kind else '', text)
+
+
+class Page:
+    """The page of one search."""
+
+    def __init__(self, facts: Facts, search: Search, test: Test) -> None:
+        self.facts, self.search, self.test = facts, search, test
+
+    def text(self) -> str:
+        """All of it."""
+        facts, answer = self.facts, self.facts['answer']
+        parts = self.head() + (self.verdict(answer) if answer else self.no_verdict())
+        parts += self.output() + self.doubts() + strip(facts, self.search.history.place)
+        parts += self.change(answer['name']) if answer else []
+        parts += self.search_part() + ['<h2>The tests</h2>', '<details%s><summary>Who tested what, and when</summary>' %
+                                       (' open="open"' if len(facts['tests']) <= 40 else '')]
+        parts += farm(facts, self.counts()) + self.table() + ['</details>']
+        parts.append('<h2>The log</h2>' + block(page_text('\n'.join(facts['log']))))
+        parts.append('<footer>Made by git farmdawn %s; <a href="result.json">result.json</a> has the same.</footer>\n</body>\n</html>\n'
+                     % page_text(facts['version']))
+        return '\n'.join(parts)
+
+    def head(self) -> List[str]:
+        """What a browser reads first."""
+        facts, answer = self.facts, self.facts['answer']
+        if answer:
+            title = 'First %s commit: %s %s' % (page_text(facts['terms']['new']), answer['name'][:NAME], page_text(answer['subject']))
+        else:
+            title = 'No answer: ' + page_text(facts['reason'] or '')
+        return ['<!DOCTYPE html>\n<html xmlns="http://www.w3.org/1999/xhtml" lang="en">\n<head>\n<meta charset="utf-8"/>\n'
+                '<meta name="generator" content="git farmdawn"/>\n<meta name="viewport" content="width=device-width, initial-scale=1"/>\n'
+                '<title>%s</title>\n<style>\n%s\n</style>\n</head>\n<body>' % (title, STYLE), patterns()]
+
+    # -- what was found ----------------------------------------------------------------
+
+    def verdict(self, answer: AnswerFact) -> List[str]:
+        """The commit, who made it, how its test ended, and the last good one."""
+        facts = self.facts
+        rows = ['<dt>Commit</dt><dd class="name">%s</dd>' % answer['name'], fact('Author', answer['author']),
+                fact('Date', shown_time(answer['date']))]
+        own = self.row_of(answer['name'])
+        if own:
+            rows.append(fact('Its test', 'ended with %d' % (own['status'] or 0)))
+        rows += self.parents(answer['name'])
+        return ['<header class="verdict">\n<p class="kind">First %s commit</p>\n<h1>%s</h1>\n<dl>%s</dl>\n</header>'
+                % (page_text(facts['terms']['new']), page_text(answer['subject']), ''.join(rows))]
+
+    def parents(self, name: str) -> List[str]:
+        """The parents of the answer that were good."""
+        history, old = self.search.history, self.facts['terms']['old']
+        out = []
+        for at in history.parents[history.place[name]]:
+            parent = history.order[at]
+            status = self.test.known.get(parent)
+            how = 'tested' if status == 0 else 'called so, and not tested' if status is None and parent in self.facts['good'] else ''
+            if how:
+                out.append('<dt>Last %s one</dt><dd><span class="name">%s</span> %s (%s)</dd>' %
+                           (page_text(old), parent[:NAME], page_text(text_of(history.subject[parent])), how))
+        return out
+
+    def no_verdict(self) -> List[str]:
+        """Why there is none, or the commits of which one is it."""
+        facts = self.facts
+        out = ['<header class="verdict none">\n<p class="kind">%s</p>\n<h1>%s</h1>' %
+               ('The search runs' if facts['state'] == 'running' else 'No answer', page_text(facts['reason'] or ''))]
+        if facts['candidates']:
+            out.append('<p>One of %s:</p>\n<ul>' % counted(len(facts['candidates']), 'commit'))
+            out += ['<li><span class="name">%s</span> %s%s</li>' % (one['name'][:NAME], page_text(one['subject']),
+                                                                  ' (%s)' % one['outcome'] if one['outcome'] else '')
+                    for one in facts['candidates'][:100]]
+            out.append('</ul>')
+        return out + ['</header>']
+
+    def row_of(self, name: str) -> Optional[TestFact]:
+        """The test of a commit that has an outcome."""
+        return next((one for one in self.facts['tests'] if one['commit'] == name and one['status'] is not None), None)
+
+    def output(self) -> List[str]:
+        """The last lines of the test that decided."""
+        facts = self.facts
+        last = re.search('[0-9a-f]{40,64}', facts['log'][-1]) if facts['log'] and facts['status'] is not None else None
+        row = self.row_of(last.group()) if last else None
+        if row is None or not row['log']:
+            return []
+        lines = last_lines(os.path.join(self.test.outcomes.log_dir, row['commit'] + '.log'), 20)
+        text = text_of(b'\n'.join(lines)[-4000:]).replace('\r', '\n').rstrip('\n')
+        if not text:
+            return []
+        return ['<h2>The last lines of the output of %s</h2>' % row['commit'][:NAME] + block(page_text(text))]
+
+    def doubts(self) -> List[str]:
+        """What speaks against the answer, and whether the ends were tested."""
+        facts = self.facts
+        out = ['<li class="doubt">%s %s: %s</li>' % (one['commit'][:NAME], page_text(one['subject']), page_text(one['why']))
+               for one in facts['contradictions']]
+        for end in facts['ends']:
+            if facts['answer'] and end['status'] is None:
+                out.append('<li>%s was called %s, and not tested</li>' % (end['commit'][:NAME], page_text(end['called'])))
+        against = {one['commit'] for one in facts['contradictions']}
+        agree = len([one for one in facts['tests'] if one['outcome'] in ('good', 'bad') and is_needless(one) and one['commit'] not in against])
+        if facts['answer'] and agree:
+            out.append('<li>%s that the log does not need %s with it</li>' % (counted(agree, 'outcome'), 'agrees' if agree == 1 else 'agree'))
+        return ['<h2>How sure it is</h2>\n<ul>'] + out + ['</ul>'] if out else []
+
+    # -- the change --------------------------------------------------------------------
+
+    def git(self, *words: str) -> str:
+        """What git shows."""
+        return text_of(self.search.repo.run(*words, check=False)[:MOST_BYTES + 1])
+
+    def change(self, name: str) -> List[str]:
+        """The message of a commit, where it has more than a title, and its change."""
+        message = self.git(*SHOW, '-s', '--encoding=UTF-8', '--format=%B', name).rstrip('\n')
+        out = ['<h2>Its message</h2>' + block(page_text(message), 'prose')] if '\n' in message else []
+        out.append('<h2>Its change</h2>')
+        stat = self.git(*CHANGE, '--stat=100', name)
+        if not stat.strip():
+            return out + ['<p class="kind">No file differs from its parent.</p>']
+        patch = self.git(*CHANGE, '--patch', name)
+        lines = [self.patch_line(line) for line in patch.split('\n')[:MOST_LINES]]
+        out += [block(page_text('\n'.join(stat.split('\n')[:300]))),
+                '<details%s><summary>The patch</summary>' % (' open="open"' if len(lines) <= OPEN_LINES else ''), block('\n'.join(lines))]
+        if patch.count('\n') > MOST_LINES or len(patch) > MOST_BYTES:
+            out.append('<p class="kind">The rest is cut off here; <code>git show %s</code> has it.</p>' % name)
+        return out + ['</details>']
+
+    @staticmethod
+    def patch_line(line: str) -> str:
+        """A line of a patch in its colour."""
+        kind = 'place' if PLACES.match(line) else {'+': 'added', '-': 'removed'}.get(line[:1])
+        text = page_text(line[:MOST_LINES])
+        return '<span class="%s">%s</span>' % (kind, text) if kind else text
+
+    # -- the search --------------------------------------------------------------------
+
+    def search_part(self) -> List[str]:
+        """What was searched, and by what."""
+        facts = self.facts
+        out = ['<h2>The search</h2>\n<dl>', fact('Repository', facts['repository']),
+               '<dt>Command</dt><dd><code>%s</code></dd>' % page_text(' '.join(quoted(word) for word in facts['command']))]
+        for end in facts['ends']:
+            how = 'not tested' if end['status'] is None else 'its test ended with %d' % end['status']
+            out.append('<dt>%s</dt><dd><span class="name">%s</span> %s (%s)</dd>' %
+                       (page_text(end['called']), end['commit'][:NAME], page_text(end['subject']), how))
+        out += [fact('Path', path) for path in facts['paths']]
+        took = '' if facts['ended'] is None else ', took ' + span(facts['ended'] - facts['started'])
+        out += [fact('Commits', '%d to search%s' % (facts['commits'], ', by first parents' if facts['first_parent'] else '')),
+                fact('Began', shown_time(facts['started']) + took), fact('Tests', self.counts()), fact('Workers', facts['workers'])]
+        return out + ([fact('Status', facts['status'])] if facts['status'] else []) + ['</dl>']
+
+    def counts(self) -> str:
+        """How many tests there were."""
+        tests = self.facts['tests']
+        ran = [one for one in tests if not one['kept']]
+        kept, needless = len(tests) - len(ran), sum(is_needless(one) for one in ran)
+        return ('%d ran' % len(ran) + (', %d known from earlier runs' % kept if kept else '')
+                + ('; %d needless' % needless if needless else ''))
+
+    def table(self) -> List[str]:
+        """A row for each test."""
+        out = ['<table>\n<thead><tr><th>Outcome</th><th>Commit</th><th>Subject</th><th class="number">Time</th><th>Output</th></tr>'
+               '</thead>\n<tbody>']
+        for number, one in enumerate(self.facts['tests'], 1):
+            spent = '' if one['began'] is None else span((one['ended'] or time.time()) - one['began'])
+            note = ' (known)' if one['kept'] else ' (needless)' if is_needless(one) else ''
+            link = '<a href="%s" aria-label="output of %s">output</a>' % (one['log'], one['commit'][:NAME]) if one['log'] else ''
+            out.append('<tr id="t%d"><td>%s%s</td><td class="name">%s</td><td class="what">%s</td><td class="number">%s</td><td>%s</td></tr>'
+                       % (number, one['outcome'], note, one['commit'][:NAME], page_text(one['subject']), spent, link))
+        return out + ['</tbody>\n</table>']

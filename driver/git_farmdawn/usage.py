@@ -1,0 +1,43 @@
+"""The page of help."""
+from __future__ import annotations
+
+USAGE = """usage: git farmdawn [OPTION..] BAD GOOD.. -- COMMAND [WORD..]
+       git farmdawn [OPTION..] BAD GOOD.. [--build COMMAND] --test NAME COMMAND [--test NAME COMMAND]..
+       git farmdawn [OPTION..] --replay LOG -- COMMAND [WORD..]
+       git farmdawn --check FILE
+       git farmdawn --prune [--state FOLDER]
+
+Finds the first bad commit between BAD and GOOD, or GOOD..BAD. COMMAND is run in a checkout of each commit that is
+tested, and says by its status: 0 good, 1 to 124 bad, 125 skip; 126 and above stop the search. Names of commits are
+git's own. Options may be shortened as far as they are clear, and take their value in the next word or behind =.
+
+  -j, --workers N    tests at once (as many as there are processors)
+  --first-parent     follows first parents alone
+  --term-new T, --term-old T    words for bad and good in the log
+  --skip REV         a commit, or a range A..B, that is not to be tested; any number of times
+  --path PATH        only commits that change this file or folder are tested; any number of times
+  --check-ends       tests BAD and each GOOD first, and not beside the search
+  --trust-ends       does not test them: they are as they are called
+  --timeout TIME     a test that takes longer, as 90s, 5m or 2h, is ended, and its commit is skipped
+  --deadline TIME    stops after so long, or at a time of day as 17:30, with status 24; the same line goes on
+  --copy PATH        copies this file or folder of the work tree into each checkout that lacks it
+  --submodules       checks out submodules
+  --build COMMAND    is run by sh once in a checkout before its tests; where it fails, the commit is skipped
+  --test NAME COMMAND   searches with this command, run by sh; any number of times: each has an answer of its own
+  --tests FILE       the same from a file with lines NAME: COMMAND, of which one named build is the build
+  --state FOLDER     keeps outcomes, outputs and the log there, so that they can be carried to another clone
+  --log-dir FOLDER   keeps the output of each test there, by commit
+  --log-limit SIZE   keeps so much of it, as 500k, 10M (which it is without) or 2G; the rest is cut out of the middle
+  --replay LOG       goes on from a log, as git bisect replay does, in place of BAD and GOOD
+  -q, --quiet        tells nothing of the search but what is wrong
+  --certificate FILE writes what others need to check the answer
+  --check FILE       checks such a file by the history alone, and tests nothing
+  --report FOLDER    leaves a page there, index.html, and result.json for a build server, with the outputs
+  --fresh            forgets the outcomes of earlier runs of the same command
+  --prune            removes the outcomes and outputs that are kept, but for those of searches that run
+  -h, --help         this page
+  --version          the version of farmdawn
+
+The log and the answer go to standard output; `git bisect replay` takes the log. On a terminal the answer alone is
+shown, and the log goes to a file. After a stop the same line goes on from the outcomes that were found.
+"""

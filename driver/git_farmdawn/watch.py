@@ -1,0 +1,157 @@
+"""The turns of a search: the clock, signals, the live line, the ends; and how all of it is ended."""
+from __future__ import annotations
+
+import os
+import time
+from typing import TYPE_CHECKING, Optional
+
+from . import telling
+from .evidence import WrongEnd, unseen, wrong_of
+from .facts import Progress, Running, SKIP
+from .loop import Cancelled
+from .process import end_holders
+
+if TYPE_CHECKING:
+    from .claims import Claim
+    from .report import Report
+    from .search import Search
+
+TURN = 1.0
+LONGEST_END = 8.0                       # seconds in which tests are to end at the end of the search
+
+
+class Deadline(Exception):
+    """The time of --deadline is over."""
+
+
+class Watch:
+    """Turns the loop until each search has its end. `report` is written anew from time to time."""
+
+    def __init__(self, search: Search) -> None:
+        self.search, self.settings, self.voice, self.loop = search, search.settings, search.voice, search.loop
+        self.report: Optional[Report] = None
+        self.next_look = self.next_report = 0.0
+
+    def search_all(self) -> None:
+        """All searches, up to their ends. Raises Cancelled for a signal, Deadline, or what a test or an end makes of it."""
+        search = self.search
+        self.loop.calm = True
+        if self.settings.check_ends:
+            self.check_ends()
+        elif not self.settings.trust_ends:
+            self.look_at_kept_ends()
+        search.dialogue.learn_known()
+        search.fill()
+        while any(test.status is None for test in search.tests):
+            self.turn()
+        self.wait_for_ends()
+
+    def turn(self) -> None:
+        """One turn of the loop, and what the clock asks for."""
+        now = time.monotonic()
+        wait = TURN if self.settings.deadline is None else max(0.0, min(TURN, self.settings.deadline - now))
+        self.loop.turn(wait)
+        if self.loop.heard is not None:
+            raise Cancelled(self.loop.heard)
+        if self.settings.parent and os.getppid() != self.settings.parent:
+            raise Cancelled(15)         # git was killed
+        now = time.monotonic()
+        if self.settings.deadline is not None and now >= self.settings.deadline:
+            raise Deadline
+        if now >= self.next_look:
+            self.next_look = now + TURN
+            self.look(now)
+
+    def look(self, now: float) -> None:
+        """The report, tests that run long, and the live line."""
+        if self.report is not None and now >= self.next_report:
+            self.next_report = now + self.settings.watch
+            try:
+                self.report.write(None)
+            except OSError:
+                pass
+        for claim in self.search.running():
+            self.tell_long(claim, now)
+        self.voice.draw(self.progress())
+
+    def tell_long(self, claim: Claim, now: float) -> None:
+        """How long a test runs already: behind so many seconds, and whenever they have doubled."""
+        spent = now - claim.began
+        claim.mark = claim.mark or float(self.settings.watch)
+        if spent >= claim.mark:
+            self.voice.tell(f'{claim.commit[:12]} runs since {int(spent)} s')
+            while claim.mark <= spent:
+                claim.mark *= 2
+
+    def progress(self) -> Progress:
+        """How far the search is, for the live line."""
+        search, tests = self.search, self.search.tests
+        running = [Running(claim.began, claim.commit, search.history.subject[claim.commit]) for claim in search.running()]
+        ended = [row for test in tests for row in test.ended()]
+        left = tests[0].left if len(tests) == 1 else None
+        begin = tests[0].left_at_begin or (0, 0)
+        seconds = None
+        if left is not None and ended:
+            spent = sum(row.ended - row.began for row in ended)
+            seconds = telling.estimate_seconds(telling.rounds(left[0] - left[1]), spent, len(ended), self.settings.workers)
+        return Progress(begin[0], left[0] if left else None, len(ended), seconds, running)
+
+    # -- ends ------------------------------------------------------------------
+
+    def check_ends(self) -> None:
+        """With --check-ends the ends are tested first, and each must be what it was called."""
+        search = self.search
+        for test in search.tests:
+            waiting = [end.commit for end in search.ends if end.commit not in test.known]
+            while waiting or search.running():
+                while waiting and search.is_free():
+                    search.test_end(test, waiting.pop(0))
+                self.turn()
+            for end in search.ends:
+                status = test.known[end.commit]
+                if status >= SKIP or (status != 0) != end.is_bad:
+                    raise WrongEnd(end, status)
+
+    def look_at_kept_ends(self) -> None:
+        """What earlier runs found of the ends."""
+        for test in self.search.tests:
+            end = wrong_of(self.search.ends, test.known)
+            if end is not None:
+                raise WrongEnd(end, test.known[end.commit])
+
+    def wait_for_ends(self) -> None:
+        """An answer stands on ends: where no test was good each good one is tested, where none was bad the bad one."""
+        search = self.search
+        if self.settings.trust_ends:
+            return
+        while True:
+            wanted = [(test, end.commit) for test in search.tests if test.status in (0, 2) for end in unseen(test.known, search.ends)]
+            if not wanted:
+                return
+            for test, commit in wanted:
+                if search.is_free():
+                    search.test_end(test, commit)
+            self.turn()
+
+    # -- the end ---------------------------------------------------------------
+
+    def end_tests(self) -> None:
+        """Ends all that runs; whatever then still has a lock of the run open, too."""
+        search = self.search
+        self.loop.calm = search.ending = True
+        self.voice.end_live()
+        for slot in search.slots:
+            slot.queue.clear()
+            if slot.claim is not None and slot.claim.task is not None:
+                slot.claim.task.cancel('end')
+        if search.beside is not None:
+            search.beside.cancel('end')
+        until = time.monotonic() + LONGEST_END
+        while (search.running() or search.beside is not None and not search.beside.over) and time.monotonic() < until:
+            self.loop.turn(0.05)
+        lock = search.run.state + '/lock'
+        for turn in range(24):
+            if search.run.is_left_alone():
+                break
+            end_holders(lock, 15 if turn < 20 else 9)
+            time.sleep(0.1)

@@ -1,0 +1,84 @@
+"""What the tests of the driver share: a repository of their own, searches with a limit of time, and what must be left of them.
+
+FARMDAWN names the engine; without it, it is the model, which hands what it does not answer to the program that was built, or to the one
+that FARMDAWN_PROGRAM names."""
+from __future__ import annotations
+
+import os
+import subprocess
+import tempfile
+import time
+import unittest
+from typing import Any, Callable, List
+
+TOP = os.path.dirname(os.path.dirname(os.path.dirname(os.path.abspath(__file__))))
+DRIVER = os.environ.get('FARMDAWN_DRIVER', os.path.join(TOP, 'driver', 'bin'))
+ENGINE = os.environ.get('FARMDAWN', os.path.join(TOP, 'driver', 'model', 'farmdawn'))
+PROGRAM = os.environ.get('FARMDAWN_PROGRAM', os.path.join(TOP, 'crates', 'farmdawn', 'out', 'farmdawn'))
+ENV = {**os.environ, 'GIT_CONFIG_GLOBAL': os.devnull, 'GIT_CONFIG_NOSYSTEM': '1', 'LC_ALL': 'C', 'FARMDAWN': ENGINE,
+       'GIT_AUTHOR_NAME': 'Ann Lee', 'GIT_AUTHOR_EMAIL': 'ann@example.org', 'GIT_COMMITTER_NAME': 'Bo', 'GIT_COMMITTER_EMAIL': 'bo@example.org',
+       'GIT_ALLOW_PROTOCOL': 'file', 'PATH': DRIVER + os.pathsep + os.environ['PATH']}
+LONG = f'sleep 777.{os.getpid()}'       # of this run alone
+SECONDS = 100
+needs_engine = unittest.skipUnless(os.access(ENGINE, os.X_OK), 'an engine is not here')
+needs_program = unittest.skipUnless(os.access(PROGRAM, os.X_OK), 'a built farmdawn is not here')
+
+
+class Repository:
+    """A line of commits c1, c2, ..; each has its number in the file `number`."""
+
+    def __init__(self, case: unittest.TestCase, commits: int = 12) -> None:
+        room = tempfile.TemporaryDirectory()
+        case.addCleanup(room.cleanup)
+        self.case, self.room, self.commits = case, os.path.realpath(room.name), commits
+        self.path = os.path.join(self.room, 'repository')
+        parts = []
+        for n in range(1, commits + 1):
+            parts.append(f'commit refs/heads/main\ncommitter g <g> {1700000000 + n} +0000\ndata <<.\nchange {n}\n.\n'
+                         f'M 100644 inline number\ndata <<.\n{n}\n.\nreset refs/tags/c{n}\nfrom refs/heads/main\n')
+        self.run('git', 'init', '-q', '-b', 'main', self.path, cwd=self.room)
+        self.run('git', 'fast-import', '--quiet', input=''.join(parts))
+        self.run('git', 'reset', '-q', '--hard')
+
+    def run(self, *words: str, **more: Any) -> subprocess.CompletedProcess[str]:
+        """A command in the repository."""
+        return subprocess.run(words, **{'cwd': getattr(self, 'path', None), 'env': ENV, 'stdout': subprocess.PIPE, 'stderr': subprocess.PIPE,
+                                        'text': True, 'timeout': SECONDS, 'check': True, **more})
+
+    def sh(self, script: str, **more: Any) -> str:
+        """What a script prints that is run in the repository."""
+        return self.run('sh', '-euc', script, **more).stdout
+
+    def name(self, commit: str) -> str:
+        """The whole name of a commit."""
+        return self.run('git', 'rev-parse', commit).stdout.strip()
+
+    def search(self, *words: str, **more: Any) -> subprocess.CompletedProcess[str]:
+        """A search between the first and the last commit."""
+        return self.run('git', 'farmdawn', *words, **{'check': False, **more})
+
+    def begin(self, *words: str, **more: Any) -> subprocess.Popen[str]:
+        """The same, under way, by the driver alone."""
+        return subprocess.Popen([os.path.join(DRIVER, 'git-farmdawn'), *words], **{
+            'cwd': self.path, 'env': ENV, 'stdout': subprocess.PIPE, 'stderr': subprocess.PIPE, 'text': True, **more})
+
+    def ends(self) -> List[str]:
+        """The words for the ends."""
+        return [f'c{self.commits}', 'c1']
+
+    def check_left(self) -> None:
+        """Nothing of a run is left: no folder, no checkout, no worktree, no process."""
+        folder = os.path.join(self.path, '.git', 'farmdawn')
+        self.case.assertEqual([name for name in os.listdir(folder) if name.startswith('run.')], [])
+        self.case.assertEqual([name for name in os.listdir(self.room) if '.farmdawn.' in name], [])
+        self.case.assertEqual(len([line for line in self.run('git', 'worktree', 'list').stdout.splitlines() if '.farmdawn.' in line]), 0)
+        self.case.assertEqual(subprocess.run(['pgrep', '-f', LONG], stdout=subprocess.PIPE).stdout, b'')
+
+
+def wait_until(holds: Callable[[], Any], what: str, seconds: float = SECONDS) -> None:
+    """Waits until something holds."""
+    until = time.monotonic() + seconds
+    while not holds():
+        if time.monotonic() > until:
+            raise AssertionError('it does not come: ' + what)
+        time.sleep(0.05)

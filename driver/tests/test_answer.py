@@ -1,0 +1,102 @@
+"""Files of answers: each change of a line is refused, and the certificate itself is left to the proved program."""
+from __future__ import annotations
+
+import os
+import random
+import sys
+import unittest
+from typing import Dict, List
+
+sys.path.insert(0, os.path.dirname(os.path.dirname(os.path.abspath(__file__))))
+
+from git_farmdawn import certificate                             # noqa: E402
+from git_farmdawn.answer_file import Fault, encoded, read_answer, with_sum  # noqa: E402
+
+A, B, C, D, E = (sign * 40 for sign in 'abcde')
+LINES = ['word sh', 'word -c', 'word test ! -e bug', 'folder deep/', 'term-new fixed', 'term-old broken', 'called-bad %s 1' % E, 'called-good %s 0' % A,
+         'outcome %s 0' % B, 'outcome %s 125' % C, 'outcome %s 1' % D, 'against %s 2' % ('f' * 40), 'certificate 1', 'bad %s' % D,
+         'good %s' % A, 'good %s' % B, 'reach %s from %s' % (C, B), 'end']
+
+
+class Lines(unittest.TestCase):
+    """The lines of a file."""
+
+    def test_whole(self) -> None:
+        """What stands in it."""
+        answer = read_answer(with_sum(LINES))
+        self.assertEqual((answer.bad, answer.term, answer.words, answer.start), (D, 'fixed', ['sh', '-c', 'test ! -e bug'], 15))
+        self.assertEqual((answer.outcomes, answer.tested_ends, answer.listed), ({B: 0, C: 125, D: 1}, {E: 1, A: 0}, {A, B}))
+        self.assertEqual(sorted(answer.commits()), sorted([A, B, C, D, E, 'f' * 40]))
+        self.assertEqual(answer.certificate()[0], 'certificate 1')
+        self.assertEqual(answer.marked_bad(), [E, D])
+
+    def test_changed(self) -> None:
+        """Any byte, with the sum as it was."""
+        whole = with_sum(LINES)
+        for at in range(len(whole)):
+            for byte in (whole[at] ^ 1, 10 if whole[at] != 10 else 32):
+                self.assertRaises(Fault, read_answer, whole[:at] + bytes([byte]) + whole[at + 1:])
+            self.assertRaises(Fault, read_answer, whole[:at])
+
+    def test_lines(self) -> None:
+        """Lines that are left out, doubled, or have changed their places, with the sum put right."""
+        may_lack = {'word -c', 'word sh', 'word test ! -e bug', 'folder deep/', 'term-new fixed', 'term-old broken', 'outcome %s 125' % C,
+                    'against %s 2' % ('f' * 40), 'reach %s from %s' % (C, B)}
+        may_double = {'word sh', 'word -c', 'word test ! -e bug', 'against %s 2' % ('f' * 40), 'reach %s from %s' % (C, B)}
+        for at, line in enumerate(LINES):
+            with self.subTest(line=line):
+                if line not in may_lack:
+                    self.assertRaises(Fault, read_answer, with_sum(LINES[:at] + LINES[at + 1:]))
+                if line not in may_double:
+                    self.assertRaises(Fault, read_answer, with_sum(LINES[:at] + [line] + LINES[at:]))
+            for other in range(at + 1, len(LINES)):
+                if LINES[at].split()[0] != LINES[other].split()[0]:
+                    swapped = list(LINES)
+                    swapped[at], swapped[other] = swapped[other], swapped[at]
+                    self.assertRaises(Fault, read_answer, with_sum(swapped))
+
+    def test_words_of_refusals(self) -> None:
+        """Each says why."""
+        for at, line, why in ((8, 'outcome %s 126' % B, 'in no form'), (8, 'outcome %s 0' % C, 'has two outcomes'), (8, 'outcome %s 0' % A, 'was called good'),
+                              (13, 'bad %s' % B, 'no test was bad there'), (14, 'good %s' % C, 'no test was good there'),
+                              (15, 'good %s' % A, 'named twice'), (17, 'end ', 'in no form'), (7, 'called-good %s' % B, 'was called good')):
+            lines = LINES[:at] + [line] + LINES[at + 1:]
+            self.assertRaisesRegex(Fault, why, read_answer, with_sum(lines))
+        self.assertRaisesRegex(Fault, 'line 1 this is no answer .*report', read_answer, b'{\n}\n')
+
+    def test_encoded(self) -> None:
+        """Any byte, by letters that are printed."""
+        word = bytes(range(1, 256))
+        line = encoded('word', word)
+        self.assertTrue(all(32 <= ord(sign) < 127 for sign in line))
+        read_answer(with_sum([line] + LINES[1:]))
+
+
+class Steps(unittest.TestCase):
+    """What is made of the engine's certificate, and for the check of it."""
+
+    def test_kept(self) -> None:
+        """Steps that the repository has, and the parents that none of them reaches."""
+        parents = {D: [C, E], C: [B], B: [A]}
+        lines = ['certificate 1', 'bad ' + D, 'good ' + C, 'reach %s from %s' % (B, C), 'reach %s from %s' % (E, C), 'reach %s from %s' % (A, B), 'end']
+        self.assertEqual(certificate.keep_steps(lines, parents), (lines[:4] + lines[5:6], [E]))
+        first = lines[:2] + ['first-parent'] + lines[2:]
+        self.assertEqual(certificate.keep_steps(first, parents)[1], [])
+
+    def test_order(self) -> None:
+        """Parents stand before their children, also in deep histories."""
+        choice = random.Random(5)
+        for _ in range(300):
+            names = ['%040d' % at for at in range(choice.randrange(1, 40))]
+            parents: Dict[str, List[str]] = {name: choice.sample(names[:at], min(at, choice.randrange(3))) for at, name in enumerate(names)}
+            some = choice.sample(names, choice.randrange(1, len(names) + 1))
+            order = certificate.in_order(some, parents)
+            self.assertEqual(len(order), len(set(order)))
+            place = {name: at for at, name in enumerate(order)}
+            self.assertTrue(all(place[parent] < place[name] for name in order for parent in parents[name]))
+        deep = {'%040d' % at: ['%040d' % (at - 1)] for at in range(1, 20000)}
+        self.assertEqual(len(certificate.in_order(['%040d' % 19999], deep)), 20000)
+
+
+if __name__ == '__main__':
+    unittest.main()

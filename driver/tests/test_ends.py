@@ -1,0 +1,190 @@
+"""However a search ends, its tests end with it, nothing of it is left, and the same line goes on."""
+from __future__ import annotations
+
+import os
+import pty
+import re
+import signal
+import subprocess
+import time
+import unittest
+from typing import List
+
+from helpers import DRIVER, ENV, LONG, Repository, needs_engine, wait_until
+
+# a test that leaves two processes, one of them in a session of its own
+LEAVES = f'touch "$0/began.$FARMDAWN_COMMIT"; {LONG} & setsid {LONG} & {LONG}'
+
+
+def children(pid: int, word: str = '') -> List[int]:
+    """The processes that a process started, of whose words one has this."""
+    rows = subprocess.run(['ps', '--ppid', str(pid), '-o', 'pid=,args='], stdout=subprocess.PIPE, text=True).stdout.splitlines()
+    return [int(row.split()[0]) for row in rows if word in row]
+
+
+@needs_engine
+class Ends(unittest.TestCase):
+    """Signals, kills, a deadline, a lost engine."""
+
+    def begin(self, repo: Repository, *words: str) -> subprocess.Popen[str]:
+        """A search whose three tests do not end by themselves."""
+        process = repo.begin('--workers', '3', *words, *repo.ends(), '--', 'sh', '-c', LEAVES, repo.room)
+        wait_until(lambda: sum(name.startswith('began.') for name in os.listdir(repo.room)) >= 3 or process.poll() is not None, 'three tests')
+        self.assertIsNone(process.poll(), process.poll() is not None and process.stderr and process.stderr.read())
+        return process
+
+    def test_signals(self) -> None:
+        """Each ends all, and prints the log so far."""
+        for number, status in ((signal.SIGINT, 130), (signal.SIGTERM, 143), (signal.SIGHUP, 129)):
+            with self.subTest(number.name):
+                repo = Repository(self)
+                process = self.begin(repo)
+                process.send_signal(number)
+                out, told = process.communicate(timeout=60)
+                self.assertEqual(process.returncode, status, told)
+                self.assertIn('git bisect start', out)
+                self.assertIn('stopped; the same line goes on from 0 outcomes', told)
+                repo.check_left()
+
+    def test_deadline(self) -> None:
+        """The time is over: a status of its own."""
+        repo = Repository(self)
+        got = repo.search('--workers', '3', '--deadline', '4s', *repo.ends(), '--', 'sh', '-c', LEAVES, repo.room)
+        self.assertEqual(got.returncode, 24, got.stderr)
+        self.assertIn('git bisect start', got.stdout)
+        self.assertIn('stopped; the same line goes on from 0 outcomes', got.stderr)
+        repo.check_left()
+
+    def test_killed(self) -> None:
+        """Where the driver is killed, the guardian ends all and removes the folders; also one that came for another one."""
+        for with_guardian in (False, True):
+            with self.subTest(with_guardian):
+                repo = Repository(self)
+                process = self.begin(repo)
+                if with_guardian:
+                    first = self.guardian_of(process.pid)
+                    os.kill(first, signal.SIGKILL)
+                    wait_until(lambda: self.guardian_of(process.pid) not in (0, first), 'another guardian')
+                process.kill()
+                process.communicate()
+                folder = repo.path + '/.git/farmdawn'
+                wait_until(lambda: not [name for name in os.listdir(folder) if name.startswith('run.')], 'the end of the folder')
+                repo.check_left()
+
+    @staticmethod
+    def guardian_of(pid: int) -> int:
+        """The child that is neither the engine nor a test: it has the words of the driver."""
+        with open(f'/proc/{pid}/cmdline', 'rb') as file:
+            words = file.read()
+        for child in children(pid):
+            try:
+                with open(f'/proc/{child}/cmdline', 'rb') as file:
+                    if file.read() == words:
+                        return child
+            except OSError:
+                continue
+        return 0
+
+    def test_engine_killed(self) -> None:
+        """Another engine goes on from the outcomes: the same log and answer."""
+        repo = Repository(self, 30)
+        command = f'touch {repo.room}/began; sleep 0.3; n=$(cat number); [ $((n % 7)) -ne 1 ] || exit 125; test $n -lt 20'
+        due = repo.search('--workers', '1', '--trust-ends', *repo.ends(), '--', 'sh', '-c', command)
+        for pause in (0.0, 0.4, 0.9):
+            with self.subTest(pause):
+                os.unlink(repo.room + '/began')
+                process = repo.begin('--fresh', '--workers', '4', '--trust-ends', *repo.ends(), '--', 'sh', '-c', command)
+                wait_until(lambda: os.path.exists(repo.room + '/began') and children(process.pid, 'serve'), 'the engine')
+                time.sleep(pause)
+                os.kill(children(process.pid, 'serve')[0], signal.SIGKILL)
+                out, told = process.communicate(timeout=100)
+                self.assertEqual((process.returncode, out), (due.returncode, due.stdout), told)
+                self.assertIn('farmdawn ended with -9; another one goes on', told)
+                repo.check_left()
+
+    def test_other_files(self) -> None:
+        """What a git folder that came from elsewhere names is not removed, and an old folder without a lock is."""
+        repo = Repository(self)
+        other = repo.room + '/mine.farmdawn.1'
+        os.makedirs(other)
+        with open(other + '/precious', 'w', encoding='utf-8') as file:
+            file.write('x')
+        for name in ('evil', 'old'):
+            os.makedirs(f'{repo.path}/.git/farmdawn/run.{name}/places')
+        with open(repo.path + '/.git/farmdawn/run.evil/places/0', 'w', encoding='utf-8') as file:
+            file.write(other + '\n1 2\n')
+        with open(repo.path + '/.git/farmdawn/run.old/places/0', 'w', encoding='utf-8') as file:
+            file.write(other + '\n')
+        open(repo.path + '/.git/farmdawn/run.evil/lock', 'w', encoding='utf-8').close()
+        os.utime(repo.path + '/.git/farmdawn/run.old', (1, 1))
+        got = repo.search(*repo.ends(), '--', 'sh', '-c', 'test $(cat number) -lt 7')
+        self.assertEqual(got.returncode, 0, got.stderr)
+        self.assertEqual(os.listdir(other), ['precious'])
+        self.assertEqual([name for name in os.listdir(repo.path + '/.git/farmdawn') if name.startswith('run.')], [])
+
+    def test_without_output(self) -> None:
+        """A caller that wants no output is not one that has closed it."""
+        repo = Repository(self)
+        command = ('--', 'sh', '-c', 'test $(cat number) -lt 7')
+        rows = [(('--quiet',), 'out', 0), (('--report', repo.room + '/report'), 'out', 0), ((), 'both', 0), ((), 'out', 13)]
+        for words, which, status in rows:
+            with self.subTest((words, which)):
+                more = {'stderr': subprocess.DEVNULL} if which == 'both' else {}
+                got = repo.search('--fresh', *words, *repo.ends(), *command, stdout=subprocess.DEVNULL, **more)
+                self.assertEqual(got.returncode, status, got.stderr)
+        self.assertIn('result.json', os.listdir(repo.room + '/report'))
+
+    def test_several_at_once(self) -> None:
+        """Searches with --fresh and --prune beside each other have their answers, and checkouts of their own."""
+        repo = Repository(self)
+        due = repo.name('c7') + ' is the first bad commit'
+        processes = [repo.begin('--fresh', '--workers', '2', *repo.ends(), '--', 'sh', '-c', 'sleep 0.1; test $(cat number) -lt 7') for _ in range(4)]
+        while any(process.poll() is None for process in processes):
+            repo.search('--prune')
+        for process in processes:
+            out, told = process.communicate(timeout=60)
+            self.assertEqual(out.splitlines()[-1:], [due], told)
+        repo.check_left()
+
+
+@needs_engine
+class Terminal(unittest.TestCase):
+    """Ctrl-C: git and the driver are in the foreground group, and git hands the signal on, so that the driver gets it twice."""
+
+    def test_ctrl_c(self) -> None:
+        """At many moments, also while Python starts: no traceback, and nothing is left."""
+        repo = Repository(self, 30)
+        for tool in (['git', 'farmdawn'], [os.path.join(DRIVER, 'git-farmdawn')]):
+            for pause in (0.05, 0.3, 1.5):
+                with self.subTest(tool=tool, pause=pause):
+                    words = [*tool, '--fresh', '--workers', '3', *repo.ends(), '--', 'sh', '-c', f'{LONG} & {LONG}']
+                    out = self.interrupt(words, repo.path, pause)
+                    self.assertNotIn(b'Traceback', out)
+                    wait_until(lambda: subprocess.run(['pgrep', '-f', LONG], stdout=subprocess.PIPE).stdout == b'', 'the end of the tests', 20)
+                    if os.path.exists(repo.path + '/.git/farmdawn'):
+                        repo.check_left()
+
+    @staticmethod
+    def interrupt(words: List[str], folder: str, pause: float) -> bytes:
+        """What it prints on a terminal on which Ctrl-C is typed behind a while."""
+        pid, fd = pty.fork()
+        if pid == 0:
+            os.chdir(folder)
+            os.execvpe(words[0], words, {**ENV, 'TERM': 'dumb'})
+        time.sleep(pause)
+        os.write(fd, b'\x03')
+        out = b''
+        while True:
+            try:
+                part = os.read(fd, 4096)
+            except OSError:
+                break
+            if not part:
+                break
+            out += part
+        os.waitpid(pid, 0)
+        return re.sub(rb'\s+', b' ', out)
+
+
+if __name__ == '__main__':
+    unittest.main()

@@ -1,0 +1,207 @@
+"""The report, made of a search that never ran: whole and well formed whatever is in it, and whole or not there wherever its writing ends."""
+from __future__ import annotations
+
+import json
+import os
+import random
+import re
+import subprocess
+import sys
+import tempfile
+import types
+import unittest
+import xml.etree.ElementTree as ElementTree
+from typing import Any, List, Optional
+from unittest import mock
+
+sys.path.insert(0, os.path.dirname(os.path.dirname(os.path.abspath(__file__))))
+
+from git_farmdawn import report                                  # noqa: E402
+from git_farmdawn.facts import Row                              # noqa: E402
+from git_farmdawn.outcomes import Outcomes                      # noqa: E402
+from git_farmdawn.page import Page                              # noqa: E402
+from git_farmdawn.report_facts import Collector                 # noqa: E402
+from git_farmdawn.words import Stop                             # noqa: E402
+
+HOSTILE = ['<script>alert(1)</script>', "<img src=x onerror='alert(1)'>", '&lt;b&gt; &amp; "quoted"', ']]> --> </style></pre></html>', '\033[31mred\033[0m',
+           'bell \a back \b \0 \x7f', '\x85 \u2028 \u202ereversed', '\ufffe \uffff \U0001fffe', '\udcff\udcfe', 'ümläut 日本 😀', '', '%s %d {}']
+NAME = '[0-9a-f]{40}'
+
+
+class Repo:
+    """A repository that shows the same of each commit."""
+
+    def __init__(self, room: str) -> None:
+        self.top, self.gitdir, self.text_shown = room + '/tree', room + '/tree/.git', b''
+
+    def run(self, *words: str, **more: Any) -> bytes:
+        """What git shows."""
+        return b'Ann <a&b>\n1700000000\n' if any('%an' in word for word in words) else self.text_shown
+
+
+def make_search(room: str, texts: List[str], answer: Optional[int]) -> Any:
+    """A search of a line of commits whose subjects are these; the answer is the number of one, or None where it was stopped."""
+    order = ['%040x' % (at + 1) for at in range(len(texts))]
+    known = {name: int(at >= (answer or 0)) for at, name in enumerate(order[1:-1], 1)}
+    outcomes = Outcomes(room, lambda: '0' * 12, lambda text: None)
+    for name in known:
+        os.close(outcomes.open_log(name)[1])
+        with open(outcomes.open_log(name)[0], 'wb') as file:
+            file.write(os.fsencode(texts[order.index(name)]) * 3 + b'\n\0\n')
+    rows = [Row(name, at % 3, 5.0 + at, 6.5 + at, None if at == 2 else known[name]) for at, name in enumerate(known)]
+    log = [b'git bisect start x'] + [b'git bisect %s %s' % (b'bad' if known[name] else b'good', name.encode()) for name in known]
+    last = [b'%s is the first bad commit' % order[answer].encode()] if answer else []
+    test = types.SimpleNamespace(name='', words=['sh', '-c'] + texts, outcomes=outcomes, known=known, kept={}, rows=rows, log=log, answer=last,
+                                 status=0 if answer else None)
+    history = types.SimpleNamespace(order=order, place={name: at for at, name in enumerate(order)}, parents=[[at - 1] if at else [] for at in range(len(order))],
+                                    subject={name: os.fsencode(text) for name, text in zip(order, texts)}, left=len(order) - 1, added_bad=None)
+    settings = types.SimpleNamespace(bad=order[-1], goods=[order[0]], terms=('bad', 'good'), first_parent=False, paths=[], workers=3)
+    return types.SimpleNamespace(tests=[test], history=history, settings=settings, repo=Repo(room), began=1.0, voice=None, running=lambda: [],
+                                 log_lines=lambda one, with_answer=True: one.log + (one.answer if with_answer else []))
+
+
+class Room(unittest.TestCase):
+    """A folder of its own for each test."""
+
+    def setUp(self) -> None:
+        """The folder."""
+        room = tempfile.TemporaryDirectory()
+        self.addCleanup(room.cleanup)
+        self.room = os.path.realpath(room.name)
+        os.makedirs(self.room + '/tree/.git')
+
+    def whole(self, folder: str) -> int:
+        """Whether what is there of a report is whole; how many of its two files are."""
+        there = 0
+        for name, read in (('result.json', json.load), ('index.html', ElementTree.parse)):
+            path = os.path.join(folder, name)
+            if os.path.exists(path):
+                with open(path, encoding='utf-8') as file:
+                    read(file)                  # type: ignore[operator]
+                there += 1
+        return there
+
+
+class Pages(Room):
+    """index.html and result.json."""
+
+    def test_hostile(self) -> None:
+        """Whatever subjects, words, outputs and patches have."""
+        choice = random.Random(3)
+        for turn in range(60):
+            texts = [choice.choice(HOSTILE) for _ in range(choice.randrange(5, 12))]
+            search = make_search(self.room, texts, choice.choice([None, 2, 3]))
+            search.repo.text_shown = os.fsencode('\n'.join(choice.sample(HOSTILE, 5)))
+            facts = Collector(search, search.tests[0], '0.1.0').collect(0 if search.tests[0].answer else 143, choice.choice(['', texts[0]]), True)
+            page = Page(facts, search, search.tests[0]).text()
+            data = page.encode('utf-8')
+            self.assertIsNone(re.search(rb'[\x00-\x08\x0b-\x1f\x7f]', data))
+            self.assertFalse(re.search('<script|<img|\u202e', page))
+            root = ElementTree.fromstring(data)
+            self.assertEqual(len([row for row in root.iter('{http://www.w3.org/1999/xhtml}tr') if row.get('id')]), len(facts['tests']))
+            text = report.json_of(facts)
+            self.assertEqual(json.loads(text.encode('utf-8', 'replace')), json.loads(json.dumps(facts)))
+            self.assertFalse(re.search('[\x00-\x09\x0b-\x1f\x7f-\x9f]', text))
+
+    def test_facts(self) -> None:
+        """The answer, its contradictions, the ends, and the candidates."""
+        search = make_search(self.room, ['c%d' % at for at in range(8)], 4)
+        test = search.tests[0]
+        test.known[search.history.order[2]] = 9
+        facts = Collector(search, test, '0.1.0').collect(0, '', True)
+        self.assertEqual((facts['state'], facts['answer']['name']), ('found', search.history.order[4]))
+        self.assertEqual([(one['commit'], one['status']) for one in facts['contradictions']], [(search.history.order[2], 9)])
+        self.assertEqual([(end['called'], end['status']) for end in facts['ends']], [('bad', None), ('good', None)])
+        page = Page(facts, search, test).text()
+        self.assertIn('does not have the first bad commit', page)
+        self.assertIn('was called good, and not tested', page)
+        self.assertIn('Last good one', page)
+        test.status, test.answer = 2, [b"There are only 'skip'ped commits left to test."] + [name.encode() for name in search.history.order[2:5]]
+        facts = Collector(search, test, '0.1.0').collect(2, '', True)
+        self.assertEqual([one['name'] for one in facts['candidates']], search.history.order[2:5])
+        self.assertIn('One of 3 commits', Page(facts, search, test).text())
+        self.assertIsNone(facts['answer'])
+
+    def test_states(self) -> None:
+        """By the status."""
+        search = make_search(self.room, ['c%d' % at for at in range(6)], None)
+        for status, due in ((None, 'running'), (143, 'stopped'), (14, 'stopped'), (24, 'stopped'), (1, 'stopped'), (3, 'ended'), (6, 'ended')):
+            facts = Collector(search, search.tests[0], '').collect(status, '', False)
+            self.assertEqual(facts['state'], due)
+            self.assertTrue(facts['reason'])
+
+
+class Writing(Room):
+    """The folder."""
+
+    def test_interrupted(self) -> None:
+        """Each call of the system that writes fails once: what is there is whole, or nothing is; and the next report is whole."""
+        search = make_search(self.room, HOSTILE, 5)
+        target = report.Report(self.room + '/report', search, '0.1.0')
+        for name in ('replace', 'link', 'makedirs', 'unlink'):
+            for fails_at in range(1, 60):
+                target.write(0)
+                count = 0
+                real = getattr(os, name)
+
+                def fail(*words: Any, **more: Any) -> Any:
+                    """The call, which fails at its turn."""
+                    nonlocal count
+                    count += 1
+                    if count == fails_at:
+                        raise OSError(28, 'no room')
+                    return real(*words, **more)
+                with mock.patch.object(os, name, fail):
+                    try:
+                        target.write(0)
+                    except OSError:
+                        self.assertEqual(self.whole(target.folder), 0, (name, fails_at))
+                self.whole(target.folder)
+                if count < fails_at:
+                    break
+        target.write(0)
+        self.assertEqual(self.whole(target.folder), 2)
+        self.assertEqual(sorted(os.listdir(target.folder)), ['index.html', 'outputs', 'result.json'])
+
+    def test_killed(self) -> None:
+        """A report that is killed at its renames leaves whole files, and the next one removes what is beside them."""
+        program = '''
+import os, signal, sys
+sys.path[:0] = [%r, %r]
+import test_page, git_farmdawn.report as report
+search = test_page.make_search(%r, test_page.HOSTILE, 5)
+real, left = os.replace, [int(sys.argv[1])]
+def replace(*words):
+    left[0] -= 1
+    if not left[0]:
+        os.kill(os.getpid(), signal.SIGKILL)
+    real(*words)
+os.replace = replace
+report.Report(%r, search, '0').write(0)
+''' % (os.path.dirname(os.path.abspath(__file__)), os.path.dirname(os.path.dirname(os.path.abspath(__file__))), self.room, self.room + '/report')
+        killed = 0
+        for turn in (1, 2, 3, 5, 9, 11, 12, 13, 99):
+            done = subprocess.run([sys.executable, '-B', '-c', program, str(turn)], check=False)
+            killed += done.returncode == -9
+            self.whole(self.room + '/report')
+        self.assertGreaterEqual(killed, 3)
+        self.assertEqual(sorted(os.listdir(self.room + '/report')), ['index.html', 'outputs', 'result.json'])
+
+    def test_folders(self) -> None:
+        """What is none of a report is refused and left."""
+        search = make_search(self.room, ['c%d' % at for at in range(6)], 3)
+        for name, text in (('notes', 'x'), ('index.html', 'mine'), ('result.json', '{}'), ('outputs/notes.txt', 'x'), ('outputs/a/b', 'x')):
+            folder = os.path.join(self.room, 'of-' + name.replace('/', '-'))
+            path = os.path.join(folder, name)
+            os.makedirs(os.path.dirname(path))
+            with open(path, 'w', encoding='utf-8') as file:
+                file.write(text)
+            with self.assertRaisesRegex(Stop, 'is not of a report'):
+                report.Report(folder, search, '')
+            self.assertTrue(os.path.exists(path))
+        for folder, text in ((self.room + '/tree', 'holds the repository'), (self.room, 'holds the repository'), (self.room + '/a\nb', 'line break')):
+            self.assertRaisesRegex(Stop, text, report.Report, folder, search, '')
+
+
+if __name__ == '__main__':
+    unittest.main()

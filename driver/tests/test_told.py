@@ -1,0 +1,229 @@
+"""Whole searches whose outcomes can be seen to be wrong, or that travel; and what a person sees on a terminal."""
+from __future__ import annotations
+
+import fcntl
+import json
+import os
+import pty
+import re
+import select
+import shutil
+import struct
+import subprocess
+import termios
+import time
+import unittest
+from typing import List, Tuple
+
+from helpers import DRIVER, ENV, SECONDS, Repository, needs_engine, needs_program
+
+BAD_FROM_7 = '[ $(cat number) -lt 7 ]'
+# bad from 7 on, and c3, which tests of four workers come to, too
+ODD = BAD_FROM_7 + ' && [ $(cat number) != 3 ]'
+
+
+def command(script: str) -> List[str]:
+    """The words behind the ends."""
+    return ['--', 'sh', '-c', script]
+
+
+def told(done: subprocess.CompletedProcess[str]) -> List[str]:
+    """The lines of the standard error that are no verdict."""
+    return [line for line in done.stderr.splitlines() if 'testing' not in line]
+
+
+@needs_engine
+class Wrong(unittest.TestCase):
+    """Outcomes that can be seen to be wrong."""
+
+    def test_command_that_fails_everywhere(self) -> None:
+        """Nothing is found by it, with any number of workers and the ends beside each other or not."""
+        repo = Repository(self)
+        for words in (['c12', 'c1'], ['c2', 'c1'], ['-j', '1', 'c12', 'c1'], ['-j', '16', 'c12', 'c1']):
+            for script, what in (('exit 3', 'c1'), ('exit 0', words[-2])):
+                done = repo.search('--fresh', *words, *command(script))
+                self.assertEqual(done.returncode, 1, done.stderr)
+                self.assertEqual(done.stdout, '')
+                called = 'good' if what == 'c1' else 'bad'
+                self.assertTrue(any('%s was called %s, and its test ended with' % (repo.name(what), called) in line for line in told(done)), done.stderr)
+        done = repo.search('--fresh', '--trust-ends', 'c12', 'c1', *command('exit 3'))
+        self.assertEqual(done.returncode, 0)
+        self.assertIn('no test was good, and %s was not tested' % repo.name('c1')[:12], done.stderr)
+        repo.check_left()
+
+    def test_end_that_cannot_be_tested(self) -> None:
+        """A skip of an end is no word against it."""
+        repo = Repository(self)
+        done = repo.search('c12', 'c1', *command('case $(cat number) in 1 | 12) exit 125 ;; esac; ' + BAD_FROM_7))
+        self.assertEqual(done.returncode, 0, done.stderr)
+        self.assertIn(repo.name('c7') + ' is the first bad commit', done.stdout)
+
+    @needs_program
+    def test_contradiction(self) -> None:
+        """It is told, and stands in the report and in the certificate; the answer and its status are what they were."""
+        repo = Repository(self)
+        repo.search('--check-ends', 'c3', 'c2', *command(ODD))         # so its outcome is known
+        done = repo.search('--report', '../report', '--certificate', '../answer', 'c12', 'c1', *command(ODD))
+        self.assertEqual(done.returncode, 0, done.stderr)
+        self.assertIn('1 outcome contradicts the answer', done.stderr)
+        self.assertIn('%s: it is bad, and does not have the first bad commit (1)' % repo.name('c3')[:12], done.stderr)
+        with open(repo.room + '/report/result.json', encoding='utf-8') as file:
+            found = json.load(file)['contradictions']
+        self.assertEqual([(one['commit'], one['outcome'], one['status']) for one in found], [(repo.name('c3'), 'bad', 1)])
+        with open(repo.room + '/report/index.html', encoding='utf-8') as page:
+            self.assertIn('it is bad, and does not have the first bad commit', page.read())
+        checked = repo.search('--check', '../answer')
+        self.assertEqual(checked.returncode, 0, checked.stderr)
+        self.assertIn('1 further outcomes contradict it: ' + repo.name('c3')[:12], checked.stdout)
+
+    def test_shallow(self) -> None:
+        """Ends that have no common history in a shallow clone are no search; deep enough they are."""
+        repo = Repository(self)
+        for depth, status in ((4, 8), (12, 0)):
+            clone = '%s/clone%d' % (repo.room, depth)
+            repo.run('git', 'clone', '-q', '--depth', str(depth), 'file://' + repo.path, clone)
+            repo.run('git', 'fetch', '-q', '--depth', '1', 'origin', 'tag', 'c1', cwd=clone)
+            done = repo.search('HEAD', 'c1', *command(BAD_FROM_7), cwd=clone)
+            self.assertEqual(done.returncode, status, done.stderr)
+            if status:
+                self.assertIn('git fetch --unshallow --tags brings the rest', done.stderr)
+            lacking = repo.search('HEAD', 'v9', *command(BAD_FROM_7), cwd=clone)
+            self.assertIn('this clone is shallow', lacking.stderr)
+
+    def test_told_before(self) -> None:
+        """Swapped ends, no common history, changes, and paths that lead back."""
+        repo = Repository(self)
+        self.assertIn('are the two swapped?', repo.search('c1', 'c12', *command('true')).stderr)
+        repo.sh('git checkout -q --orphan apart && git commit -q -m apart && git checkout -q -f main')
+        done = repo.search('c12', 'apart', *command(BAD_FROM_7))
+        self.assertIn('have no common history', done.stderr)
+        repo.sh('echo 13 >number')
+        done = repo.search('c12', 'c1', *command(BAD_FROM_7), env=dict(ENV, PYTHONPATH=repo.path + '/src'))
+        self.assertIn('the changes of 1 file are not committed, and not tested', done.stderr)
+        self.assertIn('PYTHONPATH leads to %s/src' % repo.path, done.stderr)
+        repo.sh('mkdir -p .venv/bin && touch .venv/pyvenv.cfg && ln -s /usr/bin/python3 .venv/bin/python')
+        done = repo.search('c12', 'c1', '--', '.venv/bin/python', '-c', 'import sys; sys.exit(int(open("number").read()) > 6 or ".venv" not in sys.executable)')
+        self.assertIn('.venv/bin/python is of a virtual environment in the work tree; it is run by its full name', done.stderr)
+        self.assertIn(repo.name('c7') + ' is the first bad commit', done.stdout)
+        self.assertIn("a line of sh is: -- sh -c 'make -s test'", repo.search('c12', 'c1', '--', 'make -s test').stderr)
+        os.makedirs(repo.path + '/mine')
+        self.assertIn('the folder mine is not tracked', repo.search('c12', 'c1', '--', 'ls', 'mine').stderr)
+        repo.sh('echo mine >>.git/info/exclude')
+        self.assertNotIn('the folder mine', repo.search('c12', 'c1', '--', 'ls', 'mine').stderr)
+
+
+@needs_engine
+class Travel(unittest.TestCase):
+    """State that is carried to another clone."""
+
+    def test_state(self) -> None:
+        """What was found serves in a clone, for the same command and the same contents of its files alone."""
+        repo = Repository(self)
+        with open(repo.path + '/check.sh', 'w', encoding='utf-8') as file:
+            file.write('echo >>"$COUNT"; ' + BAD_FROM_7)
+        clone, count = repo.room + '/elsewhere/clone', repo.room + '/count'
+        env = dict(ENV, COUNT=count)
+        words = ['--trust-ends', '--state', '../state', 'c1..main', '--', 'sh', 'check.sh']
+        first = repo.search(*words, env=env)
+        self.assertEqual(first.returncode, 0, first.stderr)
+        self.assertFalse([name for name in os.listdir(repo.path + '/.git/farmdawn') if name.startswith('results-')])
+        repo.run('git', 'clone', '-q', repo.path, clone)
+        shutil.copytree(repo.room + '/state', os.path.dirname(clone) + '/state')
+        shutil.copy(repo.path + '/check.sh', clone)
+        os.unlink(count)
+        again = repo.search(*words, env=env, cwd=clone)
+        self.assertEqual(again.stdout, first.stdout)
+        self.assertFalse(os.path.exists(count), again.stderr)
+        self.assertIn('outcomes of earlier runs are known', again.stderr)
+        with open(clone + '/check.sh', 'a', encoding='utf-8') as file:
+            file.write('\n')
+        other = repo.search(*words, env=env, cwd=clone)
+        self.assertEqual(other.stdout, first.stdout)
+        self.assertTrue(os.path.exists(count))
+        done = repo.search('--prune', '--state', '../state')
+        self.assertIn('removed what 1 searches had kept', done.stderr)
+        self.assertEqual(os.listdir(repo.room + '/state'), [])
+
+    def test_replay(self) -> None:
+        """Each front of a log goes on to the same end, and its marks are not tested again."""
+        repo = Repository(self)
+        whole = repo.search('-j', '1', 'c12', 'c1', *command(BAD_FROM_7)).stdout.splitlines()
+        begin = next(at for at, line in enumerate(whole) if line.startswith('git bisect start')) + 1
+        for length in range(begin, len(whole) - 1):
+            with open(repo.room + '/log', 'w', encoding='utf-8') as file:
+                file.write('\n'.join(whole[:length]) + '\n')
+            done = repo.search('--fresh', '-j', '1', '--replay', '../log', *command(BAD_FROM_7))
+            self.assertEqual(done.stdout.splitlines()[-1], whole[-1], done.stderr)
+            due = [line for line in whole if line.startswith('git bisect ')]
+            got = [line for line in done.stdout.splitlines() if line.startswith('git bisect ')]
+            self.assertEqual(got, due)
+            marked = {line.split()[-1][:12] for line in whole[:length] if line.startswith(('git bisect good', 'git bisect bad'))}
+            self.assertFalse(marked & set(re.findall('testing ([0-9a-f]{12})', done.stderr)))
+        for text in ('', 'git bisect good c3\n', 'git bisect start c12 nowhere\n'):
+            with open(repo.room + '/log', 'w', encoding='utf-8') as file:
+                file.write(text)
+            self.assertIn(repo.search('--replay', '../log', *command('true')).returncode, (8, 10, 17))
+        self.assertEqual(repo.search('--replay', '../nowhere', *command('true')).returncode, 16)
+
+    def test_fresh_is_told(self) -> None:
+        """What goes on is the line without --fresh."""
+        repo = Repository(self)
+        done = repo.search('--fresh', '--deadline', '1', 'c12', 'c1', *command('sleep 2; ' + BAD_FROM_7))
+        self.assertEqual(done.returncode, 24, done.stderr)
+        self.assertRegex(done.stderr, 'stopped; the same line without --fresh goes on from [0-9]+ outcomes')
+
+
+def on_terminal(repo: Repository, words: List[str], columns: int) -> Tuple[str, int]:
+    """What a terminal gets of a search that has it as its standard output and error, and the status; it is made narrow meanwhile."""
+    ours, theirs = pty.openpty()
+    fcntl.ioctl(theirs, termios.TIOCSWINSZ, struct.pack('HHHH', 24, columns, 0, 0))
+    search = subprocess.Popen([DRIVER + '/git-farmdawn', *words], cwd=repo.path, stdin=theirs, stdout=theirs, stderr=theirs,
+                              env=dict(ENV, TERM='xterm'), start_new_session=True)
+    os.close(theirs)
+    parts, until, narrow = b'', time.monotonic() + SECONDS, False
+    while time.monotonic() < until:
+        try:
+            ready, _, _ = select.select([ours], [], [], 1)
+            part = os.read(ours, 10000) if ready else None
+        except OSError:
+            break
+        if part == b'':
+            break
+        parts += part or b''
+        if not narrow and b'under test: ' in parts:
+            narrow = True
+            fcntl.ioctl(ours, termios.TIOCSWINSZ, struct.pack('HHHH', 24, 40, 0, 0))
+            os.kill(search.pid, 28)
+    os.close(ours)
+    return parts.decode('utf-8', 'replace'), search.wait(SECONDS)
+
+
+@needs_engine
+class Terminal(unittest.TestCase):
+    """What a person sees."""
+
+    def test_answer_alone(self) -> None:
+        """The answer stands there, and the log is in a file that is told; what comes behind the resize fits."""
+        repo = Repository(self)
+        text, status = on_terminal(repo, ['-j', '2', 'c12', 'c1', *command('sleep 1.2; echo checking; ' + BAD_FROM_7)], 100)
+        self.assertEqual(status, 0, text)
+        answer = repo.name('c7') + ' is the first bad commit'
+        self.assertIn('\033[1m%s\033[m' % answer, text)
+        self.assertNotIn('git bisect', text)
+        path = re.search('the log is in ([^\r\n]*)', text)
+        assert path is not None
+        with open(path.group(1), encoding='utf-8') as file:
+            log = file.read().splitlines()
+        self.assertEqual(log[-1], answer)
+        self.assertTrue(any(line.startswith('git bisect start') for line in log))
+        self.assertRegex(text, r'\[[#-]{10}\] [0-9]+ of 11 left, ~[0-9] rounds')
+        behind = text.split('\033[J', 1)
+        self.assertEqual(len(behind), 2, 'the live line is taken away where the window gets narrow')
+        live = [row for row in re.findall('\r([^\r\n\033]*under test: [^\r\n\033]*)', behind[1])]
+        self.assertTrue(all(len(row) < 40 for row in live), live)
+        for due in ('its test ended with 1', '    checking', 'its parent %s was good' % repo.name('c6')[:12], 'needed) in '):
+            self.assertIn(due, text)
+
+
+if __name__ == '__main__':
+    unittest.main()
