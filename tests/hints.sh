@@ -1,5 +1,6 @@
 #!/bin/sh
-# What the program says on the standard error of a command that the system would not start: which one, and why.
+# What the program says on the standard error of a command that the system would not start: which one, and why; and what
+# it says of streams that it refuses, those of other exporters among them.
 . "$(dirname "$0")/helpers.sh"
 
 # What a command becomes, and what the system says of it then. What cannot be started is the file `./tst.sh`.
@@ -43,5 +44,52 @@ test_started() {
     expect "nothing is told: $(cat told)" [ ! -s told ]
 }
 
-[ $# -gt 0 ] || set -- unstarted started
+# A stream with a command that is not taken goes through git, which a hint says; another refusal has none.
+needs_stream() { has_program; }
+test_stream() {
+    printf 'checkpoint\n' >stream
+    "$farmdawn" next main main~1 <stream >got 2>told
+    expect 'the stream is refused' [ $? -eq 7 ]
+    expect "how it goes through git: $(cat told)" grep -q 'git -C through.git fast-import <STREAM && git -C through.git fast-export --all' told
+    printf 'what\n' >stream
+    "$farmdawn" next main main~1 <stream >got 2>told
+    expect 'another refusal says nothing more' [ $? -eq 7 -a ! -s told ]
+}
+
+# What other exporters write: by whom, the lines of a stream, its refusal, and whether git takes it. COMMIT is one of five lines.
+exported='svn-all-fast-export;COMMIT|checkpoint;6: unsupported;taken
+git-remote-hg, as it begins;feature done|feature force|COMMIT|done;2: unsupported;taken
+git-remote-hg, a note;COMMIT|commit refs/notes/n|committer a <a@a> 1 +0000|data 1|x|N inline :1|data 1|n;10: unsupported;taken
+brz, a file that is renamed;COMMIT|M 644 inline a|data 1|x|R a b;9: unsupported;taken
+cvs-fast-export and brz, a property;COMMIT|property p 1 v;6: syntax;refused
+hg and brz, a committer without a name;commit refs/heads/m|committer <a@a> 1 +0000|data 1|x;none;taken'
+
+# Each is refused at its line, with its kind; and where git takes it, it is taken as git writes it, and has git's name.
+needs_exported() { has_program && has git; }
+test_exported() {
+    commit='commit refs/heads/m|mark :1|committer a <a@a> 1 +0000|data 1|x'
+    echo "$exported" | while IFS=';' read -r by lines refusal git; do
+        echo "$lines" | sed "s#COMMIT#$commit#" | tr '|' '\n' >stream
+        "$farmdawn" next m m <stream >got 2>/dev/null
+        status=$?
+        if [ "$refusal" = none ]; then
+            expect "taken ($by)" [ $status -eq 5 ]
+        else
+            expect "refused ($by)" [ $status -eq 7 ]
+            expect "at its line ($by: $(cat got))" [ "$(cat got)" = "stream refused at line $refusal" ]
+        fi
+        rm -rf through.git && git init -q --bare through.git
+        if [ "$git" = refused ]; then
+            expect "git refuses it ($by)" sh -c '! git -C through.git fast-import --quiet <stream 2>/dev/null'
+            continue
+        fi
+        expect "git takes it ($by)" git -C through.git fast-import --quiet <stream
+        name=$(git -C through.git rev-parse m)
+        expect "by another name, where it was taken ($by)" sh -c '! grep -q "$0" got' "$name"
+        git -C through.git fast-export --all >exported && "$farmdawn" next m m <exported >got
+        expect "taken as git writes it, by git's name ($by: $(cat got))" [ "$(tail -n 1 got)" = "$name was both good and bad" ]
+    done || exit 1
+}
+
+[ $# -gt 0 ] || set -- unstarted started stream exported
 run_tests "$@"
