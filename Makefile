@@ -6,6 +6,7 @@
 # make dist: packs the program that make install or make test built, PROGRAM, into DIST, for machines without the kit
 # make test: every proof, must-fail edit, test and program of this checkout
 # make check: the tests of the scripts
+# make check-driver: all tests of the driver that git farmdawn is to become (docs/DRIVER.md), over a model of what it asks the program
 # make bench: what the programs cost, at small sizes (benches/bench.py has the others)
 PREFIX ?= /usr/local
 PROGRAM ?= crates/farmdawn/out/farmdawn
@@ -20,7 +21,7 @@ BASH_COMPLETIONS = $(DESTDIR)$(PREFIX)/share/bash-completion/completions
 ZSH_COMPLETIONS = $(DESTDIR)$(PREFIX)/share/zsh/site-functions
 FISH_COMPLETIONS = $(DESTDIR)$(PREFIX)/share/fish/vendor_completions.d
 
-.PHONY: demo install install-scripts uninstall dist test check bench
+.PHONY: demo install install-scripts uninstall dist test check check-driver bench
 demo:
 	cd crates/farmdawn && rt try --data test.sh=../../demo/test.sh --data broken=../../demo/broken -- \
 		run --workers 4 main v1.0 -- sh test.sh < ../../demo/stream
@@ -52,6 +53,13 @@ test:
 
 check:
 	sh tests/check
+
+check-driver: export FARMDAWN_DRIVER = $(CURDIR)/driver/bin
+check-driver: export FARMDAWN_PROGRAM = $(abspath $(PROGRAM))
+check-driver: export FARMDAWN = $(CURDIR)/driver/model/farmdawn
+check-driver:
+	python3 -B -m unittest discover -s driver/tests
+	sh tests/check git-farmdawn.sh report.sh certificate.sh telling.sh needed.sh cost.sh
 
 bench:
 	python3 benches/bench.py all --quick

@@ -1,5 +1,5 @@
 #!/usr/bin/env python3
-"""What it saves that tests are ended which nobody asks for any more: the table in docs/USING.md.
+"""What it saves that tests are ended which nobody asks for any more: the table in docs/MEASURED.md.
 
 Usage: benches/needed.py [--commits N] [--mean SECONDS] [--searches N] [--workers N,N,..] [--kinds KIND,KIND,..] [--jobs N]
 

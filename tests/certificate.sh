@@ -4,7 +4,7 @@
 FARMDAWN=$farmdawn
 export FARMDAWN
 
-needs_all() { has git flock setsid sha256sum && has_program; }
+needs_all() { has git flock setsid sha256sum && has_all_commands; }
 
 # A search of the repository at hand, whose answer goes into the file `answer` beside it and holds here and in a clone; and
 # what stands in it from the line `certificate 1` on is a certificate of the whole history. The test is $command.
@@ -215,7 +215,7 @@ test_files() {
     expect 'without any test' [ "$(grep -c ^outcome ../answer)" -ge 0 ]
 }
 
-needs_lint() { has shellcheck; }
+needs_lint() { by_scripts && has shellcheck; }
 test_lint() { cd "$top/tools" && expect 'shellcheck' shellcheck -o all farmdawn-certificate; }
 
 [ $# -gt 0 ] || set -- line merges terms sha256 shallow wrong files lint

@@ -19,7 +19,8 @@ count_runs() {
 search_counted() {
     : >../runs
     rm -rf ../logs .git/farmdawn
-    PATH=$PWD/../bin:$PATH git farmdawn --fresh --workers 1 --log-dir ../logs main "main~$1" -- true >log 2>told || exit 1
+    # shellcheck disable=SC2086 # a word, or none
+    PATH=$PWD/../bin:$PATH git farmdawn --fresh $trust --workers 1 --log-dir ../logs main "main~$1" -- true >log 2>told || exit 1
     runs=$(sort ../runs | uniq -c | awk '{ printf "%s=%s ", $2, $1 }')
     tests=$(find ../logs -name '*.log' | wc -l)
 }
@@ -33,21 +34,24 @@ at_most() {
 }
 
 # A test starts few programs, whether there are few commits or many: two of git, which check out, one of awk for what is left,
-# one that renames, two for locks, and none for the time and for names.
+# one that renames, two for locks, and none for the time and for names. The driver starts those of git alone.
 needs_few_programs() { needs_all; }
 test_few_programs() {
     make_line 60 99
-    count_runs git date sed awk flock mv rm cat ls setpriv
+    count_runs git date sed awk flock mv rm cat ls setpriv setsid env
     search_counted 3
     few=$runs few_tests=$tests
     search_counted 59
     more=$((tests - few_tests))
     expect 'more tests' [ $more -ge 3 ]
-    for due in git:2 date:0 sed:0 awk:1 flock:2 mv:1 rm:0 cat:0 ls:0 setpriv:4; do at_most "$few" "$runs" "${due%:*}" "${due#*:}"; done
+    dues='git:2 date:0 sed:0 awk:1 flock:2 mv:1 rm:0 cat:0 ls:0 setpriv:4'
+    [ -z "$driver" ] || dues='git:2 date:0 sed:0 awk:0 flock:0 mv:0 rm:0 cat:0 ls:0 setpriv:0 setsid:0 env:0'
+    for due in $dues; do at_most "$few" "$runs" "${due%:*}" "${due#*:}"; done
 }
 
-# An outcome is kept for later runs before it is told to this one, and by a file that is whole once it has its name.
-needs_kept_first() { needs_all; }
+# An outcome is kept for later runs before it is told to this one, and by a file that is whole once it has its name. The driver
+# starts nothing for that: driver/tests has the order in which it keeps and tells.
+needs_kept_first() { by_scripts && needs_all; }
 test_kept_first() {
     make_line 12 7
     mkdir ../bin || exit 1

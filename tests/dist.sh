@@ -68,7 +68,7 @@ test_installed() {
     done
     expect 'again' sh unpacked/install.sh "$PWD/a b/"
     (
-        PATH=$PWD/a\ b/bin:${PATH#"$top/tools:"}
+        PATH=$PWD/a\ b/bin:${PATH#"${driver:+$driver:}$top/tools:"}
         unset FARMDAWN
         expect 'it runs' [ "$(farmdawn --version)" = "$("$farmdawn" --version)" ]
         make_line 12 7

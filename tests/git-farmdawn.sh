@@ -243,7 +243,7 @@ test_dead_runs() {
     make_line 8 3
     mkdir ../bin && printf '#!/bin/sh\nexit 1\n' >../bin/setpriv && chmod +x ../bin/setpriv
     # shellcheck disable=SC2016
-    PATH=$PWD/../bin:$PATH "$top/tools/git-farmdawn" main main~7 -- sh -c 'touch "$0/began"; while [ -e "$0" ] && [ ! -e "$0/on" ]; do sleep 0.1; done
+    PATH=$PWD/../bin:$PATH "$bin/git-farmdawn" main main~7 -- sh -c 'touch "$0/began"; while [ -e "$0" ] && [ ! -e "$0/on" ]; do sleep 0.1; done
         test ! -e bug' "$PWD/.." >log 2>&1 &
     until [ -e ../began ]; do expect 'the search goes on' kill -0 $! && sleep 0.1; done
     programs=$(for part in $(pgrep -P $!); do echo "$part" && pgrep -P "$part"; done)
@@ -286,7 +286,7 @@ test_logs_and_limits() {
 }
 
 # Where the program that follows the tests fails, or is killed, the answer is that of the one that runs them.
-needs_lost_follower() { needs_all && has pgrep; }
+needs_lost_follower() { by_scripts && needs_all && has pgrep; }
 test_lost_follower() {
     make_line 12 7
     # at once, or when tests run
@@ -298,6 +298,26 @@ test_lost_follower() {
         expect "a search, where it ends after $after s" [ $? -eq 0 ]
         expect 'the answer' [ "$(tail -n 1 log)" = "$(git rev-parse main~4) is the first bad commit" ]
         expect 'the program was lost' [ -e ../lost ]
+        rm ../lost
+    done
+    nothing_left
+}
+
+# Where the engine of the driver is killed, another one gets what was found, and comes to the same log.
+needs_lost_engine() { by_driver && needs_all && has pgrep; }
+test_lost_engine() {
+    make_line 12 7
+    git farmdawn --fresh --workers 1 main main~11 -- sh -c "$command" >due 2>told
+    # once at once, then when tests run
+    for after in 0 0.6; do
+        printf '#!/bin/sh\n[ "$1" = serve ] && [ ! -e "%s" ] || exec "%s" "$@"\ntouch "%s"\nexec 3<&0\n"%s" "$@" <&3 3<&- &\nexec 3<&-\nsleep %s\nkill -KILL $!\nexit 15\n' \
+            "$PWD/../lost" "$farmdawn" "$PWD/../lost" "$farmdawn" $after >../failing
+        chmod +x ../failing
+        FARMDAWN=$PWD/../failing git farmdawn --fresh --workers 3 main main~11 -- sh -c "sleep 0.3; $command" >log 2>told
+        expect "a search, where it ends after $after s" [ $? -eq 0 ]
+        expect 'the same log' cmp log due
+        expect 'which is told' [ "$(grep -c 'farmdawn ended with .*; another one goes on' told)" -eq 1 ]
+        expect 'the engine was lost' [ -e ../lost ]
         rm ../lost
     done
     nothing_left
@@ -321,11 +341,14 @@ test_tracked_files() {
     expect 'of which a line tells' grep -q 'note3 is not tracked now, but some of the commits have it' told
     expect 'a word of grep' [ "$(answer_of git farmdawn main~3 main~9 -- sh -c '! grep -q 4 note4' note4)" = "$(first_bad main~6)" ]
     echo x >made && git add made && git commit -q -m made || exit 1
-    expect 'a target of make' [ "$(answer_of git farmdawn main main~9 -- make -s made)" = "$(first_bad main~6)" ]
+    # make takes a file for made that a checkout wrote in the same moment as what it is made of
+    # shellcheck disable=SC2086 # a word, or none
+    expect 'a target of make' [ "$(answer_of git farmdawn $trust main main~9 -- make -s made)" = "$(first_bad main~6)" ]
     echo 'test ! -e note6' >new.sh
     expect 'a script that is not tracked' [ "$(answer_of git farmdawn main main~9 -- sh new.sh)" = "$(first_bad main~5)" ]
     expect 'is told' grep -q 'new.sh is not tracked; each checkout gets a copy of it' told
-    expect '--copy brings a tracked one, too' [ "$(answer_of git farmdawn --copy note6 main~2 main~9 -- test ! -e note6)" = "$(first_bad main~8)" ]
+    # shellcheck disable=SC2086
+    expect '--copy brings a tracked one, too' [ "$(answer_of git farmdawn $trust --copy note6 main~2 main~9 -- test ! -e note6)" = "$(first_bad main~8)" ]
     nothing_left
 }
 
@@ -371,12 +394,20 @@ test_torn_outcomes() {
     expect 'whole ones are believed' [ "$(answer_of "$@")" = "$(first_bad main~10)" ]
     expect 'and nothing is tested' [ ! -e ../tested ]
     rm -f ../tested && cp -Rp . ../copy && cd ../copy || exit 1
-    for kept in .git/farmdawn/results-*/*.outcome; do
-        name=${kept##*/}
-        echo "${name%.outcome} 1 end" >"$kept"
-    done
-    expect 'those that came from elsewhere are not' [ "$(answer_of "$@")" = "$(first_bad main~10)" ]
-    expect 'and it is told' grep -q "are another repository's, and are forgotten" told
+    if [ -n "$driver" ]; then
+        expect 'those of a copy are believed, too' [ "$(answer_of "$@")" = "$(first_bad main~10)" ]
+        expect 'and nothing is tested there' [ ! -e ../tested ]
+        for kept in .git/farmdawn/results-*/*.outcome; do sed 's/ [01] / 1 /' "$kept" >../changed && cp ../changed "$kept"; done
+        forgotten='no whole outcome, and is forgotten'
+    else
+        for kept in .git/farmdawn/results-*/*.outcome; do
+            name=${kept##*/}
+            echo "${name%.outcome} 1 end" >"$kept"
+        done
+        forgotten="are another repository's, and are forgotten"
+    fi
+    expect 'those that were changed elsewhere are not' [ "$(answer_of "$@")" = "$(first_bad main~10)" ]
+    expect 'and it is told' grep -q "$forgotten" told
     nothing_left
 }
 
@@ -451,7 +482,7 @@ test_bash_environment() {
         for name in git awk sed cat read printf test unset command cd true rm mkdir export set eval exit trap shift; do
             eval "$name() { echo mine; }" && export -f $name
         done 2>/dev/null
-        exec /bin/sh "$0" "$@"' "$top/tools/git-farmdawn" main main~11 -- sh -c "$command" 2>told | tail -n 1)" = "$(first_bad main~4)" ]
+        exec /bin/sh "$0" "$@"' "$bin/git-farmdawn" main main~11 -- sh -c "$command" 2>told | tail -n 1)" = "$(first_bad main~4)" ]
     nothing_left
 }
 
@@ -590,15 +621,17 @@ test_many_skips() {
     nothing_left
 }
 
-# However many tests there are, the program is run as often: for the names, the tests, and the answer.
+# However many tests there are, the program is run as often: for the names, the tests, and the answer; by the driver once.
 needs_few_programs() { needs_all; }
 test_few_programs() {
     make_line 40 30
     printf '#!/bin/sh\necho "$1" >>"%s"\nexec "%s" "$@"\n' "$PWD/../runs" "$farmdawn" >../counting && chmod +x ../counting
+    due='replay run run '
+    [ -z "$driver" ] || due='serve '
     for ends in 'main main~2' 'main main~39'; do
         # shellcheck disable=SC2086
         FARMDAWN=$PWD/../counting git farmdawn --fresh --workers 8 $ends -- sh -c "$command" >log 2>told
-        expect 'three runs of the program' [ "$(tr '\n' ' ' <../runs)" = 'replay run run ' ]
+        expect "the runs of the program: $due" [ "$(tr '\n' ' ' <../runs)" = "$due" ]
         rm ../runs
     done
 }
@@ -696,14 +729,20 @@ test_tools() {
     unset IFS
     PATH=$PWD/../bin
     expect 'all is here' [ "$(answer_of git farmdawn main main~3 -- sh -c "$command")" = "$(first_bad main~1)" ]
-    for tool in flock setsid sha256sum mkfifo; do
-        mv ../bin/$tool ../aside
-        git farmdawn --fresh main main~3 -- touch ../tested >log 2>told
-        expect "it is named: $tool" [ "$? $(cut -d '(' -f 1 told)" = "1 git farmdawn: $tool is not installed " ]
-        mv ../aside ../bin/$tool
-    done
+    if [ -n "$driver" ]; then
+        mkdir ../away && for tool in flock setsid setpriv sha256sum mkfifo awk sed; do mv ../bin/$tool ../away; done
+        expect 'these are not needed' git farmdawn --fresh main main~3 -- sh -c "$command" >log 2>told
+        mv ../away/* ../bin
+    else
+        for tool in flock setsid sha256sum mkfifo; do
+            mv ../bin/$tool ../aside
+            git farmdawn --fresh main main~3 -- touch ../tested >log 2>told
+            expect "it is named: $tool" [ "$? $(cut -d '(' -f 1 told)" = "1 git farmdawn: $tool is not installed " ]
+            mv ../aside ../bin/$tool
+        done
+    fi
     mv ../bin/git ../aside && printf '#!/bin/sh\n[ "$1" != version ] || { echo git version 2.30.9; exit; }\nexec "%s" "$@"\n' "$(readlink ../aside)" >../bin/git && chmod +x ../bin/git
-    "$top/tools/git-farmdawn" main main~3 -- touch ../tested >log 2>told
+    "$bin/git-farmdawn" main main~3 -- touch ../tested >log 2>told
     expect 'an old git is named' [ "$? $(cat told)" = '1 git farmdawn: git from 2.31 on is needed, and this is git version 2.30.9' ]
     expect 'nothing was tested' [ ! -e ../tested ]
     nothing_left
@@ -762,5 +801,5 @@ by_clock='logs_and_limits lost_follower warnings interrupts'
 [ $# -gt 0 ] || set -- line merges unrelated_good terms encodings signed signed_by_gpg sha256 shallow part_of_many submodules \
     places words folders_and_scripts tracked_files links_of_commits torn_outcomes foreign_folders environment bash_environment \
     left_by_tests odd_words odd_paths lost_output full_disk many_skips few_programs stops warnings hanging log_limit prune tools \
-    logs_and_limits lost_follower lost_log wrong_words going_on dead_runs check_ends interrupts
+    logs_and_limits lost_follower lost_engine lost_log wrong_words going_on dead_runs check_ends interrupts
 run_tests "$@"

@@ -1,10 +1,14 @@
 # What the tests of the scripts share. Each test is a function named test_..; it runs in a folder of its own, and what
 # it prints is shown where it fails. A function needs_.. with the same name says whether the test can run here; what is
 # missing passes the test over, and is told by its name. A file runs its tests one by one, or those that are named;
-# tests/check runs those of all files, several at once. TIMES=1 tells the seconds of each.
+# tests/check runs those of all files, several at once. TIMES=1 tells the seconds of each. FARMDAWN_DRIVER names a folder with a
+# git-farmdawn that is tested in place of that of tools/: driver/bin, whose searches are the same but where it says so below.
 set -u
 top=$(cd "$(dirname "$0")/.." && pwd)
-PATH=$top/tools:$PATH
+driver=${FARMDAWN_DRIVER-}
+bin=${driver:-$top/tools} # the folder of the git-farmdawn that is tested
+trust=${driver:+--trust-ends} # where ends are not what is tested: the driver tests them, too
+PATH=${driver:+$driver:}$top/tools:$PATH
 farmdawn=${FARMDAWN:-$top/crates/farmdawn/out/farmdawn}
 export PATH
 unset MAKEFLAGS MAKELEVEL MFLAGS # a make within a test is not one of make check
@@ -45,6 +49,23 @@ is_front() {
 has_program() {
     missing='a built farmdawn'
     [ -x "$farmdawn" ]
+}
+
+# What is tested is git farmdawn as scripts, or as the driver: for tests of what one of them alone has.
+by_scripts() {
+    missing='the git farmdawn of tools/'
+    [ -z "$driver" ]
+}
+by_driver() {
+    missing='the driver'
+    [ -n "$driver" ]
+}
+
+# It has all commands: the model of the driver's tests has one, and hands the others on to a program that may lack.
+has_all_commands() {
+    has_program || return
+    missing='a built farmdawn'
+    "$farmdawn" --version >/dev/null 2>&1
 }
 
 # A Slurm is at hand.

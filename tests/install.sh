@@ -29,11 +29,13 @@ test_help() {
     for script in $scripts; do
         expect 'the help is shown' "$script" --help >help
         expect 'in short, too' [ "$("$script" -h)" = "$(cat help)" ]
-        expect 'in one screen' [ "$(wc -l <help)" -le 32 ]
+        lines=32 page=$top/man/$script.1
+        [ "$script" != git-farmdawn ] || by_scripts || lines=50 page=$driver/../man/$script.1
+        expect 'in one screen' [ "$(wc -l <help)" -le $lines ]
         expect 'of 120 columns' [ "$(awk '{ print length }' help | sort -n | tail -n 1)" -le 120 ]
         expect 'by its name' grep -q "^usage: .*${script#git-}" help
         for option in $(sed -n 's/^  --\([a-z-]*\).*/\1/p' help); do
-            expect 'the manual has the option' grep -q -- "Fl -$option\b" "$top/man/$script.1"
+            expect 'the manual has the option' grep -q -- "Fl -$option\b" "$page"
         done
     done
 }

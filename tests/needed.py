@@ -4,7 +4,7 @@ needed.py [--seed N] [--count N] [--from N] [--jobs N] [--checkouts]
 
 The histories have merges, and tests that skip or stop the search, each with a length of its own. FARMDAWN names the program. With
 --checkouts tests run in checkouts; without it a stand-in for farmdawn-worktree reads what they end with, so that a search takes
-little more than its tests."""
+little more than its tests. The driver, which FARMDAWN_DRIVER names, has checkouts in any case."""
 import collections
 import os
 import random
@@ -14,7 +14,7 @@ import subprocess
 import tempfile
 
 import trials
-from repositories import CALM, FARMDAWN, TOP, call, git
+from repositories import CALM, DRIVER, FARMDAWN, TOP, TRUST, call, git
 
 # what a test of a commit does: a line of the file of its name has the seconds that it takes, and its status
 TEST = """read -r pause status <"$0/$FARMDAWN_COMMIT"
@@ -92,8 +92,8 @@ def random_search(choice, names):
 
 def farmdawn(folder, tools, table, search, workers, **more):
     """The status, and what is printed and told."""
-    environment = {**CALM, "PATH": tools + os.pathsep + os.environ["PATH"], "TABLE": table, "FARMDAWN": FARMDAWN, **more}
-    words = ["git", "farmdawn", "--fresh", "--workers", str(workers), *search.words, "--", "sh", "-c", TEST, table]
+    environment = {**CALM, "PATH": os.pathsep.join([*filter(None, [DRIVER]), tools, os.environ["PATH"]]), "TABLE": table, "FARMDAWN": FARMDAWN, **more}
+    words = ["git", "farmdawn", "--fresh", *TRUST, "--workers", str(workers), *search.words, "--", "sh", "-c", TEST, table]
     try:
         done = subprocess.run(words, cwd=folder, env=environment, stdin=subprocess.DEVNULL, stdout=subprocess.PIPE, stderr=subprocess.PIPE, timeout=600)
     except subprocess.TimeoutExpired as late:

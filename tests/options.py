@@ -21,17 +21,17 @@ def cut(text, begin, end):
     return text.split(begin, 1)[1].split(end, 1)[0]
 
 
-def in_manual(name):
-    items = re.findall(r"^\.It (Fl .*)$", read("man", f"{name}.1"), re.M)
+def in_manual(name, *folder):
+    items = re.findall(r"^\.It (Fl .*)$", read(*folder, "man", f"{name}.1"), re.M)
     return {"-" + option for item in items for option in re.findall(r"Fl (-[a-z][a-z-]*)", item)}
 
 
 def in_zsh(text):
-    return set(re.findall(rf"\*?({LONG})\[", text)) | set(re.findall(r"(?<=,)--[a-z]+(?=\})", text))
+    return set(re.findall(rf"\*?({LONG})=?\[", text)) | set(re.findall(r"(?<=,)--[a-z]+(?==?\})", text))
 
 
 def in_fish(text):
-    return {"--" + option for option in re.findall(r"^complete .* -l ([a-z-]+)", text, re.M)}
+    return {"--" + option for option in re.findall(r"^(?:complete|__git_farmdawn_complete) (?:.* )?-l ([a-z-]+)", text, re.M)}
 
 
 def places_of_program():
@@ -56,14 +56,33 @@ def places_of_program():
     return places, verbs, by_bash
 
 
+def in_help(usage):
+    lines = re.findall(rf"^  (?:-[a-z], )?({LONG}.*)$", usage, re.M)
+    return {option for line in lines for option in re.findall(rf"(?:^|, )({LONG})", line)} - ASKED
+
+
+def places_of_driver():
+    """Those of the git farmdawn to come, which has its own manual page and completions."""
+    sys.path.insert(0, os.path.join(TOP, "driver"))
+    sys.dont_write_bytecode = True
+    from git_farmdawn import options, usage
+    bash = re.search(r"__gitcomp '([^']*)'", read("driver", "completions", "farmdawn.bash")).group(1)
+    return {
+        "its reading": set(options.KNOWN) - set(options.OTHER_NAMES) - ASKED,
+        "its help": in_help(usage.USAGE),
+        "the manual": in_manual("git-farmdawn", "driver") - ASKED,
+        "bash": set(bash.split()) - ASKED,
+        "zsh": in_zsh(read("driver", "completions", "_git-farmdawn")) - ASKED,
+        "fish": in_fish(read("driver", "completions", "git-farmdawn.fish")) - ASKED,
+    }
+
+
 def places_of_script(name):
     text = read("tools", name)
     cases = re.findall(rf"^ *(-[a-z-]+(?: \| -[a-z-]+)*)\)", text, re.M)
-    usage = cut(text, "<<'TEXT'\n", "\nTEXT\n")
-    lines = re.findall(rf"^  (?:-h, )?({LONG}.*)$", usage, re.M)
     places = {
         "its reading": {option for case in cases for option in re.findall(LONG, case)} - {"--term-bad", "--term-good"} - ASKED,
-        "its help": {option for line in lines for option in re.findall(rf"(?:^|, )({LONG})", line)} - ASKED,
+        "its help": in_help(cut(text, "<<'TEXT'\n", "\nTEXT\n")),
         "the manual": in_manual(name) - ASKED,
     }
     if name == "git-farmdawn":
@@ -89,6 +108,7 @@ def main():
         wrong += differences(f"farmdawn {verb}", sides)
     for name in SCRIPTS:
         wrong += differences(name, places_of_script(name))
+    wrong += differences("the driver", places_of_driver())
     print(*wrong, sep="\n", end="\n" if wrong else "")
     return not wrong
 

@@ -32,7 +32,7 @@ import re
 import subprocess
 
 import trials
-from repositories import CALM, Question, call, git, put_file, random_parents, random_question, read_answer, read_log, verdicts
+from repositories import CALM, TRUST, Question, call, git, put_file, random_parents, random_question, read_answer, read_log, verdicts
 
 NAMES = ["a", "in/b", "in/deep/c d", "in/ümläut", "-x", "*", "in/[a]", ":(top)q", "it's \"so\"", "back\\slash"]
 UNCHANGED = "changes none of them; the same line without --path"
@@ -82,7 +82,7 @@ Said = collections.namedtuple("Said", "status answer marks told")
 
 def by_tool(folder, question, paths, inside):
     options = [word for path in paths for word in ("--path", os.path.relpath(path, inside))]
-    done = subprocess.run(["git", "farmdawn", "--workers", "2", *question.options, *options, question.bad, *question.goods, "--", "sh", "-c",
+    done = subprocess.run(["git", "farmdawn", *TRUST, "--workers", "2", *question.options, *options, question.bad, *question.goods, "--", "sh", "-c",
                            'exit $(cat "$(git rev-parse --show-toplevel)/verdict")'], cwd=os.path.join(folder, inside), env=CALM, capture_output=True)
     text = done.stdout.decode()
     return Said(done.returncode, read_answer(text), read_log(text, question.terms), done.stderr.decode("utf-8", "replace")), text

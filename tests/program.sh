@@ -8,8 +8,10 @@ line_of() {
 }
 
 # What a test does that counts how many run: the first so many wait for each other, and a moment longer for one too many.
+# One that is ended, since nobody needs it any more, counts no longer.
 # shellcheck disable=SC2016
 count_running='
+    trap "rm -f running/$$; exit 255" TERM
     : >running/$$
     turns=0
     until [ -e met ] || [ "$(ls running | wc -l)" -ge "$0" ]; do turns=$((turns + 1)) && [ $turns -lt 600 ] && sleep 0.05 || exit 255; done

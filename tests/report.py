@@ -21,6 +21,13 @@ TEST = {
     "commit": TEXT, "subject": TEXT, "worker": (int, NONE), "began": (int, float, NONE), "ended": (int, float, NONE), "status": (int, NONE),
     "outcome": TEXT, "kept": bool, "used": bool, "log": (TEXT, NONE),
 }
+if os.environ.get("FARMDAWN_DRIVER"):  # its reports have more
+    FIELDS.update({"candidates": list, "contradictions": list, "ends": list})
+MORE = {
+    "ends": {"commit": TEXT, "subject": TEXT, "called": TEXT, "status": (int, NONE)},
+    "candidates": {"name": TEXT, "subject": TEXT, "outcome": (TEXT, NONE)},
+    "contradictions": {"commit": TEXT, "subject": TEXT, "outcome": TEXT, "status": int, "why": TEXT},
+}
 ANSWER = {"name": TEXT, "subject": TEXT, "author": TEXT, "date": (int, NONE)}
 OUTCOMES = {"good": range(1), "bad": range(1, 125), "skipped": range(125, 126), "stopped": range(126, 256)}
 
@@ -102,6 +109,15 @@ def check_answer(result):
         expect(f"its facts, {shown}, in place of {told}", told == shown)
 
 
+def check_more(result):
+    """The lists that only reports of the driver have."""
+    for key, fields in MORE.items():
+        expect(f"the fields of {key}", all(has_fields(one, fields) for one in result[key]))
+    expect("each end", [end["commit"] for end in result["ends"]] == [result["bad"], *result["good"]])
+    left = [line for line in result["log"] if re.fullmatch(NAME, line)] if result["status"] == 2 else []
+    expect("the candidates of the log", [one["name"] for one in result["candidates"]] == left)
+
+
 def check_result(result, folder, log):
     expect("the fields", has_fields(result, FIELDS) and has_fields(result["terms"], {"new": TEXT, "old": TEXT}))
     expect("what it is", (result["report"], result["generator"]) == (1, "git farmdawn"))
@@ -113,6 +129,8 @@ def check_result(result, folder, log):
         expect(f"the log, {due!r}, in place of {result['log']!r}", result["log"] == due)
     check_answer(result)
     check_tests(result, folder)
+    if "ends" in FIELDS:
+        check_more(result)
 
 
 def check_page(page, result):

@@ -11,7 +11,7 @@ report_is() { python3 "$top/tests/report.py" ../report "$@"; }
 
 command='echo "tested $FARMDAWN_COMMIT"; test ! -e bug'
 
-needs_facts() { needs_all; }
+needs_facts() { needs_all && has_all_commands; }
 test_facts() {
     make_line 40 17
     git farmdawn --workers 4 --report ../report --first-parent main main~39 -- sh -c "$command" a\'b '' >log 2>told
@@ -50,8 +50,10 @@ test_ends() {
     make_line 12 7
     git checkout -q -b side main~8 && echo side >side && git add -A && git commit -q -m side && git checkout -q main || exit 1
     stopper=$(git rev-parse main~6) bad_good=$(git rev-parse main~1)
-    ends_so 2 'only skipped commits are left' --skip main~11..main~1 main main~11 -- true
-    ends_so 3 'a merge base is broken' --term-new broken --term-old well main side -- false
+    # shellcheck disable=SC2086 # a word, or none
+    ends_so 2 'only skipped commits are left' $trust --skip main~11..main~1 main main~11 -- true
+    # shellcheck disable=SC2086
+    ends_so 3 'a merge base is broken' $trust --term-new broken --term-old well main side -- false
     ends_so 4 'a good commit is no ancestor of the bad one' main~5 main -- true
     ends_so 5 'one commit is both bad and good' main main -- true
     ends_so 6 "the test of $stopper stopped the search: exit 255" --workers 1 main main~11 -- sh -c 'echo "<b>&amp;"; exit 255'
@@ -103,19 +105,27 @@ make_hostile() {
     git fast-import --quiet <../stream && git reset -q --hard 2>/dev/null
 }
 
-# Each test waits until all have begun, so that all are told.
+# Each test waits until all have begun, so that all are told. The scripts are tried with each awk, and the driver in some locales.
 needs_hostile() { needs_all; }
 test_hostile() {
     make_hostile
+    mkdir ../bin
     # shellcheck disable=SC2016
-    for awk in mawk gawk 'busybox awk'; do
-        command -v "${awk% *}" >/dev/null || continue
-        mkdir -p ../bin && printf '#!/bin/sh\nexec %s "$@"\n' "$awk" >../bin/awk && chmod +x ../bin/awk
+    for way in mawk gawk 'busybox awk' C C.UTF-8 tr_TR.UTF-8; do
+        case $way in
+        C* | tr*) by_driver || continue ;;
+        *)
+            { by_scripts && command -v "${way% *}" >/dev/null; } || continue
+            printf '#!/bin/sh\nexec %s "$@"\n' "$way" >../bin/awk && chmod +x ../bin/awk
+            ;;
+        esac
+        locale=C
+        [ -z "$driver" ] || locale=$way
         rm -rf ../met && mkdir ../met || exit 1
-        MET=$PWD/../met PATH=$PWD/../bin:$PATH git farmdawn --fresh --workers 9 --report ../report main main~9 -- sh -c \
+        MET=$PWD/../met LC_ALL=$locale PATH=$PWD/../bin:$PATH git farmdawn --fresh --workers 9 --report ../report main main~9 -- sh -c \
             'touch "$MET/$FARMDAWN_COMMIT"; until [ "$(ls "$MET" | wc -l)" -ge 8 ]; do sleep 0.1; done
             git log -1 --format=%B; cat path*; head -c 300 /dev/zero; test ! -e bug' "$(printf '<\n&"\\\033\342\202\254\n')" >log 2>told
-        expect "a search by $awk" [ $? -eq 0 ]
+        expect "a search by $way" [ $? -eq 0 ]
         expect 'its report' report_is log 'status=0'
         expect 'of most commits' [ "$(grep -c '"commit": ' ../report/result.json)" -ge 8 ]
         expect 'no tag of a subject' sh -c '! grep -q "<script\|<img\|<b>" ../report/index.html'
@@ -158,7 +168,7 @@ break:1' ../proc/report:14; do
 
 # What the writing of a report is given is kept, and the writing is ended at each of the programs that it starts: what is in the
 # folder then is whole, and so is the next report.
-needs_interrupted() { needs_all; }
+needs_interrupted() { by_scripts && needs_all; }
 test_interrupted() {
     make_line 12 7
     cp -Rp "$top/tools" ../tools && mkdir ../bin || exit 1

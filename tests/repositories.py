@@ -30,8 +30,10 @@ import trials
 
 TOP = os.path.dirname(os.path.dirname(os.path.abspath(__file__)))
 FARMDAWN = os.environ.get("FARMDAWN", os.path.join(TOP, "crates/farmdawn/out/farmdawn"))
+DRIVER = os.environ.get("FARMDAWN_DRIVER")
+TRUST = ["--trust-ends"] if DRIVER else []  # the driver tests ends, too
 CALM = {**os.environ, "GIT_CONFIG_GLOBAL": "/dev/null", "GIT_CONFIG_SYSTEM": "/dev/null", "GIT_CONFIG_NOSYSTEM": "1", "LC_ALL": "C",
-        "FARMDAWN": FARMDAWN, "PATH": os.path.join(TOP, "tools") + os.pathsep + os.environ["PATH"]}
+        "FARMDAWN": FARMDAWN, "PATH": os.pathsep.join([*filter(None, [DRIVER]), os.path.join(TOP, "tools"), os.environ["PATH"]])}
 # The tests by what they look at. All but the first are good or bad alone.
 TESTS = {"verdict": ["sh", "-c", "exit $(cat verdict)"], "absent": ["test", "!", "-e", "bug"], "present": ["test", "-e", "fine"],
          "grep": ["grep", "-q", "fine", "words"], "make": ["make", "-s", "made"]}
@@ -157,7 +159,7 @@ def read_answer(text):
 
 def by_tool(folder, question):
     words = [word for skip in question.skips for word in ("--skip", skip)]
-    status, text = call(folder, "git", "farmdawn", "--fresh", "--workers", "2", *question.options, *words, question.bad, *question.goods, "--", *question.test)
+    status, text = call(folder, "git", "farmdawn", "--fresh", *TRUST, "--workers", "2", *question.options, *words, question.bad, *question.goods, "--", *question.test)
     return Said(status, read_answer(text), read_log(text, question.terms))
 
 

@@ -86,7 +86,7 @@ run_page() {
     take_apart "$PWD/blocks"
     blocks=$PWD/blocks
     # a newcomer: another home, whose name needs no quotes, and nothing of this checkout on the path
-    PATH=${PATH#"$top/tools:"}
+    PATH=${PATH#"${driver:+$driver:}$top/tools:"}
     unset FARMDAWN
     HOME=$(TMPDIR=/tmp mktemp -d) || exit 1
     export HOME
