@@ -9,10 +9,12 @@ use Rattle.bf_search.specs.declared.farm.Ending.{Ending}
 use Rattle.bf_search.specs.declared.farm.Ending.TheVariants as endings
 use Rattle.bf_search.specs.declared.farm.Event.TheVariants.{Claim as Claimed, Post as Posted, Give as Given}
 use Rattle.bf_search.specs.declared.outcomes.Outcome.{Outcome}
-use Rattle.bf_search.specs.Outcomes.{outcomes_of_table}
-use Rattle.bf_search.specs.State.{Search, IsSearchOver, ask}
+use Rattle.bf_search.specs.declared.outcomes.Mark.{Mark}
+use Rattle.bf_search.specs.Outcomes.{Outcomes, outcomes_of_table}
+use Rattle.bf_search.specs.State.{Search, IsSearchOver, ask, mark}
 use Rattle.bf_search.specs.Run.{End, Answered, Leg, Open, Aborted, Run}
-use Rattle.bf_search.specs.OpenPaths.{best_open, place_of}
+use Rattle.bf_search.specs.OpenPaths.{Leads, best_open, place_of}
+use Rattle.bf_search.proofs.Turns.{asking}
 use Rattle.bf_search.specs.Farm.{Setting, Farm, consumed, place_at, best_place, is_best, has_claim, stands, without, step}
 use Rattle.bf_state.specs.Runs.{is_open}
 use Rattle.bf_state.specs.Session.{Session, with_search}
@@ -21,13 +23,13 @@ use Rattle.bf_spec.specs.Tree.{Guesses}
 use Rattle.bf_state.specs.Ends.{marks_of}
 use Rattle.bf_core.specs.declared.consuming.Consumed.{Consumed}
 use Rattle.bf_core.specs.Claims.{AreClaims, IsFree}
-use Rattle.bf_core.specs.Consuming.{IsRunOn, IsSameRun, Begins, Consumes, best_at, IsUnwanted, IsCore}
-use Rattle.bf_core.specs.Machine.{Machine, seen, setting_of, farm_of, run_of, IsConsumed, IsSameButNodes, IsStep, IsAllTaken, LeavesClaim, MayClaim, IsWithdrawn, IsUnmoved, IsLegOver}
+use Rattle.bf_core.specs.Consuming.{IsRunOn, IsSameRun, Begins, Consumes, best_at, Asks, IsUnwanted, IsCore}
+use Rattle.bf_core.specs.Machine.{Machine, seen, setting_of, farm_of, run_of, IsConsumed, IsSameButNodes, IsStep, IsLearnt, WantsOutcome, IsAllTaken, LeavesClaim, MayClaim, IsWithdrawn, IsUnmoved, IsLegOver}
 use Rattle.bf_core.proofs.Opened.{best_is_free}
 use Rattle.bf_core.proofs.Joining.{told_open, same_is_run}
 use Rattle.bf_core.proofs.Beside.{seq_stays, told_alike, none_is_open, leg_told}
 use Rattle.bf_state.proofs.Causes.{leg_ends, leg_made}
-use Rattle.bf_core.proofs.Standing.{part_put, put_elsewhere, put_back, standing_place, claims_without, claims_posted, claims_pushed, no_claims, step_post}
+use Rattle.bf_core.proofs.Standing.{part_put, put_elsewhere, put_back, claims_without, claims_posted, claims_pushed, no_claims, step_post}
 use Rattle.bf_core.proofs.Standing.{step_give, step_claim}
 
 pub consumed_of : (first : Session) (leg : ℕ) (table : List (Option Outcome)) (claims : List Claim) (run : Consumed) → IsCore first leg table claims run
@@ -229,42 +231,36 @@ refused_at_once core worker p = record { nodes = record { same = refl; kept = λ
 pub refused_as_other : (old new : Machine) (worker p : ℕ) → MayClaim old worker p → IsSameButNodes old new → LeavesClaim old worker p new
 refused_as_other old new worker p may same = record { nodes = same; at_once = λ h. absurd (h may) }
 
--- ---- a post
+-- ---- an outcome that is put into the table
 
-module _ (first : Session) (leg : ℕ) (table : List (Option Outcome)) (claims : List Claim) (old new : Consumed) (worker p : ℕ) (outcome : Outcome)
-    (h : IsCore first leg table claims old) (st : stands claims worker p ≡ true)
+module _ (first : Session) (leg : ℕ) (table : List (Option Outcome)) (claims : List Claim) (old new : Consumed) (p : ℕ) (outcome : Outcome)
+    (h : IsCore first leg table claims old) (unknown : outcomes_of_table table p ≡ None)
     (goes_on : Consumes old (set table p (Some outcome)) new) where
   abbrev setting : Setting
   setting = record { graph = old.tree.graph; start = first.search; leg = leg }
 
   after : IsRunOn setting first (set table p (Some outcome)) new
-  after = goes_on setting first table h.parents h.over (part_put table p outcome (standing_place table claims worker p h.standing st).1) h.run
+  after = goes_on setting first table h.parents h.over (part_put table p outcome unknown) h.run
 
-  pub core_posted : (left : List Claim) → left ≡ without claims worker → IsCore first leg (set table p (Some outcome)) left new
-  core_posted left e = record {
+  core_put : (left : List Claim) → AreClaims (set table p (Some outcome)) left → IsCore first leg (set table p (Some outcome)) left new
+  core_put left standing = record {
     parents = subst IsGraph (sym after.graph) h.parents;
     over = subst (λ (x : List (List ℕ)). IsSearchOver x first.search) (sym after.graph) h.over;
     len = length-set table p (Some outcome) ∙ h.len ∙ ap (λ (x : List (List ℕ)). length x) (sym after.graph);
     run = subst (λ (x : List (List ℕ)). IsRunOn (record { graph = x; start = first.search; leg = leg }) first (set table p (Some outcome)) new)
         (sym after.graph) after;
-    standing = subst (λ (cs : List Claim). AreClaims (set table p (Some outcome)) cs) (sym e) (claims_posted table claims worker p outcome h.standing st);
+    standing = standing;
   }
 
-  pub posts : (left : List Claim) → left ≡ without claims worker
-      → IsStep (seen first leg table claims old) (Posted worker p outcome) (seen first leg (set table p (Some outcome)) left new)
-  posts left e = record {
-    farm = step_post (setting_of (seen first leg table claims old)) (farm_of (seen first leg table claims old)) worker p outcome st
-        ∙ ap (λ (cs : List Claim). Some (record { table = set table p (Some outcome); claims = cs })) (sym e);
-    setting = ap (λ (x : List (List ℕ)). record { graph = x; start = first.search; leg = leg }) after.graph;
-    first = refl;
-  }
+  same_setting : (left : List Claim) → setting_of (seen first leg (set table p (Some outcome)) left new) ≡ setting_of (seen first leg table claims old)
+  same_setting left = ap (λ (x : List (List ℕ)). record { graph = x; start = first.search; leg = leg }) after.graph
 
-  pub unmoved : (left : List Claim) → (run_of (seen first leg table claims old)).end ≢ Open p
+  unmoved : (left : List Claim) → (run_of (seen first leg table claims old)).end ≢ Open p
       → IsUnmoved (seen first leg table claims old) (seen first leg (set table p (Some outcome)) left new)
   unmoved left other =
       let same : consumed setting (set table p (Some outcome)) ≡ consumed setting table
       = seq_stays setting.graph (outcomes_of_table table) (outcomes_of_table (set table p (Some outcome)))
-      (part_put table p outcome (standing_place table claims worker p h.standing st).1) leg setting.start
+      (part_put table p outcome unknown) leg setting.start
       (λ q e. put_elsewhere table p q outcome (λ here. other (e ∙ ap (λ (x : ℕ). Open x) here))) in
       record {
         entries = after.entries ∙ ap (λ (r : Run). r.entries) same ∙ sym h.run.entries;
@@ -272,38 +268,54 @@ module _ (first : Session) (leg : ℕ) (table : List (Option Outcome)) (claims :
         ending = told_alike new.ending old.ending (consumed setting table).end (subst (λ (r : Run). Tells new.ending r.end) same after.ending) h.run.ending;
       }
 
-pub withdraws : (first : Session) (leg : ℕ) (table : List (Option Outcome)) (claims : List Claim) (run : Consumed) (worker : ℕ)
-    → IsUnwanted run table claims worker ↔ IsWithdrawn (seen first leg table claims run) worker
-withdraws first leg table claims run worker = (
-  λ h. record { claim = h.claim; among = h.among; by = h.by; dropped = λ wanted. h.unwanted wanted.goes_on wanted.asked },
-  λ h. record { claim = h.claim; among = h.among; by = h.by; unwanted = λ none asked. h.dropped (record { goes_on = none; asked = asked }) },
-)
-
--- what a post leaves
-pub record IsPosted (first : Session) (leg : ℕ) (table : List (Option Outcome)) (claims : List Claim) (old : Consumed) (worker p : ℕ) (outcome : Outcome)
+-- what an outcome leaves that is put beside the claims that are left
+pub record IsPut (first : Session) (leg : ℕ) (table : List (Option Outcome)) (claims : List Claim) (old : Consumed) (p : ℕ) (outcome : Outcome)
     (now : List (Option Outcome)) (left : List Claim) (new : Consumed) : Type 0 where
   pub core : IsCore first leg now left new
-  pub event : IsStep (seen first leg table claims old) (Posted worker p outcome) (seen first leg now left new)
+  pub setting : setting_of (seen first leg now left new) ≡ setting_of (seen first leg table claims old)
   pub beside : (run_of (seen first leg table claims old)).end ≢ Open p → IsUnmoved (seen first leg table claims old) (seen first leg now left new)
 
-pub posted : (first : Session) (leg : ℕ) (table : List (Option Outcome)) (claims : List Claim) (old : Consumed) (worker p : ℕ) (outcome : Outcome)
-    (now : List (Option Outcome)) (left : List Claim) (new : Consumed) → IsCore first leg table claims old
-    → stands claims worker p ≡ true → now ≡ set table p (Some outcome) → left ≡ without claims worker → Consumes old now new
-    → IsPosted first leg table claims old worker p outcome now left new
-posted first leg table claims old worker p outcome now left new h st put e goes_on =
+pub puts : (first : Session) (leg : ℕ) (table : List (Option Outcome)) (claims : List Claim) (old : Consumed) (p : ℕ) (outcome : Outcome)
+    (now : List (Option Outcome)) (left : List Claim) (new : Consumed) → IsCore first leg table claims old → outcomes_of_table table p ≡ None
+    → AreClaims (set table p (Some outcome)) left → now ≡ set table p (Some outcome) → Consumes old now new
+    → IsPut first leg table claims old p outcome now left new
+puts first leg table claims old p outcome now left new h unknown standing put goes_on =
     let on : Consumes old (set table p (Some outcome)) new = subst (λ (t : List (Option Outcome)). Consumes old t new) put goes_on in
-    subst (λ (t : List (Option Outcome)). IsPosted first leg table claims old worker p outcome t left new) (sym put)
+    subst (λ (t : List (Option Outcome)). IsPut first leg table claims old p outcome t left new) (sym put)
     (record {
-      core = core_posted first leg table claims old new worker p outcome h st on left e;
-      event = posts first leg table claims old new worker p outcome h st on left e;
-      beside = unmoved first leg table claims old new worker p outcome h st on left;
+      core = core_put first leg table claims old new p outcome h unknown on left standing;
+      setting = same_setting first leg table claims old new p outcome h unknown on left;
+      beside = unmoved first leg table claims old new p outcome h unknown on left;
     })
 
-pub claims_put : (table now : List (Option Outcome)) (claims left : List Claim) (worker p : ℕ) (outcome : Outcome) → AreClaims table claims
-    → stands claims worker p ≡ true → now ≡ set table p (Some outcome) → left ≡ without claims worker → AreClaims now left
-claims_put table now claims left worker p outcome h st put e =
-    subst (λ (t : List (Option Outcome)). AreClaims t left) (sym put)
-    (subst (λ (cs : List Claim). AreClaims (set table p (Some outcome)) cs) (sym e) (claims_posted table claims worker p outcome h st))
+-- where a claim ended for it
+pub posts : (first : Session) (leg : ℕ) (table : List (Option Outcome)) (claims : List Claim) (old : Consumed) (worker p : ℕ) (outcome : Outcome)
+    (now : List (Option Outcome)) (left : List Claim) (new : Consumed) → stands claims worker p ≡ true → now ≡ set table p (Some outcome)
+    → left ≡ without claims worker → IsPut first leg table claims old p outcome now left new
+    → IsStep (seen first leg table claims old) (Posted worker p outcome) (seen first leg now left new)
+posts first leg table claims old worker p outcome now left new st put e it = record {
+  farm = step_post (setting_of (seen first leg table claims old)) (farm_of (seen first leg table claims old)) worker p outcome st
+      ∙ ap (λ (cs : List Claim). Some (record { table = set table p (Some outcome); claims = cs })) (sym e)
+      ∙ ap (λ (t : List (Option Outcome)). Some (record { table = t; claims = left })) (sym put);
+  setting = it.setting;
+  first = refl;
+}
+
+-- where no claim ended
+pub learns : (first : Session) (leg : ℕ) (table : List (Option Outcome)) (claims : List Claim) (old : Consumed) (p : ℕ) (outcome : Outcome)
+    (now : List (Option Outcome)) (new : Consumed) → now ≡ set table p (Some outcome) → IsPut first leg table claims old p outcome now claims new
+    → IsLearnt (seen first leg table claims old) p outcome (seen first leg now claims new)
+learns first leg table claims old p outcome now new put it = record {
+  farm = ap (λ (t : List (Option Outcome)). record { table = t; claims = claims }) put;
+  setting = it.setting;
+  first = refl;
+}
+
+-- the claims that a post leaves
+pub claims_left : (table : List (Option Outcome)) (claims left : List Claim) (worker p : ℕ) (outcome : Outcome) → AreClaims table claims
+    → stands claims worker p ≡ true → left ≡ without claims worker → AreClaims (set table p (Some outcome)) left
+claims_left table claims left worker p outcome h st e =
+    subst (λ (cs : List Claim). AreClaims (set table p (Some outcome)) cs) (sym e) (claims_posted table claims worker p outcome h st)
 
 pub place_put : (table now : List (Option Outcome)) (p : ℕ) (outcome : Outcome) → p < length table → now ≡ set table p (Some outcome) → p < length now
 place_put table now p outcome l put = subst (λ (t : List (Option Outcome)). p < length t) (sym put) (omega (arith, l, length-set table p (Some outcome)))
@@ -312,3 +324,35 @@ place_put table now p outcome l put = subst (λ (t : List (Option Outcome)). p <
 pub taken_back : (table now back : List (Option Outcome)) (p : ℕ) (outcome : Outcome) → outcomes_of_table table p ≡ None → now ≡ set table p (Some outcome)
     → back ≡ set now p None → back ≡ table
 taken_back table now back p outcome unknown put e = e ∙ ap (λ (t : List (Option Outcome)). set t p None) put ∙ put_back table p outcome unknown
+
+-- ---- whose tests are wanted
+
+pub withdraws : (first : Session) (leg : ℕ) (table : List (Option Outcome)) (claims : List Claim) (run : Consumed) (worker : ℕ)
+    → IsUnwanted run table claims worker ↔ IsWithdrawn (seen first leg table claims run) worker
+withdraws first leg table claims run worker = (
+  λ h. record { claim = h.claim; among = h.among; by = h.by; dropped = λ wanted. h.unwanted wanted.goes_on wanted.asked },
+  λ h. record { claim = h.claim; among = h.among; by = h.by; unwanted = λ none asked. h.dropped (record { goes_on = none; asked = asked }) },
+)
+
+-- a path leads to a place of the graph
+leads_within : (graph : List (List ℕ)) (known : Outcomes) (s : Search) (marks : List Mark) (p left : ℕ) → IsGraph graph → Leads graph known s marks p left
+    → p < length graph
+leads_within graph known s [] p left g h = (asking graph s p g h.0).asks_for.within
+leads_within graph known s (m ∷ marks) p left g h = leads_within graph known (mark (ask graph s).search m h.0) marks p left g h.3
+
+-- so no path wants a place beyond it
+pub wants_within : (first : Session) (leg : ℕ) (table : List (Option Outcome)) (claims : List Claim) (run : Consumed) (p : ℕ)
+    → IsCore first leg table claims run → WantsOutcome (seen first leg table claims run) p → p < length table
+wants_within first leg table claims run p h wants =
+    let asked = wants.wanted.asked in
+    let within : p < length run.tree.graph
+    = leads_within run.tree.graph (outcomes_of_table table) run.state.search asked.0 p asked.1 h.parents asked.2 in
+    omega (arith, within, h.len)
+
+-- where the outcome of a place is not known, it is wanted where some path asks for the place
+pub wants_asks : (first : Session) (leg : ℕ) (table : List (Option Outcome)) (claims : List Claim) (run : Consumed) (p : ℕ)
+    → outcomes_of_table table p ≡ None → Asks run table p ↔ WantsOutcome (seen first leg table claims run) p
+wants_asks first leg table claims run p unknown = (
+  λ h. record { unknown = unknown; wanted = record { goes_on = h.goes_on; asked = h.asked } },
+  λ h. record { goes_on = h.wanted.goes_on; asked = h.wanted.asked },
+)

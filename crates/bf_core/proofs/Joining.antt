@@ -28,7 +28,7 @@ use Rattle.bf_spec.specs.Ways.{IsAsked}
 use Rattle.bf_spec.specs.declared.follow.Walked.{Walked}
 use Rattle.bf_core.specs.declared.consuming.Consumed.{Consumed}
 use Rattle.bf_core.specs.Claims.{KeepsNodes, IsSameTree, IsIdle, IsIdleWorker, has_ended, GoesOn}
-use Rattle.bf_core.specs.Consuming.{marks_since, HasAsked, IsAtRoot, IsRun, IsRunOn, IsSameRun, IsJoined, Begins, Consumes, IsUnwanted}
+use Rattle.bf_core.specs.Consuming.{marks_since, Asks, HasAsked, IsAtRoot, IsRun, IsRunOn, IsSameRun, IsJoined, Begins, Consumes, IsUnwanted}
 use Rattle.bf_state.specs.Ends.{IsUnspent}
 use Rattle.bf_state.proofs.Legs.{run_follows, run_asked}
 use Rattle.bf_core.proofs.Beside.{goes_told}
@@ -296,17 +296,32 @@ unwanted_workers mid new table claims walked r ended w walk joined unknown e = (
 
 -- the root of the tree asks for the places that are asked for from where the run is
 module _ (core : Consumed) (table : List (Option Outcome)) (asks : HasAsked core) where
+  from_root : (p : ℕ) → IsAsked core.tree.graph (outcomes_of_table table) core.tree.root.search p
+      → IsAsked core.tree.graph (outcomes_of_table table) core.state.search p
+  from_root p asked =
+      (asked_here core.tree.graph (outcomes_of_table table) core.state.search).back p
+      (asked_on core.tree.graph (outcomes_of_table table) core.tree.root.search (ask core.tree.graph core.state.search).search p asks asked)
+
+  to_root : (p : ℕ) → outcomes_of_table table p ≡ None → IsAsked core.tree.graph (outcomes_of_table table) core.state.search p
+      → IsAsked core.tree.graph (outcomes_of_table table) core.tree.root.search p
+  to_root p unknown asked =
+      asked_on core.tree.graph (outcomes_of_table table) (ask core.tree.graph core.state.search).search core.tree.root.search p (sym asks)
+      ((asked_here core.tree.graph (outcomes_of_table table) core.state.search).on p unknown asked)
+
+  pub asks_at_root : (p : ℕ) → outcomes_of_table table p ≡ None → has_ended core.ending ≡ false
+      → IsAsked core.tree.graph (outcomes_of_table table) core.tree.root.search p ↔ Asks core table p
+  asks_at_root p unknown e = (
+    λ asked. record { goes_on = e; asked = from_root p asked },
+    λ h. to_root p unknown h.asked,
+  )
+
   ended_unwanted : (b : Bool) (p : ℕ) → has_ended core.ending ≡ b → outcomes_of_table table p ≡ None → IsIdle core.tree table b p
       → IsUnwantedPlace core (outcomes_of_table table) p
-  ended_unwanted false p e unknown idle = λ here asked.
-      idle (asked_on core.tree.graph (outcomes_of_table table) (ask core.tree.graph core.state.search).search core.tree.root.search p (sym asks)
-      ((asked_here core.tree.graph (outcomes_of_table table) core.state.search).on p unknown asked))
+  ended_unwanted false p e unknown idle = λ here asked. idle (to_root p unknown asked)
   ended_unwanted true p e unknown idle = λ here asked. both_ways (has_ended core.ending) here e
 
   unwanted_ended : (b : Bool) (p : ℕ) → has_ended core.ending ≡ b → IsUnwantedPlace core (outcomes_of_table table) p → IsIdle core.tree table b p
-  unwanted_ended false p e h = λ asked.
-      h e ((asked_here core.tree.graph (outcomes_of_table table) core.state.search).back p
-      (asked_on core.tree.graph (outcomes_of_table table) core.tree.root.search (ask core.tree.graph core.state.search).search p asks asked))
+  unwanted_ended false p e h = λ asked. h e (from_root p asked)
   unwanted_ended true p e h = tt
 
   pub ended_workers : (claims : List Claim) (ended : Bool) (w : ℕ) → All (λ c. outcomes_of_table table c.place ≡ None) claims → ended ≡ has_ended core.ending

@@ -128,6 +128,19 @@ fails_at : (test : Claim → Bool) (claims : List Claim) (k : ℕ) (d : Claim) �
 fails_at test claims k d h l = false_from_ne_true (test (get_or claims k d))
     (λ passes. both_ways (list_any test claims) h (list_any_at test claims k d l passes))
 
+-- the claims stand over the outcome of a place that nobody tests
+pub claims_beside : (table : List (Option Outcome)) (claims : List Claim) (p : ℕ) (outcome : Outcome) → AreClaims table claims → is_claimed claims p ≡ false
+    → AreClaims (set table p (Some outcome)) claims
+claims_beside table claims p outcome h free = record {
+  within = All-weaker (λ c. c.place < length table) (λ c. c.place < length (set table p (Some outcome)))
+      (λ c l. omega (arith, l, length-set table p (Some outcome))) claims h.within;
+  unknown = λ k d l.
+      put_elsewhere table p (get_or claims k d).place outcome
+      (λ e. both_ways _ (fails_at (λ c. c.place == p) claims k d free l) (eq-eqb (get_or claims k d).place p e))
+      ∙ h.unknown k d l;
+  apart = h.apart;
+}
+
 -- one more claim
 pub claims_pushed : (table : List (Option Outcome)) (claims : List Claim) (worker p : ℕ) → AreClaims table claims → has_claim claims worker ≡ false
     → is_claimed claims p ≡ false → p < length table → outcomes_of_table table p ≡ None

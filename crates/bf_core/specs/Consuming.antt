@@ -102,6 +102,11 @@ HasNodeOfBest old table claims new =
     (path : OpenPath) → old.ending ≡ None
     → best_open old.tree.graph (outcomes_of_table table) claims old.tree.root.search ≡ Some path → HasNode new.tree path.marks
 
+-- some path from where the run stands asks for the place, and the search has no end
+pub record Asks (core : Consumed) (table : List (Option Outcome)) (p : ℕ) : Type 0 where
+  pub goes_on : has_ended core.ending ≡ false
+  pub asked : IsAsked core.tree.graph (outcomes_of_table table) core.state.search p
+
 -- a worker whose claimed place no path asks for
 pub record IsUnwanted (core : Consumed) (table : List (Option Outcome)) (claims : List Claim) (worker : ℕ) : Type 0 where
   pub claim : Claim

@@ -1,5 +1,5 @@
 -- What contracts see of a core, and what its calls leave of it.
-use Rattle.std.specs.Prelude.{◌≡◌, ◌≢◌, ◌↔◌, ℕ, ◌<◌, Bool, false, length, List, [], ◌∷◌, ◌++◌, Contains, Option, Some, None, Result, Err, IsTrue}
+use Rattle.std.specs.Prelude.{◌≡◌, ◌≢◌, ◌↔◌, ℕ, ◌<◌, Bool, false, length, List, [], ◌∷◌, ◌++◌, slice_set, Contains, Option, Some, None, Result, Err, IsTrue}
 use Rattle.bf_graph.specs.Graph.{IsGraph}
 use Rattle.bf_search.specs.declared.entries.Entry.{Entry}
 use Rattle.bf_search.specs.declared.farm.Claim.{Claim}
@@ -87,6 +87,12 @@ pub record IsStep (old : Machine) (event : Event) (new : Machine) : Type 0 where
   pub setting : setting_of new ≡ setting_of old
   pub first : new.first ≡ old.first
 
+-- the table has the outcome of the place, and the claims stand as they were
+pub record IsLearnt (old : Machine) (p : ℕ) (outcome : Outcome) (new : Machine) : Type 0 where
+  pub farm : farm_of new ≡ record (farm_of old) { table = slice_set old.table p (Some outcome) }
+  pub setting : setting_of new ≡ setting_of old
+  pub first : new.first ≡ old.first
+
 -- nothing but nodes has changed, and none is lost
 pub record IsSameButNodes (old new : Machine) : Type 0 where
   pub same : new ≡ record old { paths = new.paths }
@@ -110,6 +116,11 @@ best_path core = best_open core.graph (outcomes_of_table core.table) core.claims
 pub record IsWanted (core : Machine) (p : ℕ) : Type 0 where
   pub goes_on : has_ended core.ending ≡ false
   pub asked : IsAsked core.graph (outcomes_of_table core.table) core.state.search p
+
+-- some path asks for the outcome of the place, and it is not known
+pub record WantsOutcome (core : Machine) (p : ℕ) : Type 0 where
+  pub unknown : outcomes_of_table core.table p ≡ None
+  pub wanted : IsWanted core p
 
 -- a worker whose claimed place no path asks for
 pub record IsWithdrawn (core : Machine) (worker : ℕ) : Type 0 where

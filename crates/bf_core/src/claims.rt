@@ -26,7 +26,7 @@ pub(crate) fn is_free(table: &Table, claims: &[Claim], place: u32) -> bool
 }
 
 /// Whether a place is claimed.
-fn is_claimed(claims: &[Claim], place: u32) -> bool
+pub(crate) fn is_claimed(claims: &[Claim], place: u32) -> bool
     ensures { result ≡ is_claimed claims.now place }
 {
     claims.iter().any(|claim| claim.place == place)

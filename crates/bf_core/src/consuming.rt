@@ -3,7 +3,7 @@
 //! The walk and the withdrawn workers are prepared before anything is committed: the entries take the last
 //! memory, and what follows takes none. So after want of memory a core is as before, but for nodes that were
 //! made.
-ghost use Rattle.std.specs.Prelude.{◌≡◌, ◌↔◌, ◌++◌, ℕ, List, [], Option, Some, None, length, All, Contains, IfOk, OnOk, OnErr, IsSome};
+ghost use Rattle.std.specs.Prelude.{◌≡◌, ◌↔◌, ◌<◌, ◌++◌, ℕ, List, [], Option, Some, None, length, slice_set, All, Contains, IfOk, OnOk, OnErr, IsSome, IsTrue};
 ghost use Rattle.std.specs.List.Sorted.{IsStrictlyIncreasing};
 ghost use Rattle.bf_graph.specs.Graph.{IsGraph};
 ghost use Rattle.bf_search.specs.State.{ask, IsSearchOver};
@@ -14,10 +14,10 @@ ghost use Rattle.bf_state.specs.Session.{Session};
 ghost use Rattle.bf_spec.specs.Tree.{HasNode};
 ghost use Rattle.bf_core.specs.Claims.{AreClaims, KeepsNodes, IsSameTree};
 ghost use Rattle.bf_core.specs.Consuming.{IsJoinedTo, IsSameRun, Begins, Consumes, GivesBest, HasAsked};
-ghost use Rattle.bf_core.specs.Consuming.{AreUnwanted, KeepsNodesAhead, HasNodeOfBest};
+ghost use Rattle.bf_core.specs.Consuming.{Asks, AreUnwanted, KeepsNodesAhead, HasNodeOfBest};
 
 use crate::claims::{has_ended, withdrawn};
-use bf_search::{Claim, Ending, Entry, push_warnings};
+use bf_search::{Claim, Ending, Entry, Outcome, push_warnings};
 use bf_spec::{SpecTree, Table, Walked};
 use bf_state::State;
 use std::alloc::{AllocError, Global};
@@ -99,6 +99,41 @@ impl<'r> Consumed<'r> {
         Ok(workers)
     }
 
+    /// Puts the outcome of a place that has none into a table, and goes on as far as its outcomes lead. Of
+    /// these claims it gives the workers whose place no path asks for then, ascending. After an error all is
+    /// as before, the table too, and no node is lost.
+    pub(crate) fn learn(
+        &mut self,
+        alloc: Global,
+        table: &mut Table,
+        known: (u32, Outcome),
+        claims: &[Claim],
+    ) -> Result<Vec<u32>, AllocError>
+        requires asked { HasAsked self.old }
+        requires len { length table.old ≡ length self.old.tree.graph }
+        requires within { known.0 < length table.old }
+        requires unknown { outcomes_of_table table.old known.0 ≡ None }
+        requires claims { AreClaims (slice_set table.old known.0 (Some known.1)) claims.now }
+        ensures table { OnOk result (table.new ≡ slice_set table.old known.0 (Some known.1)) }
+        ensures run { OnOk result (Consumes self.old table.new self.new) }
+        ensures ascending { IfOk result (λ workers. IsStrictlyIncreasing workers.items) }
+        ensures unwanted { IfOk result (λ workers.
+            AreUnwanted self.new table.new claims.now workers.items) }
+        ensures nodes { OnOk result (KeepsNodesAhead self.old self.new) }
+        ensures back { OnErr result (table.new ≡ table.old) }
+        ensures err { OnErr result (IsSameRun self.old self.new) }
+    {
+        let (place, outcome) = known;
+        table.put(place, outcome);
+        match self.consume(alloc, table, claims) {
+            Ok(workers) => Ok(workers),
+            Err(error) => {
+                table.remove(place);
+                Err(error)
+            }
+        }
+    }
+
     /// Adds a walk from the root, and moves the root to its end. After an error all is as before.
     fn commit(&mut self, walked: Walked) -> Result<(), AllocError>
         requires { HasNode self.old.tree walked.path.items }
@@ -118,6 +153,21 @@ impl<'r> Consumed<'r> {
         self.state = state;
         self.ending = ending;
         Ok(())
+    }
+
+    /// Whether some path asks for a place; none does where the search has ended. No node is lost, also where
+    /// memory runs out.
+    pub(crate) fn asks(&mut self, table: &Table, place: u32) -> Result<bool, AllocError>
+        requires asked { HasAsked self.old }
+        requires within { place < length self.old.tree.graph }
+        requires unknown { outcomes_of_table table.now place ≡ None }
+        ensures asks { IfOk result (λ asks. IsTrue asks ↔ Asks self.old table.now place) }
+        ensures same { IsSameRun self.old self.new }
+    {
+        if has_ended(&self.ending) {
+            return Ok(false);
+        }
+        self.tree.is_asked(table, place)
     }
 
     /// The best open place; there is none where the run has ended. No node is lost, also where memory

@@ -3,17 +3,19 @@ ghost use Rattle.std.specs.Prelude.{◌≡◌, ◌≢◌, ◌↔◌, ◌<◌, �
 ghost use Rattle.std.specs.List.Sorted.{IsStrictlyIncreasing};
 ghost use Rattle.bf_search.specs.declared.farm.Event.{Event as EventValue};
 ghost use Rattle.bf_search.specs.Farm.{has_claim, best_place, stands, without, step};
-ghost use Rattle.std.specs.Option.{option_copied};
+ghost use Rattle.std.specs.Option.{is_some, option_copied};
+ghost use Rattle.bf_search.specs.OpenPaths.{is_claimed};
+ghost use Rattle.bf_search.specs.Outcomes.{outcomes_of_table};
 ghost use Rattle.bf_state.specs.Runs.{is_open};
 ghost use Rattle.bf_state.specs.Ends.{HasEnds};
-ghost use Rattle.bf_core.specs.Claims.{AreClaims, KeepsNodes};
-ghost use Rattle.bf_core.specs.Machine.{setting_of, farm_of, run_of, IsConsumed, IsStarted, IsStep, IsSameButNodes};
+ghost use Rattle.bf_core.specs.Claims.{AreClaims, IsFree, KeepsNodes};
+ghost use Rattle.bf_core.specs.Machine.{setting_of, farm_of, run_of, IsConsumed, IsStarted, IsStep, IsLearnt, IsSameButNodes};
 ghost use Rattle.bf_core.specs.Machine.{IsAllTaken, ClaimsWork, LeavesPick, HasBestNode, KeepsGuesses};
-ghost use Rattle.bf_core.specs.Machine.{StaysBeside, AreWithdrawn, RefusesIllegal, IsLegOver, IsOverGraph};
+ghost use Rattle.bf_core.specs.Machine.{StaysBeside, AreWithdrawn, WantsOutcome, RefusesIllegal, IsLegOver, IsOverGraph};
 ghost use Rattle.bf_core.specs.Machine.{ClaimsIf, LeavesRestIf, IsIllegalUnless, LeavesClaim, MayClaim, StaysIfIllegal};
 
 use crate::answers::{ApplyFault, CoreParts, Pick, Withdrawn};
-use crate::claims::{asked_of, end_claim, has_claim, is_free, stands, without};
+use crate::claims::{asked_of, end_claim, has_claim, is_claimed, is_free, stands, without};
 use crate::consuming::Consumed;
 use bf_reach::Reach;
 use bf_search::{Claim, Ending, Entry, Event, Mark, Outcome};
@@ -244,18 +246,44 @@ impl<'r> Core<'r> {
         ensures err { OnErr result (IsSameButNodes self.old self.new) }
     {
         let others = without(self.alloc, self.claims.as_slice(), worker)?;
-        self.table.put(place, outcome);
         let asked = asked_of(others.as_slice(), asks);
-        match self.run.consume(self.alloc, &self.table, asked) {
-            Ok(workers) => {
-                self.claims = others;
-                Ok(Withdrawn { workers })
-            }
-            Err(error) => {
-                self.table.remove(place);
-                Err(error)
-            }
+        let known = (place, outcome);
+        let workers = self.run.learn(self.alloc, &mut self.table, known, asked)?;
+        self.claims = others;
+        Ok(Withdrawn { workers })
+    }
+
+    /// Puts the outcome of a place that nobody tests and that has none into the table. The claims stand as
+    /// they were, and the run goes on as far as the outcomes lead. It gives the workers whose claimed place no
+    /// path asks for any more. After an error all is as before, and no node is lost.
+    pub fn learn(&mut self, place: u32, outcome: Outcome) -> Result<Withdrawn, AllocError>
+        requires { IsFree (length self.old.table) (outcomes_of_table self.old.table)
+            self.old.claims place }
+        ensures learnt { OnOk result (IsLearnt self.old place outcome self.new) }
+        ensures consumed { IsConsumed self.new }
+        ensures beside { OnOk result (StaysBeside self.old place self.new) }
+        ensures withdrawn { IfOk result (λ w. AreWithdrawn self.new w.workers.items) }
+        ensures ascending { IfOk result (λ w. IsStrictlyIncreasing w.workers.items) }
+        ensures nodes { OnOk result (KeepsGuesses self.old self.new) }
+        ensures err { OnErr result (IsSameButNodes self.old self.new) }
+    {
+        let known = (place, outcome);
+        let claims = self.claims.as_slice();
+        let workers = self.run.learn(self.alloc, &mut self.table, known, claims)?;
+        Ok(Withdrawn { workers })
+    }
+
+    /// Whether some path asks for the outcome of a place, whether a worker tests it or not. None does where
+    /// the search has ended, nor where the outcome is known. No node is lost, also where memory runs out.
+    pub fn wants(&mut self, place: u32) -> Result<bool, AllocError>
+        ensures wanted { IfOk result (λ wanted.
+            IsTrue wanted ↔ WantsOutcome self.old place) }
+        ensures same { IsSameButNodes self.old self.new }
+    {
+        if place >= self.table.len() || self.has_outcome(place) {
+            return Ok(false);
         }
+        self.run.asks(&self.table, place)
     }
 
     /// Ends a claim that stands, without an outcome.
@@ -280,6 +308,28 @@ impl<'r> Core<'r> {
         ensures { result ≡ stands self.now.claims worker place }
     {
         stands(self.claims.as_slice(), worker, place)
+    }
+
+    /// Whether the outcome of a place is known.
+    pub fn has_outcome(&self, place: u32) -> bool
+        ensures { result ≡ is_some (outcomes_of_table self.now.table place) }
+    {
+        place < self.table.len() && self.table.get(place).is_some()
+    }
+
+    /// Whether a worker tests a place.
+    pub fn is_under_test(&self, place: u32) -> bool
+        ensures { result ≡ is_claimed self.now.claims place }
+    {
+        is_claimed(self.claims.as_slice(), place)
+    }
+
+    /// Whether nobody tests a place, and its outcome is not known.
+    pub fn is_free(&self, place: u32) -> bool
+        ensures { IsTrue result ↔ IsFree (length self.now.table)
+            (outcomes_of_table self.now.table) self.now.claims place }
+    {
+        is_free(&self.table, self.claims.as_slice(), place)
     }
 
     /// Does an event where it is legal. It is refused exactly where it is not, and then all is as before;

@@ -2,7 +2,9 @@ pub mod Growing
 pub mod Walking
 pub mod Rerooting
 pub mod Asking
+pub mod Certain
 pub mod Following
 pub mod Halting
 pub mod Sights
 pub mod Linking
+pub mod Pending

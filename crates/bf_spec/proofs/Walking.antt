@@ -37,7 +37,7 @@ use Rattle.bf_spec.specs.declared.walk.Look.TheVariants.{Ended, Free, Known, Gue
 use Rattle.std.specs.Arc.{arc_value}
 use Rattle.bf_state.specs.Weighed.{row_below, mask_of}
 use Rattle.bf_spec.specs.Guessed.{marked_by, next_asked, asked_at, IsSettled, prefixed, look_of, look_of_outcome, look_of_verdict}
-use Rattle.bf_spec.specs.Nodes.{path_of, asked_of, IsNode, AreNodes, Extends, left_below, left_at, best_at, IsFound, wins, better_found}
+use Rattle.bf_spec.specs.Nodes.{path_of, asked_of, IsNode, AreNodes, Extends, left_below, left_at, best_at, IsFound, path_wins, better_path}
 use Rattle.bf_spec.proofs.Growing.{asked_at-append, settled_at, extends_nodes, extends_length, extends_at, extends_has, extends_trans, read_as}
 
 -- ---- what a look says of the recursion
@@ -270,27 +270,20 @@ found_kept nodes more (Some found) None h = absurd h
 found_kept nodes more (Some found) (Some path) h =
     (h.0, h.1, h.2, record { node = h.3.node; among = Contains-append_left nodes more h.3.node h.3.among; has = h.3.has })
 
--- what wins among the found is what is better among the paths
-pub found_better : (nodes : List Node) (path : List Mark) (one other : Option Found) (good bad : Option OpenPath)
-    → IsFound nodes one (prefixed (path ++ Good ∷ []) good) → IsFound nodes other (prefixed (path ++ Bad ∷ []) bad)
-    → IsFound nodes (better_found one other) (prefixed path (better (followed_by Good good) (followed_by Bad bad)))
-found_better nodes path None other None bad h k = subst (λ (x : Option OpenPath). IsFound nodes other x) (sym (prefixed_further path Bad bad)) k
-found_better nodes path None other (Some x) bad h k = absurd h
-found_better nodes path (Some f) other None bad h k = absurd h
-found_better nodes path (Some f) None (Some x) None h k = subst (λ (y : Option OpenPath). IsFound nodes (Some f) y) (sym (prefixed_further path Good (Some x)))
-    h
-found_better nodes path (Some f) None (Some x) (Some y) h k = absurd k
-found_better nodes path (Some f) (Some e) (Some x) None h k = absurd k
-found_better nodes path (Some f) (Some e) (Some x) (Some y) h k =
-    subst (λ (b : Bool). IsFound nodes (cond (wins e f) (Some e) (Some f))
-    (prefixed path (cond b (Some (record y { marks = Bad ∷ y.marks })) (Some (record x { marks = Good ∷ x.marks }))))) same (by_test (wins e f))
+-- of two paths behind the guesses, the good one comes first where neither wins
+better_guess : (path : List Mark) (good bad : Option OpenPath) → prefixed path (better (followed_by Good good) (followed_by Bad bad))
+    ≡ better_path (prefixed (path ++ Good ∷ []) good) (prefixed (path ++ Bad ∷ []) bad)
+better_guess path None bad = prefixed_further path Bad bad
+better_guess path (Some x) None = prefixed_further path Good (Some x)
+better_guess path (Some x) (Some y) =
+    ap (λ (b : Bool). prefixed path (cond b (Some (record y { marks = Bad ∷ y.marks })) (Some (record x { marks = Good ∷ x.marks })))) same
+    ∙ by_test (path_wins (record y { marks = (path ++ Bad ∷ []) ++ y.marks }) (record x { marks = (path ++ Good ∷ []) ++ x.marks }))
   where
-    shorter : nat_lt e.depth f.depth ≡ nat_lt (suc (length y.marks)) (suc (length x.marks))
-    shorter = same_test e.depth f.depth (suc (length y.marks)) (suc (length x.marks))
+    shorter : nat_lt (suc (length y.marks)) (suc (length x.marks)) ≡ nat_lt (length ((path ++ Bad ∷ []) ++ y.marks)) (length ((path ++ Good ∷ []) ++ x.marks))
+    shorter = same_test (suc (length y.marks)) (suc (length x.marks)) (length ((path ++ Bad ∷ []) ++ y.marks)) (length ((path ++ Good ∷ []) ++ x.marks))
         (λ l. omega (
           arith,
-          h.2,
-          k.2,
+          l,
           length-append (path ++ Good ∷ []) x.marks,
           length-append path (Good ∷ []),
           length-append (path ++ Bad ∷ []) y.marks,
@@ -298,26 +291,24 @@ found_better nodes path (Some f) (Some e) (Some x) (Some y) h k =
         ))
         (λ l. omega (
           arith,
-          h.2,
-          k.2,
+          l,
           length-append (path ++ Good ∷ []) x.marks,
           length-append path (Good ∷ []),
           length-append (path ++ Bad ∷ []) y.marks,
           length-append path (Bad ∷ []),
         ))
 
-    same : wins e f ≡ is_better (record y { marks = Bad ∷ y.marks }) (record x { marks = Good ∷ x.marks })
+    same : is_better (record y { marks = Bad ∷ y.marks }) (record x { marks = Good ∷ x.marks })
+        ≡ path_wins (record y { marks = (path ++ Bad ∷ []) ++ y.marks }) (record x { marks = (path ++ Good ∷ []) ++ x.marks })
     same =
-        ap (λ (b : Bool). nat_lt f.left e.left || ((e.left == f.left) && b)) shorter
-        ∙ ap (λ (n : ℕ). nat_lt n e.left || ((e.left == n) && nat_lt (suc (length y.marks)) (suc (length x.marks)))) h.1
-        ∙ ap (λ (n : ℕ). nat_lt x.left n || ((n == x.left) && nat_lt (suc (length y.marks)) (suc (length x.marks)))) k.1
-        ∙ sym (drops_last (nat_lt x.left y.left) (y.left == x.left) (nat_lt (suc (length y.marks)) (suc (length x.marks)))
-        (suc (length y.marks) == suc (length x.marks)))
+        drops_last (nat_lt x.left y.left) (y.left == x.left) (nat_lt (suc (length y.marks)) (suc (length x.marks)))
+        (suc (length y.marks) == suc (length x.marks))
+        ∙ ap (λ (b : Bool). nat_lt x.left y.left || ((y.left == x.left) && b)) shorter
 
-    by_test : (b : Bool) → IsFound nodes (cond b (Some e) (Some f))
-        (prefixed path (cond b (Some (record y { marks = Bad ∷ y.marks })) (Some (record x { marks = Good ∷ x.marks }))))
-    by_test true = subst (λ (z : Option OpenPath). IsFound nodes (Some e) z) (sym (prefixed_further path Bad (Some y))) k
-    by_test false = subst (λ (z : Option OpenPath). IsFound nodes (Some f) z) (sym (prefixed_further path Good (Some x))) h
+    by_test : (b : Bool) → prefixed path (cond b (Some (record y { marks = Bad ∷ y.marks })) (Some (record x { marks = Good ∷ x.marks })))
+        ≡ cond b (Some (record y { marks = (path ++ Bad ∷ []) ++ y.marks })) (Some (record x { marks = (path ++ Good ∷ []) ++ x.marks }))
+    by_test true = prefixed_further path Bad (Some y)
+    by_test false = prefixed_further path Good (Some x)
 
 -- ---- by index
 
@@ -330,6 +321,11 @@ pub left_at-extends : (graph : List (List ℕ)) (one two : List Node) (k : ℕ) 
 left_at-extends graph one two k d e l =
     left_at-is graph two k d (extends_length graph one two k e l) ∙ ap (λ (n : Node). left_to_ask graph n.state.search) (extends_at graph one two k d e l) ∙ sym
     (left_at-is graph one k d l)
+
+-- some node of a list that has one
+pub first_of : (nodes : List Node) (k : ℕ) → k < length nodes → Node
+first_of [] k l = absurd (omega arith)
+first_of (node ∷ nodes) k l = node
 
 -- a child at its index, after the nodes have grown
 pub record IsChildAt (graph : List (List ℕ)) (nodes new : List Node) (i k : ℕ) (m : Mark) : Type 0 where
@@ -358,62 +354,47 @@ module _ (graph : List (List ℕ)) (nodes new : List Node) (i k : ℕ) (m : Mark
       best_known graph known claims new (get_or nodes i d) (get_or new k d) p m (extends_nodes graph nodes new c.extends t) (parent_in d) (child_in d)
       (c.path d) look
 
--- what was found below the two guesses
-pub guess_found : (graph : List (List ℕ)) (known : Outcomes) (claims : List Claim) (one two three four five : List Node) (i k j p : ℕ) (good bad : Option Found)
-    (d : Node)
+-- the best open path at a guess is that below one of the two guesses
+pub best_below : (graph : List (List ℕ)) (known : Outcomes) (claims : List Claim) (one two three : List Node) (i k j p : ℕ) (d : Node)
     → AreNodes graph one → look_of known claims (get_or one i d).step.ask ≡ Guess p
-    → IsChildAt graph one two i k Good → Extends graph two three → IsFound three good (best_at graph known claims (get_or two k d))
-    → IsChildAt graph three four i j Bad → Extends graph four five → IsFound five bad (best_at graph known claims (get_or four j d))
-    → IsFound five (better_found good bad) (best_at graph known claims (get_or one i d))
-guess_found graph known claims one two three four five i k j p good bad d t look g two_three found_good b four_five found_bad =
-    subst (λ (x : Option OpenPath). IsFound five (better_found good bad) x)
-    (sym (best_guess graph known claims five N G B p all n_in g_in b_in g_path b_path look))
-    (found_better five (path_of N) good bad (best_open graph known claims G.state.search) (best_open graph known claims B.state.search)
-    (subst (λ (ms : List Mark). IsFound five good (prefixed ms (best_open graph known claims G.state.search))) g_path good_here)
-    (subst (λ (ms : List Mark). IsFound five bad (prefixed ms (best_open graph known claims B.state.search))) b_path found_bad))
+    → IsChildAt graph one two i k Good → IsChildAt graph two three i j Bad
+    → best_at graph known claims (get_or one i d) ≡ better_path (best_at graph known claims (get_or three k d)) (best_at graph known claims (get_or three j d))
+best_below graph known claims one two three i k j p d t look g b =
+    best_guess graph known claims three N G B p all n_in g_in b_in g_path b_path look
+    ∙ better_guess (path_of N) (best_open graph known claims G.state.search) (best_open graph known claims B.state.search)
+    ∙ ap (λ (ms : List Mark). better_path (prefixed ms (best_open graph known claims G.state.search))
+    (prefixed (path_of N ++ Bad ∷ []) (best_open graph known claims B.state.search))) (sym g_path)
+    ∙ ap (λ (ms : List Mark). better_path (best_at graph known claims G) (prefixed ms (best_open graph known claims B.state.search))) (sym b_path)
   where
     N : Node
     N = get_or one i d
 
     G : Node
-    G = get_or two k d
+    G = get_or three k d
 
     B : Node
-    B = get_or four j d
-
-    three_five : Extends graph three five
-    three_five = extends_trans graph three four five b.extends four_five
-
-    two_five : Extends graph two five
-    two_five = extends_trans graph two three five two_three three_five
-
-    one_five : Extends graph one five
-    one_five = extends_trans graph one two five g.extends two_five
-
-    all : AreNodes graph five
-    all = extends_nodes graph one five one_five t
-
-    n_in : Contains five N
-    n_in = extends_has graph one five N one_five (Contains-get_or one i d g.above)
-
-    g_in : Contains five G
-    g_in = extends_has graph two five G two_five (Contains-get_or two k d g.below)
-
-    b_in : Contains five B
-    b_in = extends_has graph four five B four_five (Contains-get_or four j d b.below)
-
-    g_path : path_of G ≡ path_of N ++ Good ∷ []
-    g_path = g.path d
+    B = get_or three j d
 
     one_three : Extends graph one three
-    one_three = extends_trans graph one two three g.extends two_three
+    one_three = extends_trans graph one two three g.extends b.extends
+
+    all : AreNodes graph three
+    all = extends_nodes graph one three one_three t
+
+    n_in : Contains three N
+    n_in = extends_has graph one three N one_three (Contains-get_or one i d g.above)
+
+    g_in : Contains three G
+    g_in = Contains-get_or three k d (extends_length graph two three k b.extends g.below)
+
+    b_in : Contains three B
+    b_in = Contains-get_or three j d b.below
+
+    g_path : path_of G ≡ path_of N ++ Good ∷ []
+    g_path = ap path_of (extends_at graph two three k d b.extends g.below) ∙ g.path d
 
     b_path : path_of B ≡ path_of N ++ Bad ∷ []
-    b_path = b.path d ∙ ap (λ (n : Node). path_of n ++ Bad ∷ []) (extends_at graph one three i d one_three g.above)
-
-    good_here : IsFound five good (best_at graph known claims G)
-    good_here = subst (λ (xs : List Node). IsFound xs good (best_at graph known claims G)) (sym three_five.grows.grown)
-        (found_kept three three_five.grows.more good (best_at graph known claims G) found_good)
+    b_path = b.path d ∙ ap (λ (n : Node). path_of n ++ Bad ∷ []) (extends_at graph one two i d g.extends g.above)
 
 -- ---- the candidates that are left
 

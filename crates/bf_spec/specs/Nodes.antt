@@ -18,6 +18,8 @@ use Rattle.bf_spec.specs.declared.walk.Found.{Found}
 use Rattle.bf_spec.specs.declared.walk.Stop.{Stop}
 use Rattle.bf_spec.specs.declared.walk.Stop.TheVariants.{Ended, Free, Guess}
 use Rattle.bf_spec.specs.declared.walk.Look.TheVariants.{Guess as LookGuess}
+use Rattle.bf_spec.specs.declared.walk.Visit.{Visit}
+use Rattle.bf_spec.specs.declared.walk.Visit.TheVariants.{Leaf, Fork}
 use Rattle.bf_state.specs.Ends.{HasEnds}
 use Rattle.bf_spec.specs.Guessed.{next_asked, asked_at, IsSettled, prefixed, look_of}
 use Rattle.bf_spec.specs.Sights.{IsSight}
@@ -163,6 +165,29 @@ abbrev pub StopsFrom : Known → List Node → ℕ → List Node → Stop → Ty
 StopsFrom known old start new stop = (d : Node) →
     Stops known.graph known.outcomes known.claims new stop (left_at known.graph old start)
     (best_at known.graph known.outcomes known.claims (slice_index_or old start d))
+
+-- the second one has more candidates left or, where as many are left, is shorter
+abbrev pub path_wins : OpenPath → OpenPath → Bool
+path_wins bad good = nat_lt good.left bad.left || ((bad.left == good.left) && nat_lt (length bad.marks) (length good.marks))
+
+-- the better one of two paths, of which the first one comes first where neither wins
+abbrev pub better_path : Option OpenPath → Option OpenPath → Option OpenPath
+better_path None bad = bad
+better_path (Some good) None = Some good
+better_path (Some good) (Some bad) = if path_wins bad good then Some bad else Some good
+
+-- what a visit tells of the best open path: it is that below one of two nodes, where fewer places may be asked
+abbrev pub Visits : Known → List Node → Node → Visit → ℕ → Option OpenPath → Type 0
+Visits known nodes d (Leaf found) most best = IsFound nodes found best
+Visits known nodes d (Fork good bad) most best =
+    (good < length nodes) × (bad < length nodes) × (left_at known.graph nodes good < most) × (left_at known.graph nodes bad < most)
+    × (best ≡ better_path (best_at known.graph known.outcomes known.claims (slice_index_or nodes good d))
+    (best_at known.graph known.outcomes known.claims (slice_index_or nodes bad d)))
+
+-- a visit to a node tells of its best open path
+abbrev pub VisitsFrom : Known → List Node → ℕ → List Node → Visit → Type 0
+VisitsFrom known old start new visit = (d : Node) →
+    Visits known new d visit (left_at known.graph old start) (best_at known.graph known.outcomes known.claims (slice_index_or old start d))
 
 -- what was found is the best open path through a node
 abbrev pub IsBestFrom : Known → List Node → ℕ → List Node → Option Found → Type 0

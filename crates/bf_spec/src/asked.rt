@@ -1,15 +1,15 @@
 //! Whether some path asks for a place.
-ghost use Rattle.std.specs.Prelude.{◌≡◌, ℕ, ◌<◌, length, IfOk};
-ghost use Rattle.bf_search.specs.declared.asks.Ask.TheVariants.{Test};
+ghost use Rattle.std.specs.Prelude.{◌≡◌, ◌<◌, length, IfOk, IsTrue};
+ghost use Rattle.std.specs.Arc.{arc_value};
 ghost use Rattle.bf_spec.specs.Nodes as nodes_;
-ghost use Rattle.bf_state.specs.Way.{way};
-ghost use Rattle.bf_spec.specs.Ways.{way_from, TellsIfAskedFrom};
+ghost use Rattle.bf_spec.specs.Ways.{is_no_candidate, may_be_asked, way_from, TellsIfAskedFrom, GoesTowards};
+ghost use Rattle.bf_spec.specs.Ways.{IsSure, IsUntold};
 
 use crate::node::Node;
 use crate::nodes::Nodes;
 use crate::table::Table;
 use crate::walk::child;
-use bf_reach::{Reach, Row};
+use bf_reach::Reach;
 use bf_search::{Ask, Mark, Verdict};
 use bf_state::State;
 use bf_terms::verdict_of;
@@ -24,29 +24,29 @@ pub enum Way {
     Nowhere,
     /// By this mark of the place that the node asks for.
     Goes(u32, Mark),
+    /// By a guess at the place that the node asks for.
+    Guesses(u32),
 }
 
-/// The guess at an asked place that may lead on to another place.
-fn guess_towards(reach: &Reach, state: &State, asked: u32, place: u32, scratch: &mut Row) -> Mark
-    requires asked { asked < length reach.now }
-    requires place { place < length reach.now }
-    requires scratch { length scratch.old ≡ length reach.now }
-    ensures guess { result ≡ way reach.now state.now.search asked place }
-    ensures scratch { length scratch.new ≡ length scratch.old }
+/// Whether only candidates are asked for from a search on.
+fn is_checked(state: &State) -> bool
+    ensures { result ≡ state.now.search.checked }
 {
-    if state.checked && reach.reaches(asked, place, scratch) {
-        Mark::Bad
-    } else {
-        Mark::Good
-    }
+    state.checked
 }
 
-fn way_at(reach: &Reach, node: &Node, table: &Table, place: u32, scratch: &mut Row) -> Way
-    requires asked { (p : ℕ) → node.now.step.ask ≡ Test p → p < length reach.now }
-    requires place { place < length reach.now }
-    requires scratch { length scratch.old ≡ length reach.now }
-    ensures way { result ≡ way_from reach.now table.now node.now place }
-    ensures scratch { length scratch.new ≡ length scratch.old }
+/// Whether only candidates are asked for from a node on, and a place is none of them.
+fn is_no_candidate(node: &Node, place: u32) -> bool
+    requires { place < length (arc_value node.now.sight.mask) }
+    ensures { result ≡ is_no_candidate node.now place }
+{
+    is_checked(&node.state) && !node.sight.mask.get(place)
+}
+
+/// A node whose check has passed asks for candidates alone, and so do those that follow it.
+fn way_at(node: &Node, table: &Table, place: u32) -> Way
+    requires { place < length (arc_value node.now.sight.mask) }
+    ensures { result ≡ way_from table.now node.now place }
 {
     let Ask::Test(asked) = node.step.ask else {
         return Way::Nowhere;
@@ -54,19 +54,85 @@ fn way_at(reach: &Reach, node: &Node, table: &Table, place: u32, scratch: &mut R
     if asked == place {
         return Way::Here;
     }
+    if is_no_candidate(node, place) {
+        return Way::Nowhere;
+    }
     match table.find(asked) {
         Some(outcome) => match verdict_of(outcome) {
             Verdict::Mark(mark) => Way::Goes(asked, mark),
             Verdict::Abort => Way::Nowhere,
         },
-        None => Way::Goes(
-            asked,
-            guess_towards(reach, &node.state, asked, place, scratch),
-        ),
+        None => Way::Guesses(asked),
     }
 }
 
-/// Whether some path from a node asks for a place.
+/// The node that follows by the one guess that can lead on to a place. After a passed check that is bad exactly
+/// where the place is a candidate there.
+fn child_towards(
+    alloc: Global,
+    reach: &Reach,
+    nodes: &mut Nodes,
+    index: usize,
+    asked: u32,
+    place: u32,
+) -> Result<usize, AllocError>
+    requires index { index < length nodes.old.items }
+    requires nodes { nodes_.AreNodes reach.now nodes.old.items }
+    requires asks { nodes_.AsksFor nodes.old.items index asked }
+    requires place { place < length reach.now }
+    ensures extends { nodes_.Extends reach.now nodes.old.items nodes.new.items }
+    ensures child { IfOk result
+        (GoesTowards reach.now nodes.old.items index asked place nodes.new.items) }
+{
+    if !is_checked(&nodes[index].state) {
+        return child(alloc, reach, nodes, index, Mark::Good, asked);
+    }
+    let bad = child(alloc, reach, nodes, index, Mark::Bad, asked)?;
+    if nodes[bad].sight.mask.get(place) {
+        return Ok(bad);
+    }
+    child(alloc, reach, nodes, index, Mark::Good, asked)
+}
+
+/// Whether a place may be asked from a node on: it is a candidate, neither the bad place nor
+/// skipped.
+fn may_be_asked(node: &Node, place: u32) -> bool
+    requires mask { place < length (arc_value node.now.sight.mask) }
+    requires skips { place < length node.now.state.search.skips }
+    ensures { result ≡ may_be_asked node.now place }
+{
+    node.sight.mask.get(place) && node.state.bad != Some(place) && !node.state.skips.get(place)
+}
+
+/// Whether no outcome is known of the places that may be asked from a node on.
+fn is_untold(node: &Node, table: &Table) -> bool
+    requires { length node.now.state.search.skips ≡ length (arc_value node.now.sight.mask) }
+    ensures { IsTrue result → IsUntold table.now node.now }
+{
+    for place in 0..node.sight.mask.len() {
+        if table.find(place).is_some() && may_be_asked(node, place) {
+            return false;
+        }
+    }
+    true
+}
+
+/// Whether some path from a node asks for a place, since every guess is left open there: the
+/// check has passed, the place may be asked, and no outcome is known of those that may be.
+fn is_sure(node: &Node, table: &Table, place: u32) -> bool
+    requires mask { place < length (arc_value node.now.sight.mask) }
+    requires skips { length node.now.state.search.skips ≡ length (arc_value node.now.sight.mask) }
+    ensures { IsTrue result → IsSure table.now node.now place }
+{
+    is_checked(&node.state) && may_be_asked(node, place) && is_untold(node, table)
+}
+
+/// Whether a node has not yet been followed by both guesses.
+fn is_edge(nodes: &Nodes, index: usize) -> bool {
+    nodes.child(index, Mark::Good).is_none() || nodes.child(index, Mark::Bad).is_none()
+}
+
+/// Whether some path from a node asks for a place. Where every guess is left open it makes no node.
 pub(crate) fn is_asked_from(
     alloc: Global,
     reach: &Reach,
@@ -82,13 +148,18 @@ pub(crate) fn is_asked_from(
     ensures asked { IfOk result
         (TellsIfAskedFrom reach.now table.now nodes.old.items start place) }
 {
-    let mut scratch = Row::new(alloc, reach.len())?;
     let mut index = start;
     loop {
-        match way_at(reach, &nodes[index], table, place, &mut scratch) {
+        match way_at(&nodes[index], table, place) {
             Way::Here => return Ok(true),
             Way::Nowhere => return Ok(false),
             Way::Goes(asked, mark) => index = child(alloc, reach, nodes, index, mark, asked)?,
+            Way::Guesses(asked) => {
+                if is_edge(nodes, index) && is_sure(&nodes[index], table, place) {
+                    return Ok(true);
+                }
+                index = child_towards(alloc, reach, nodes, index, asked, place)?;
+            }
         }
     }
 }

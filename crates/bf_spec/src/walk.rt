@@ -46,6 +46,15 @@ pub struct Found {
     pub depth: usize,
 }
 
+/// What a visit to a node comes to.
+#[derive(Clone, Copy)]
+pub enum Visit {
+    /// The paths below it are one that ends, or this open one.
+    Leaf(Option<Found>),
+    /// The outcome of a place is guessed, and these nodes follow by good and by bad.
+    Fork(usize, usize),
+}
+
 /// The node of a path.
 pub(crate) fn find(nodes: &[Node], path: &[Mark]) -> Option<usize>
     ensures found { IfSome result (nodes_.IsAt nodes.now path.now) }
@@ -109,7 +118,7 @@ pub(crate) fn child(
     Ok(number)
 }
 
-/// The better one of what was found below a good guess and below a bad one.
+/// The better one of what was found first, below a good guess, and later, below a bad one.
 fn better(good: Option<Found>, bad: Option<Found>) -> Option<Found>
     ensures { result ≡ nodes_.better_found good bad }
 {
@@ -152,7 +161,38 @@ fn settle(
     }
 }
 
-/// The best open path below a node.
+/// What a visit to a node comes to. A place whose outcome is guessed gets both of its children.
+fn visited(
+    alloc: Global,
+    reach: &Reach,
+    nodes: &mut Nodes,
+    start: usize,
+    table: &Table,
+    claims: &[Claim],
+) -> Result<Visit, AllocError>
+    requires start { start < length nodes.old.items }
+    requires nodes { nodes_.AreNodes reach.now nodes.old.items }
+    ensures extends { nodes_.Extends reach.now nodes.old.items nodes.new.items }
+    ensures visit { IfOk result (nodes_.VisitsFrom
+        (nodes_.known_by reach.now table.now claims.now) nodes.old.items start nodes.new.items) }
+{
+    match settle(alloc, reach, nodes, start, table, claims)? {
+        Stop::Ended => Ok(Visit::Leaf(None)),
+        Stop::Free(index, place) => Ok(Visit::Leaf(Some(Found {
+            place,
+            left: nodes[index].sight.mask.count(),
+            depth: nodes[index].path.as_slice().len(),
+        }))),
+        Stop::Guess(index, place) => {
+            let good = child(alloc, reach, nodes, index, Mark::Good, place)?;
+            let bad = child(alloc, reach, nodes, index, Mark::Bad, place)?;
+            Ok(Visit::Fork(good, bad))
+        }
+    }
+}
+
+/// The best open path below a node. Paths may be as long as there are claims, so the nodes that are still to
+/// be visited stand in a list, and not on the stack: those behind good come before those behind bad.
 pub(crate) fn best_from(
     alloc: Global,
     reach: &Reach,
@@ -167,19 +207,22 @@ pub(crate) fn best_from(
     ensures found { IfOk result (nodes_.IsBestFrom
         (nodes_.known_by reach.now table.now claims.now) nodes.old.items start nodes.new.items) }
 {
-    match settle(alloc, reach, nodes, start, table, claims)? {
-        Stop::Ended => Ok(None),
-        Stop::Free(index, place) => Ok(Some(Found {
-            place,
-            left: nodes[index].sight.mask.count(),
-            depth: nodes[index].path.as_slice().len(),
-        })),
-        Stop::Guess(index, place) => {
-            let good = child(alloc, reach, nodes, index, Mark::Good, place)?;
-            let best_good = best_from(alloc, reach, nodes, good, table, claims)?;
-            let bad = child(alloc, reach, nodes, index, Mark::Bad, place)?;
-            let best_bad = best_from(alloc, reach, nodes, bad, table, claims)?;
-            Ok(better(best_good, best_bad))
+    let mut pending = Vec::new(alloc);
+    let mut best = None;
+    let mut index = start;
+    loop {
+        match visited(alloc, reach, nodes, index, table, claims)? {
+            Visit::Leaf(found) => {
+                best = better(best, found);
+                match pending.pop() {
+                    Some(next) => index = next,
+                    None => return Ok(best),
+                }
+            }
+            Visit::Fork(good, bad) => {
+                pending.push(bad)?;
+                index = good;
+            }
         }
     }
 }
