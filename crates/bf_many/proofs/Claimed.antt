@@ -25,31 +25,49 @@ claimed_in cores k worker p (Some core) at h = record { core = core; at = at; st
 pub claimed_at : (cores : List Machine) (k worker p : ℕ) → is_claimed cores k worker p ≡ true → IsClaimedAt cores k worker p
 claimed_at cores k worker p h = claimed_in cores k worker p (slice_get cores k) refl h
 
+-- ---- a core that has changed
+
+pub withdrawn_at : (cores : List Machine) (k : ℕ) (m n : Machine) (workers : List ℕ) → slice_get cores k ≡ Some m → AreWithdrawn n workers
+    → AreWithdrawnIn (set cores k n) k workers
+withdrawn_at cores k m n workers was are = λ core at.
+    subst (λ (x : Machine). AreWithdrawn x workers) (same_of (slice_get (set cores k n) k) n core (get_replaced cores m n k was) at) are
+
+pub same_at : (cores : List Machine) (k : ℕ) (core m n : Machine) → slice_get cores k ≡ Some core → m ≡ get_or cores k m → IsSameButNodes m n
+    → AreSameButNodes cores (set cores k n)
+same_at cores k core m n was read same =
+    same_one_more cores cores k core n (all_same cores) was
+    (subst (λ (x : Machine). IsSameButNodes x n) (read ∙ get_or_from_slice_get cores k core m was) same)
+
+-- the core has changed so, and no other
+pub changed_at : (So : Machine → Machine → Type 0) (cores : List Machine) (k : ℕ) (core m n : Machine) → slice_get cores k ≡ Some core
+    → m ≡ get_or cores k m → So m n → ChangesOne So cores k (set cores k n)
+changed_at So cores k core m n was read so = record {
+  before = core;
+  after = n;
+  at = was;
+  so = subst (λ (x : Machine). So x n) (read ∙ get_or_from_slice_get cores k core m was) so;
+  rest = refl;
+}
+
+-- ---- a core in which a claim stands
+
 pub withdrawn_in : (cores : List Machine) (k worker p : ℕ) (n : Machine) (workers : List ℕ) → is_claimed cores k worker p ≡ true
     → AreWithdrawn n workers → AreWithdrawnIn (set cores k n) k workers
-withdrawn_in cores k worker p n workers h are = λ core at.
+withdrawn_in cores k worker p n workers h are =
     let was = claimed_at cores k worker p h in
-    subst (λ (m : Machine). AreWithdrawn m workers) (same_of (slice_get (set cores k n) k) n core (get_replaced cores was.core n k was.at) at) are
+    withdrawn_at cores k was.core n workers was.at are
 
 pub same_claimed : (cores : List Machine) (k worker p : ℕ) (m n : Machine) → is_claimed cores k worker p ≡ true → m ≡ get_or cores k m
     → IsSameButNodes m n → AreSameButNodes cores (set cores k n)
 same_claimed cores k worker p m n h read same =
     let was = claimed_at cores k worker p h in
-    same_one_more cores cores k was.core n (all_same cores) was.at
-    (subst (λ (x : Machine). IsSameButNodes x n) (read ∙ get_or_from_slice_get cores k was.core m was.at) same)
+    same_at cores k was.core m n was.at read same
 
--- the core of a search in which a claim stands has changed so, and no other
 pub changed_claimed : (So : Machine → Machine → Type 0) (cores : List Machine) (k worker p : ℕ) (m n : Machine) → is_claimed cores k worker p ≡ true
     → m ≡ get_or cores k m → So m n → ChangesOne So cores k (set cores k n)
 changed_claimed So cores k worker p m n h read so =
     let was = claimed_at cores k worker p h in
-    record {
-      before = was.core;
-      after = n;
-      at = was.at;
-      so = subst (λ (x : Machine). So x n) (read ∙ get_or_from_slice_get cores k was.core m was.at) so;
-      rest = refl;
-    }
+    changed_at So cores k was.core m n was.at read so
 
 -- ---- the first claim
 

@@ -12,3 +12,4 @@ pub mod Ending
 pub mod Lengths
 pub mod Fresh
 pub mod Adding
+pub mod Wanting

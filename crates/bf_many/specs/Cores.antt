@@ -1,12 +1,16 @@
 -- What contracts see of the cores of several searches, and what the calls leave of them.
-use Rattle.std.specs.Prelude.{◌≡◌, ℕ, ◌≤◌, Bool, true, false, List, [], length, map, All, slice_set, Some, None}
+use Rattle.std.specs.Prelude.{◌≡◌, ◌↔◌, ℕ, ◌≤◌, Bool, true, false, List, [], length, map, All, Contains, slice_set, Some, None}
 use Rattle.std.specs.List.{AllZip, slice_get}
 use Rattle.std.specs.Option.{is_some, option_map_or}
 use Rattle.bf_search.specs.declared.farm.Event.{Event}
 use Rattle.bf_search.specs.declared.farm.Event.TheVariants.{Claim}
+use Rattle.bf_search.specs.declared.outcomes.Outcome.{Outcome}
 use Rattle.bf_search.specs.Farm.{stands}
+use Rattle.bf_search.specs.Outcomes.{outcomes_of_table}
 use Rattle.bf_state.specs.Ends.{HasEnds}
-use Rattle.bf_core.specs.Machine.{Machine, IsConsumed, IsStep, IsSameButNodes, AreWithdrawn, KeepsGuesses, StaysBeside, setting_of, farm_of}
+use Rattle.bf_core.specs.Claims.{IsFree}
+use Rattle.bf_core.specs.Machine.{Machine, IsConsumed, IsStep, IsLearnt, IsSameButNodes, AreWithdrawn, WantsOutcome, KeepsGuesses, StaysBeside}
+use Rattle.bf_core.specs.Machine.{setting_of, farm_of}
 use Rattle.bf_many.specs.declared.answers.ManyEvent.{ManyEvent}
 use Rattle.bf_many.specs.declared.answers.ManyPick.{ManyPick}
 use Rattle.bf_many.specs.declared.answers.ManyPick.TheVariants.{Work, NotYet, Ended}
@@ -63,6 +67,10 @@ DoesAt old k event new = ChangesOne (λ before after. IsStep before event after)
 abbrev pub StaysBesideAt : List Machine → ℕ → ℕ → List Machine → Type 0
 StaysBesideAt old k p new = ChangesOne (λ before after. StaysBeside before p after) old k new
 
+-- the core of a search has learnt the outcome of a place
+abbrev pub LearnsAt : List Machine → ℕ → ℕ → Outcome → List Machine → Type 0
+LearnsAt old k p outcome new = ChangesOne (λ before after. IsLearnt before p outcome after) old k new
+
 -- the guesses of a search that come true are kept
 abbrev pub KeepsGuessesAt : List Machine → ℕ → List Machine → Type 0
 KeepsGuessesAt old k new = ChangesOne KeepsGuesses old k new
@@ -75,6 +83,22 @@ DoesIf old event new false = IsSameButNodes old new
 -- whether this claim stands in a search
 abbrev pub is_claimed : List Machine → ℕ → ℕ → ℕ → Bool
 is_claimed cores k worker p = option_map_or (λ core. stands core.claims worker p) (slice_get cores k) false
+
+-- nobody tests this place in a search, and its outcome is not known there
+pub record IsFreeIn (cores : List Machine) (k p : ℕ) : Type 0 where
+  pub core : Machine
+  pub at : slice_get cores k ≡ Some core
+  pub free : IsFree (length core.table) (outcomes_of_table core.table) core.claims p
+
+-- some path of a search asks for the outcome of this place
+pub record WantsIn (cores : List Machine) (p k : ℕ) : Type 0 where
+  pub core : Machine
+  pub at : slice_get cores k ≡ Some core
+  pub wants : WantsOutcome core p
+
+-- these are the searches some path of which asks for the outcome of a place
+abbrev pub AreWanting : List Machine → ℕ → List ℕ → Type 0
+AreWanting cores p searches = (k : ℕ) → Contains searches k ↔ WantsIn cores p k
 
 -- none has an open place
 abbrev pub HaveNoPlace : List Machine → Type 0

@@ -16,6 +16,7 @@ mod replay;
 mod run;
 mod search;
 mod share;
+mod wanted;
 mod worker;
 
 pub use answers::{Held, ManyEvent, ManyPick};

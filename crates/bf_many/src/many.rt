@@ -1,18 +1,19 @@
 //! The cores of several searches.
-ghost use Rattle.std.specs.Prelude.{◌≡◌, ◌↔◌, ◌<◌, ◌≤◌, true, false, [], ◌∷◌, ◌++◌, Some, length, map, All, IfOk, OnOk, OnErr, IfSome, IfNone};
+ghost use Rattle.std.specs.Prelude.{◌≡◌, ◌↔◌, ◌<◌, ◌≤◌, true, false, [], ◌∷◌, ◌++◌, Some, length, map, All, IfOk, OnOk, OnErr, IfSome, IfNone, IsTrue};
 ghost use Rattle.std.specs.List.{slice_get};
 ghost use Rattle.std.specs.List.Sorted.{IsStrictlyIncreasing};
 ghost use Rattle.bf_search.specs.declared.farm.Event.{Event as EventValue};
 ghost use Rattle.bf_core.specs.Machine.{IsConsumed};
 ghost use Rattle.bf_many.specs.declared.answers.ManyPick.{ManyPick as PickValue};
 ghost use Rattle.bf_many.specs.Many.{held_by, is_busy};
-ghost use Rattle.bf_many.specs.Cores.{AreAllTaken, AreSameButNodes, AreWithdrawnIn, CanStart, DoesAt, HaveAllEnded};
-ghost use Rattle.bf_many.specs.Cores.{KeepsGuessesAt, Picks, StaysBesideAt, StepsIf, is_claimed, machines_of, start_of, starts_of};
+ghost use Rattle.bf_many.specs.Cores.{AreAllTaken, AreSameButNodes, AreWanting, AreWithdrawnIn, CanStart, DoesAt, HaveAllEnded};
+ghost use Rattle.bf_many.specs.Cores.{IsFreeIn, KeepsGuessesAt, LearnsAt, Picks, StaysBesideAt, StepsIf, is_claimed, machines_of, start_of, starts_of};
 
 use crate::answers::{Held, ManyEvent, ManyPick};
 use crate::held::held_by;
 use crate::next::{apply, is_busy, pick};
 use crate::search::Search;
+use crate::wanted::wanting;
 use bf_core::{Core, Withdrawn};
 use bf_reach::Reach;
 use bf_search::{Claim, Outcome};
@@ -149,6 +150,50 @@ impl<'r> ManyCore<'r> {
     {
         let withdrawn = self.cores[search as usize].post(worker, place, outcome)?;
         Ok(withdrawn)
+    }
+
+    /// Puts the outcome of a place that nobody tests in a search, and that has none there, into the table of
+    /// this search, which goes on as far as its outcomes lead. No claim ends, and no other search changes. It
+    /// gives the workers whose claimed place no path of this search asks for any more. After an error all is
+    /// as before, and no node is lost.
+    pub fn learn(
+        &mut self,
+        search: u32,
+        place: u32,
+        outcome: Outcome,
+    ) -> Result<Withdrawn, AllocError>
+        requires { IsFreeIn self.old search place }
+        ensures learnt { OnOk result (LearnsAt self.old search place outcome self.new) }
+        ensures beside { OnOk result (StaysBesideAt self.old search place self.new) }
+        ensures nodes { OnOk result (KeepsGuessesAt self.old search self.new) }
+        ensures withdrawn { IfOk result (λ w. AreWithdrawnIn self.new search w.workers.items) }
+        ensures ascending { IfOk result (λ w. IsStrictlyIncreasing w.workers.items) }
+        ensures consumed { All IsConsumed self.new }
+        ensures err { OnErr result (AreSameButNodes self.old self.new) }
+    {
+        let withdrawn = self.cores[search as usize].learn(place, outcome)?;
+        Ok(withdrawn)
+    }
+
+    /// The searches, ascending, some path of which asks for the outcome of a place, whether a worker tests it
+    /// there or not. No node is lost, also where memory runs out.
+    pub fn wanted(&mut self, place: u32) -> Result<Vec<u32>, AllocError>
+        ensures wanted { IfOk result (λ searches. AreWanting self.old place searches.items) }
+        ensures ascending { IfOk result (λ searches. IsStrictlyIncreasing searches.items) }
+        ensures same { AreSameButNodes self.old self.new }
+    {
+        let alloc = *self.cores.allocator();
+        wanting(alloc, self.cores.as_mut_slice(), place)
+    }
+
+    /// Whether nobody tests a place in a search, and its outcome is not known there.
+    pub fn is_free(&self, search: u32, place: u32) -> bool
+        ensures { IsTrue result ↔ IsFreeIn self.now search place }
+    {
+        match self.cores.as_slice().get(search as usize) {
+            Some(core) => core.is_free(place),
+            None => false,
+        }
     }
 
     /// Ends a claim that stands, without an outcome. No other search changes.
