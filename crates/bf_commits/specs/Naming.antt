@@ -1,5 +1,5 @@
 -- The name of a commit, and the pieces in which its body is hashed.
-use Rattle.std.specs.Prelude.{◌≡◌, ℕ, ◌+◌, ◌*◌, ◌≤◌, ◌^◌, MatchOption, List, [], ◌++◌, length, map, codes, Option, Some, None}
+use Rattle.std.specs.Prelude.{◌≡◌, ℕ, ◌+◌, ◌*◌, ◌≤◌, ◌^◌, MatchOption, List, [], ◌++◌, length, map, codes, Option, Some, None, unwrap_or}
 use Rattle.std.specs.List.{slice_index_or, flat_map}
 use Rattle.hex.specs.Hex.{encode_lower}
 use Rattle.bf_grammar.specs.declared.command.Header.{Header}
@@ -9,14 +9,19 @@ use Rattle.bf_oid.specs.Hashing.{Hashes}
 use Rattle.bf_oid.specs.Object.{name_of}
 use Rattle.bf_commits.specs.declared.body.Body.{Body}
 use Rattle.bf_history.specs.Bodies.{author_of, commit_body}
+use Rattle.bf_history.specs.Meanings.{original_of}
 
 -- the name of the commit at a place
 abbrev pub name_at : List Oid → ℕ → Oid
 name_at names place = slice_index_or names place (record { 0 = [] })
 
--- the name of the commit of a tree whose parents are at these places of the names
-abbrev pub commit_name : List ℕ → List ℕ → List Oid → Header → List ℕ
-commit_name tree parents names header = name_of kind.Commit (commit_body tree (map (name_at names) parents) header)
+-- the name that git gives the commit of a tree whose parents are at these places of the names
+abbrev pub hashed_name : List ℕ → List ℕ → List Oid → Header → Oid
+hashed_name tree parents names header = record { 0 = name_of kind.Commit (commit_body tree (map (name_at names) parents) header) }
+
+-- the name of a commit: the one that it had before it was exported, where that is kept
+abbrev pub commit_name : List ℕ → List ℕ → List Oid → Header → Oid
+commit_name tree parents names header = unwrap_or (original_of header) (hashed_name tree parents names header)
 
 -- the bytes of a body so far: those that were hashed, and behind them those that are held
 pub record IsBody (body : Body) (size : ℕ) (text : List ℕ) : Type 0 where

@@ -4,20 +4,23 @@ ghost use Rattle.hex.specs.Hex.{encode_lower};
 ghost use Rattle.bf_history.specs.Bodies.{author_of};
 ghost use Rattle.bf_oid.specs.declared.object.Kind.TheVariants as kind;
 ghost use Rattle.bf_oid.specs.Object.{name_of};
-ghost use Rattle.bf_commits.specs.Naming.{Adds, IsBody, IsLength, body_length, commit_name, encoding_line, header_lines, parent_lines};
+ghost use Rattle.bf_commits.specs.Naming.{Adds, IsBody, IsLength, body_length, commit_name, encoding_line, hashed_name, header_lines};
+ghost use Rattle.bf_commits.specs.Naming.{parent_lines};
+ghost use Rattle.bf_history.specs.Meanings.{original_of};
 
 use arrayvec::ArrayVec;
 use bf_grammar::Header;
 use bf_io::Bytes;
-use bf_oid::{Kind, ObjectHasher, Oid};
+use bf_oid::{Kind, ObjectHasher, Oid, oid_from_hex};
 use std::alloc::AllocError;
 
 /// The most bytes of a body that are held: as many as a commit of two parents has before its message, where its
 /// idents are short.
 const HELD: usize = 320;
 
-/// The name that git gives the commit of this tree with these parents, which are places of `names` and
-/// may repeat. An error comes only where its body has 2^64 bytes or more.
+/// The name of the commit of this tree with these parents, which are places of `names` and may repeat: its
+/// original one, where its header keeps that, and else the one that git gives it. An error comes only where
+/// its body has 2^64 bytes or more.
 pub fn commit_name(
     tree: Oid,
     parents: &[u32],
@@ -25,7 +28,34 @@ pub fn commit_name(
     header: &Header,
 ) -> Result<Oid, AllocError>
     requires { All (λ place. place < length names.now) parents.now }
-    ensures oid { IfOk result (λ oid. oid.0 ≡ commit_name tree.0 parents.now names.now header.now) }
+    ensures oid { IfOk result (λ oid. oid ≡ commit_name tree.0 parents.now names.now header.now) }
+    ensures large { OnErr result (2 ^ 64 ≤ body_length (length parents.now) header.now) }
+{
+    match original_name(header) {
+        Some(name) => Ok(name),
+        None => hashed_name(tree, parents, names, header),
+    }
+}
+
+/// The name that a commit had before it was exported, where its header keeps one of 40 hexadecimal digits.
+pub fn original_name(header: &Header) -> Option<Oid>
+    ensures { result ≡ original_of header.now }
+{
+    match &header.original {
+        Some(text) => oid_from_hex(text.as_slice()),
+        None => None,
+    }
+}
+
+/// The name that git gives a commit.
+fn hashed_name(
+    tree: Oid,
+    parents: &[u32],
+    names: &[Oid],
+    header: &Header,
+) -> Result<Oid, AllocError>
+    requires { All (λ place. place < length names.now) parents.now }
+    ensures oid { IfOk result (λ oid. oid ≡ hashed_name tree.0 parents.now names.now header.now) }
     ensures large { OnErr result (2 ^ 64 ≤ body_length (length parents.now) header.now) }
 {
     let length = body_length(parents.len() as u64, header).ok_or(AllocError)?;

@@ -7,7 +7,7 @@ mod contents;
 mod edits;
 mod subject;
 
-pub use body::commit_name;
+pub use body::{commit_name, original_name};
 pub use contents::{Contents, LetGo};
 pub use edits::edits_of;
 pub use subject::into_subject;

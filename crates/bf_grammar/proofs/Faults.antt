@@ -322,9 +322,9 @@ own-mark_at limits = own-optional limits (codes "mark") mark_of own-mark_of
 own-original_oid_at : (limits : Limits) → Own (original_oid_at limits)
 unfolding original_oid_at
 own-original_oid_at limits =
-    own-then (optional limits (codes "original-oid") (λ line. text_after line (codes "original-oid"))) (λ _. pure tt)
+    own-then (optional limits (codes "original-oid") (λ line. text_after line (codes "original-oid"))) _
     (own-optional limits (codes "original-oid") (λ line. text_after line (codes "original-oid")) (λ line. own-text_after line (codes "original-oid")))
-    (λ _ p. tt)
+    (λ text p. tt)
 
 own-author_at : (limits : Limits) (word : List ℕ) → Own (author_at limits word)
 unfolding author_at
@@ -409,23 +409,23 @@ own-blob_at limits line =
 own-header_at : (limits : Limits) → Own (header_at limits)
 unfolding header_at
 own-header_at limits =
-    own-then (author_at limits (codes "author")) _ (own-author_at limits (codes "author"))
+    own-then (original_oid_at limits) _ (own-original_oid_at limits)
+    (λ original. own-then (author_at limits (codes "author")) _ (own-author_at limits (codes "author"))
     (λ author. own-then (committer_at limits) _ (own-committer_at limits)
     (λ committer. own-then (encoding_at limits) _ (own-encoding_at limits)
     (λ encoding. own-then (no_signature_at limits) _ (own-no_signature_at limits)
     (λ _. own-then (data_at limits) _ (own-data_at limits)
-    (λ message p. tt)))))
+    (λ message p. tt))))))
 
 own-commit_at : (limits : Limits) (line : ℕ) (branch : List ℕ) → Own (commit_at limits line branch)
 unfolding commit_at
 own-commit_at limits line branch =
     own-then (mark_at limits) _ (own-mark_at limits)
-    (λ mark. own-then (original_oid_at limits) _ (own-original_oid_at limits)
-    (λ _. own-then (header_at limits) _ (own-header_at limits)
+    (λ mark. own-then (header_at limits) _ (own-header_at limits)
     (λ header. own-then (target_at limits (codes "from")) _ (own-target_at limits (codes "from"))
     (λ from. own-then (merges_at limits) _ (own-merges_at limits)
     (λ merges. own-then (changes_at limits) _ (own-changes_at limits)
-    (λ changes p. tt))))))
+    (λ changes p. tt)))))
 
 own-tag_at : (limits : Limits) (line : ℕ) (name : List ℕ) → Own (tag_at limits line name)
 unfolding tag_at

@@ -1,13 +1,14 @@
 -- Worked streams, by computation: each is these commands, and ends so.
-use Rattle.std.specs.Prelude.{ℕ, List, [], ◌∷◌, ◌++◌, codes, Some, None, refl}
+use Rattle.std.specs.Prelude.{ℕ, Option, List, [], ◌∷◌, ◌++◌, codes, Some, None, false, refl}
 use Rattle.bf_grammar.specs.declared.command.Change.TheVariants.{Modify, Delete, DeleteAll}
+use Rattle.bf_grammar.specs.declared.command.Command.{Command}
 use Rattle.bf_grammar.specs.declared.command.Command.TheVariants.{Blob, Commit, Tag, Reset, Progress, Feature}
 use Rattle.bf_grammar.specs.declared.command.DataRef.TheVariants.{Inline, Mark, Name}
 use Rattle.bf_grammar.specs.declared.fault.Limit.TheVariants.{Line, Data, Stream}
 use Rattle.bf_grammar.specs.declared.fault.Limits.{Limits}
 use Rattle.bf_grammar.specs.declared.fault.StreamFault.TheVariants.{Syntax, Unsupported, Truncated, NoDone, TooLarge}
 use Rattle.bf_oid.specs.declared.object.Mode.TheVariants.{Plain, Exec}
-use Rattle.bf_grammar.specs.Limits.{standard_limits}
+use Rattle.bf_grammar.specs.Limits.{standard_limits, with_original_names}
 use Rattle.bf_grammar.specs.Lines.{next_front, at_word, must_be_at, at_command, skip_end_of_line, bytes_at, delimited_at}
 use Rattle.bf_grammar.specs.Forms.{mark_of, ident_of, encoding_of, data_form, modify_form, head_of}
 use Rattle.bf_grammar.specs.Commands.{mark_at, original_oid_at, author_at, committer_at, encoding_at, no_signature_at, target_at, from_at, data_at}
@@ -48,13 +49,34 @@ commit : IsStream (codes "commit refs/heads/x\ncommitter <> 1 -1400\ndata <<E\nm
   line = 1;
   branch = codes "refs/heads/x";
   mark = None;
-  header = record { author = None; committer = codes "<> 1 -1400"; encoding = None; message = codes "m\n" };
+  header = record { original = None; author = None; committer = codes "<> 1 -1400"; encoding = None; message = codes "m\n" };
   from = None;
   merges = [];
   changes = Modify 6 Plain (Inline (codes "z")) (codes "a") ∷ [];
 }) ∷ []) None
 unfolding grammar
 commit = (_, refl, (_, refl))
+
+-- a commit keeps the name that it had, whatever its text, where that is asked for alone
+named : Option (List ℕ) → List Command
+named original = Commit (record {
+  line = 1;
+  branch = codes "refs/heads/x";
+  mark = None;
+  header = record { original = original; author = None; committer = codes "<> 1 -1400"; encoding = None; message = codes "m" };
+  from = None;
+  merges = [];
+  changes = [];
+}) ∷ []
+
+dropped_name : IsStream (codes "commit refs/heads/x\noriginal-oid abc\ncommitter <> 1 -1400\ndata 1\nm") standard_limits (named None) None
+unfolding grammar named
+dropped_name = (_, refl, (_, refl))
+
+kept_name : IsStream (codes "commit refs/heads/x\noriginal-oid abc\ncommitter <> 1 -1400\ndata 1\nm")
+    (with_original_names standard_limits) (named (Some (codes "abc"))) None
+unfolding grammar named
+kept_name = (_, refl, (_, refl))
 
 -- a commit of an export without contents, with all its parts
 exported_text : List ℕ
@@ -69,6 +91,7 @@ exported : IsStream exported_text standard_limits
       branch = codes "refs/heads/main";
       mark = Some 4;
       header = record {
+        original = None;
         author = Some (codes "Bo <b@e> 1700000100 -0530");
         committer = codes "Ann Lee <a@e> 1700000400 +0100";
         encoding = None;
@@ -95,7 +118,7 @@ two_ends : IsStream (codes "commit refs/heads/x\ncommitter <> 1 -1400\ndata 1\nm
   line = 1;
   branch = codes "refs/heads/x";
   mark = None;
-  header = record { author = None; committer = codes "<> 1 -1400"; encoding = None; message = codes "m" };
+  header = record { original = None; author = None; committer = codes "<> 1 -1400"; encoding = None; message = codes "m" };
   from = None;
   merges = [];
   changes = [];
@@ -113,7 +136,7 @@ second_from : IsStream (codes "commit refs/heads/x\ncommitter <> 1 -1400\ndata 1
   line = 1;
   branch = codes "refs/heads/x";
   mark = None;
-  header = record { author = None; committer = codes "<> 1 -1400"; encoding = None; message = codes "m" };
+  header = record { original = None; author = None; committer = codes "<> 1 -1400"; encoding = None; message = codes "m" };
   from = Some (record { line = 5; text = codes ":1" });
   merges = [];
   changes = [];
@@ -173,7 +196,7 @@ zone = refl
 -- A line that is too long is refused, a comment too. Behind a whole command it stands for the next one, unless it
 -- is a part of the command.
 narrow : Limits
-narrow = record { line = 8; part = 3; stream = 24; commits = 1; entries = 1 }
+narrow = record { line = 8; part = 3; stream = 24; commits = 1; entries = 1; original_names = false }
 
 long_comment : IsStream (codes "reset r\n#23456789\n") narrow [] (Some (TooLarge Line))
 unfolding grammar narrow

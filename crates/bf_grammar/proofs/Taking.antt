@@ -28,8 +28,8 @@ never_back-mark_at limits = never_back-optional limits (codes "mark") mark_of
 
 pub never_back-original_oid_at : (limits : Limits) → NeverBack (original_oid_at limits)
 unfolding original_oid_at
-never_back-original_oid_at limits = never_back-then (optional limits (codes "original-oid") (λ line. text_after line (codes "original-oid"))) (λ _. pure tt)
-    (never_back-optional limits (codes "original-oid") (λ line. text_after line (codes "original-oid"))) (λ _. never_back-pure tt)
+never_back-original_oid_at limits = never_back-then (optional limits (codes "original-oid") (λ line. text_after line (codes "original-oid"))) _
+    (never_back-optional limits (codes "original-oid") (λ line. text_after line (codes "original-oid"))) (λ text. never_back-pure _)
 
 pub never_back-author_at : (limits : Limits) (word : List ℕ) → NeverBack (author_at limits word)
 unfolding author_at
@@ -110,23 +110,23 @@ never_back-blob_at limits line =
 pub never_back-header_at : (limits : Limits) → NeverBack (header_at limits)
 unfolding header_at
 never_back-header_at limits =
-    never_back-then (author_at limits (codes "author")) _ (never_back-author_at limits (codes "author"))
+    never_back-then (original_oid_at limits) _ (never_back-original_oid_at limits)
+    (λ original. never_back-then (author_at limits (codes "author")) _ (never_back-author_at limits (codes "author"))
     (λ author. never_back-then (committer_at limits) _ (never_back-committer_at limits)
     (λ committer. never_back-then (encoding_at limits) _ (never_back-encoding_at limits)
     (λ encoding. never_back-then (no_signature_at limits) _ (never_back-no_signature_at limits)
     (λ _. never_back-then (data_at limits) _ (never_back-data_at limits)
-    (λ message. never_back-pure _)))))
+    (λ message. never_back-pure _))))))
 
 pub never_back-commit_at : (limits : Limits) (line : ℕ) (branch : List ℕ) → NeverBack (commit_at limits line branch)
 unfolding commit_at
 never_back-commit_at limits line branch =
     never_back-then (mark_at limits) _ (never_back-mark_at limits)
-    (λ mark. never_back-then (original_oid_at limits) _ (never_back-original_oid_at limits)
-    (λ _. never_back-then (header_at limits) _ (never_back-header_at limits)
+    (λ mark. never_back-then (header_at limits) _ (never_back-header_at limits)
     (λ header. never_back-then (target_at limits (codes "from")) _ (never_back-target_at limits (codes "from"))
     (λ from. never_back-then (merges_at limits) _ (never_back-merges_at limits)
     (λ merges. never_back-then (changes_at limits) _ (never_back-changes_at limits)
-    (λ changes. never_back-pure _))))))
+    (λ changes. never_back-pure _)))))
 
 pub never_back-tag_at : (limits : Limits) (line : ℕ) (name : List ℕ) → NeverBack (tag_at limits line name)
 unfolding tag_at

@@ -1,5 +1,5 @@
 -- The commands of a stream (git-fast-import(1)), part by part.
-use Rattle.std.specs.Prelude.{ℕ, true, List, [], ◌∷◌, ◌++◌, codes, Option, Some, None, Result, Ok, Err, if◌then◌else◌, ◌⊎◌}
+use Rattle.std.specs.Prelude.{ℕ, Bool, true, false, List, [], ◌∷◌, ◌++◌, codes, Option, Some, None, Result, Ok, Err, if◌then◌else◌, ◌⊎◌}
 use Rattle.std.proofs.Common.{inl, inr}
 use Rattle.bf_grammar.specs.declared.command.Change.{Change}
 use Rattle.bf_grammar.specs.declared.command.Change.TheVariants.{Modify, Delete, DeleteAll}
@@ -42,9 +42,15 @@ required limits word part = must_be_at limits word >>= λ _. part
 unfoldable pub mark_at : Limits → Reading (Option ℕ)
 mark_at limits = optional limits (codes "mark") mark_of
 
--- its text is dropped
-unfoldable pub original_oid_at : Limits → Reading (Unit {0})
-original_oid_at limits = optional limits (codes "original-oid") (λ line. text_after line (codes "original-oid")) >>= (λ _. pure tt)
+-- what is asked for is kept, and else dropped
+abbrev pub where_asked : {X : Type 0} → Bool → Option X → Option X
+where_asked true kept = kept
+where_asked false kept = None
+
+-- the name that an object had before it was exported, where such names are asked for
+unfoldable pub original_oid_at : Limits → Reading (Option (List ℕ))
+original_oid_at limits =
+    optional limits (codes "original-oid") (λ line. text_after line (codes "original-oid")) >>= (λ text. pure (where_asked limits.original_names text))
 
 unfoldable pub author_at : Limits → List ℕ → Reading (Option (List ℕ))
 author_at limits word = optional limits word (λ line. ident_of line word)
@@ -152,20 +158,20 @@ blob_at limits line = do
   content ← data_at limits
   pure (Blob line mark content)
 
--- who wrote a commit, who committed it, its encoding and its message
+-- the name that a commit had, who wrote it, who committed it, its encoding and its message
 unfoldable pub header_at : Limits → Reading Header
 header_at limits = do
+  original ← original_oid_at limits
   author ← author_at limits (codes "author")
   committer ← committer_at limits
   encoding ← encoding_at limits
   _ ← no_signature_at limits
   message ← data_at limits
-  pure (record { author = author; committer = committer; encoding = encoding; message = message })
+  pure (record { original = original; author = author; committer = committer; encoding = encoding; message = message })
 
 unfoldable pub commit_at : Limits → ℕ → List ℕ → Reading Command
 commit_at limits line branch = do
   mark ← mark_at limits
-  _ ← original_oid_at limits
   header ← header_at limits
   from ← target_at limits (codes "from")
   merges ← merges_at limits

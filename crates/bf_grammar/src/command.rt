@@ -53,6 +53,9 @@ pub type Changes = List<Change>;
 /// What a commit says of itself beside its tree and its parents: bytes as the stream gives them.
 #[derive(Debug, Drop)]
 pub struct Header {
+    /// The name that it had before it was exported, as its line `original-oid` gives it: where such names
+    /// are asked for.
+    pub original: Option<Bytes>,
     /// Who wrote it and when. Without an author the committer stands for it.
     pub author: Option<Bytes>,
     /// Who committed it and when.

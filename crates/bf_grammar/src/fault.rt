@@ -1,7 +1,7 @@
 //! The limits on a stream, and the ways in which a stream is refused.
 ghost use Rattle.std.specs.Prelude.{◌≡◌};
 ghost use Rattle.bf_grammar.specs.declared.fault.StreamFault.TheVariants as faults;
-ghost use Rattle.bf_grammar.specs.Limits.{standard_limits};
+ghost use Rattle.bf_grammar.specs.Limits.{standard_limits, with_original_names};
 
 use bf_io::Failed;
 use std::alloc::{AllocError, AllocFailed};
@@ -24,7 +24,7 @@ pub enum Limit {
     Log,
 }
 
-/// The limits on a stream.
+/// The limits on a stream, and by which names its commits are known.
 #[derive(Clone, Copy, Debug, PartialEq, Eq)]
 pub struct Limits {
     /// The most bytes of a line, without its LF.
@@ -37,6 +37,9 @@ pub struct Limits {
     pub commits: u32,
     /// The most entries of the different trees together.
     pub entries: u32,
+    /// Whether each commit keeps the name of its line `original-oid`, as `git fast-export
+    /// --show-original-ids` writes it, in place of the name that is computed from what it is here.
+    pub original_names: bool,
 }
 
 impl Limits {
@@ -50,6 +53,17 @@ impl Limits {
             stream: 1_073_741_824,
             commits: 100_000,
             entries: 40_000_000,
+            original_names: false,
+        }
+    }
+
+    /// The same limits, where each commit keeps the name that it had before it was exported.
+    pub fn with_original_names(self) -> Limits
+        ensures { result ≡ with_original_names self }
+    {
+        Limits {
+            original_names: true,
+            ..self
         }
     }
 }
@@ -57,7 +71,8 @@ impl Limits {
 /// Why no further command of a stream came. Lines are counted from 1.
 #[derive(Clone, Copy, Debug, Drop, PartialEq, Eq, Error)]
 pub enum StreamFault {
-    /// A line that is not in its form, or that stands where a part must stand.
+    /// A line that is not in its form, or that stands where a part must stand. An import says so of a
+    /// commit that lacks its original name, too.
     #[error("line {line}: syntax")]
     Syntax { line: u64 },
     /// A command, feature, date or mode of git that is not taken here.

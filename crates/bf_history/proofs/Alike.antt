@@ -17,7 +17,7 @@ use Rattle.bf_history.specs.Contents.{Blobs, Content, after_command_over, behind
 use Rattle.bf_history.specs.Imports.{loaded}
 use Rattle.bf_history.specs.Laws.{LoadsAlike}
 use Rattle.bf_history.specs.Meanings.{Loading, nothing_loaded, after_command, after_commit, after_edits, begins_with, content_named, each_of, edit_of, path_at, place_of_target}
-use Rattle.bf_history.specs.Meanings.{within_limits}
+use Rattle.bf_history.specs.Meanings.{after_named, lacks_name, within_limits}
 
 -- what is meant over blobs is meant without, but where a content is lacking
 abbrev pub Agrees : {X Y : Type 0} → (X → Y) → Result X ImportFault → Result Y ImportFault → Type 0
@@ -68,6 +68,12 @@ checked : (test : Bool) (line : ℕ) (edit : Edit) → Agrees (λ (e : Edit). e)
 checked true line edit = refl
 checked false line edit = tt
 
+-- what is refused on both sides for the same, or agrees
+either_agrees : (test : Bool) (fault : ImportFault) (one other : Result Loading ImportFault) → Agrees (λ (l : Loading). l) one other
+    → Agrees (λ (l : Loading). l) (if test then Err fault else one) (if test then Err fault else other)
+either_agrees true fault one other agrees = agrees_itself (Err fault)
+either_agrees false fault one other agrees = agrees
+
 module _ (marks : List (ℕ × Marked)) where
   edit_agrees : (blobs : Blobs) (change : Change) → Agrees (λ (e : Edit). e) (edit_over blobs marks change) (edit_of marks change)
   unfolding edit_over edit_of
@@ -86,15 +92,20 @@ module _ (marks : List (ℕ × Marked)) where
       (each_of (edit_of marks) changes) _ _ (edits_agree (behind_change blobs change) changes) (λ edits. refl))
 
 module _ (limits : Limits) where
-  commit_agrees : (blobs : Blobs) (loading : Loading) (given : given.Commit)
-      → Agrees (λ (l : Loading). l) (after_edits limits loading given (edits_over blobs loading.marks given.changes)) (after_commit limits loading given)
-  unfolding after_commit
-  commit_agrees blobs loading given =
+  named_agrees : (blobs : Blobs) (loading : Loading) (given : given.Commit)
+      → Agrees (λ (l : Loading). l) (after_named limits loading given (edits_over blobs loading.marks given.changes))
+      (after_named limits loading given (each_of (edit_of loading.marks) given.changes))
+  named_agrees blobs loading given =
       agrees_on (λ (l : Loading). l) (begins_with loading given.branch given.from) _ _
       (λ first. agrees_on (λ (l : Loading). l) (each_of (place_of_target faults.BadFrom loading) given.merges) _ _
       (λ others. agrees_then (λ (e : List Edit). e) (λ (l : Loading). l) (edits_over blobs loading.marks given.changes)
       (each_of (edit_of loading.marks) given.changes) _ _ (edits_agree loading.marks blobs given.changes)
       (λ edits. agrees_itself (within_limits limits _ >>= λ history. Ok _))))
+
+  commit_agrees : (blobs : Blobs) (loading : Loading) (given : given.Commit)
+      → Agrees (λ (l : Loading). l) (after_edits limits loading given (edits_over blobs loading.marks given.changes)) (after_commit limits loading given)
+  unfolding after_commit
+  commit_agrees blobs loading given = either_agrees (lacks_name limits loading.history given.header) _ _ _ (named_agrees blobs loading given)
 
   command_agrees : (blobs : Blobs) (loading : Loading) (given : Command)
       → Agrees (λ (l : Loading). l) (after_command_over limits blobs loading given) (after_command limits loading given)

@@ -14,6 +14,7 @@ use Rattle.bf_grammar.specs.declared.command.DataRef.TheVariants as dataref
 use Rattle.bf_grammar.specs.declared.command.Target.{Target}
 use Rattle.bf_grammar.specs.declared.fault.Limits.{Limits}
 use Rattle.bf_grammar.specs.declared.fault.StreamFault.{StreamFault}
+use Rattle.bf_grammar.specs.declared.fault.StreamFault.TheVariants.{Syntax}
 use Rattle.bf_grammar.specs.Forms.{◌>>=◌}
 use Rattle.bf_oid.specs.declared.object.Kind.TheVariants as kind
 use Rattle.bf_oid.specs.declared.object.Mode.{Mode}
@@ -33,7 +34,7 @@ use Rattle.bf_history.specs.Furnished.{EditHas, IsFurnishedOver, MarkHas, MarksH
 use Rattle.bf_history.specs.Laws.{IsNamed, IsWhole}
 use Rattle.bf_history.specs.Meanings.{Commit, History, Loading, after_command, after_edits, after_reset, after_tag, begins_with, blob_marked, commit_on, content_named}
 use Rattle.bf_history.specs.Meanings.{each_of, edit_of, files_from, is_module, nothing_loaded, is_no_name, mark_in, path_at, place_of_target, stood}
-use Rattle.bf_history.specs.Meanings.{with_commit, with_mark, with_ref, within_limits, without_ref}
+use Rattle.bf_history.specs.Meanings.{after_named, lacks_name, with_commit, with_mark, with_ref, within_limits, without_ref}
 use Rattle.bf_history.specs.Named.{value_of, with_value}
 use Rattle.bf_history.proofs.Steps.{within_same}
 
@@ -282,10 +283,10 @@ marked_with blobs None what marks here has = has
 marked_with blobs (Some number) what marks here has = set_stands (MarkHas blobs) ◌==◌ number what here marks has
 
 module _ (limits : Limits) (blobs : Blobs) (loading : Loading) (has : IsFurnishedOver blobs loading) where
-  commit_there : (given : given.Commit)
-      → IfOk (after_edits limits loading given (edits_over blobs loading.marks given.changes)) (IsFurnishedOver (fold behind_change blobs given.changes))
+  named_there : (given : given.Commit)
+      → IfOk (after_named limits loading given (edits_over blobs loading.marks given.changes)) (IsFurnishedOver (fold behind_change blobs given.changes))
   unfolding with_commit commit_on
-  commit_there given =
+  named_there given =
       let last = fold behind_change blobs given.changes in
       let grows = more_changes blobs given.changes in
       let kept = All-weaker (All (Has blobs)) (All (Has last)) (All-weaker (Has blobs) (Has last) (file_keeps blobs last grows)) loading.history.files has.files in
@@ -301,6 +302,16 @@ module _ (limits : Limits) (blobs : Blobs) (loading : Loading) (has : IsFurnishe
         marks = marked_with last given.mark (marked.Commit _) loading.marks tt (marks_keep blobs last grows loading.marks has.marks);
         files = files;
       }))))
+
+  commit_there : (given : given.Commit)
+      → IfOk (after_edits limits loading given (edits_over blobs loading.marks given.changes)) (IsFurnishedOver (fold behind_change blobs given.changes))
+  commit_there given = go (lacks_name limits loading.history given.header)
+    where
+      go : (test : Bool) → IfOk
+          (if test then Err (faults.Stream (Syntax given.line)) else after_named limits loading given (edits_over blobs loading.marks given.changes))
+          (IsFurnishedOver (fold behind_change blobs given.changes))
+      go true = tt
+      go false = named_there given
 
   reset_there : (branch : List ℕ) (from : Option Target) → IfOk (after_reset loading branch from) (IsFurnishedOver blobs)
   unfolding after_reset

@@ -1,6 +1,6 @@
 -- What each command of a stream does to the history so far (git-fast-import(1)), or how it is refused.
 use Rattle.std.specs.Prelude.{ℕ, ◌-◌, Bool, true, false, ◌==◌, ◌&&◌, nat_lt, List, [], ◌∷◌, ◌++◌, length, take, map, codes, Option, Some, None}
-use Rattle.std.specs.Prelude.{unwrap_or, Result, Ok, Err, if◌then◌else◌}
+use Rattle.std.specs.Prelude.{unwrap_or, is_none, not, option_and_then, Result, Ok, Err, if◌then◌else◌}
 use Rattle.std.specs.List.{list_all, ends_with, position, slice_index_or}
 use Rattle.std.specs.Option.{option_to_list, ok_or}
 use Rattle.bf_grammar.specs.declared.command.Change.{Change}
@@ -14,6 +14,7 @@ use Rattle.bf_grammar.specs.declared.command.Header.{Header}
 use Rattle.bf_grammar.specs.declared.command.Target.{Target}
 use Rattle.bf_grammar.specs.declared.fault.Limit.TheVariants.{Commits, Entries}
 use Rattle.bf_grammar.specs.declared.fault.Limits.{Limits}
+use Rattle.bf_grammar.specs.declared.fault.StreamFault.TheVariants.{Syntax}
 use Rattle.bf_oid.specs.declared.object.Kind.TheVariants as kind
 use Rattle.bf_oid.specs.declared.object.Mode.{Mode}
 use Rattle.bf_oid.specs.declared.object.Mode.TheVariants.{Plain, Exec, Link, Module}
@@ -26,7 +27,7 @@ use Rattle.bf_forest.specs.declared.edits.Edit.TheVariants.{Set, Remove, Clear}
 use Rattle.bf_forest.specs.Files.{Files, edited, is_same}
 use Rattle.bf_forest.specs.Trees.{tree_name, with_directories, entries_of}
 use Rattle.bf_history.specs.declared.fault.ImportFault.{ImportFault}
-use Rattle.bf_history.specs.declared.fault.ImportFault.TheVariants.{BadFrom, BadMark, BadPath, Unsupported, TooLarge}
+use Rattle.bf_history.specs.declared.fault.ImportFault.TheVariants.{Stream, BadFrom, BadMark, BadPath, Unsupported, TooLarge}
 use Rattle.bf_history.specs.declared.marked.Marked.{Marked}
 use Rattle.bf_history.specs.declared.marked.Marked.TheVariants as marked
 use Rattle.bf_history.specs.Bodies.{commit_body, subject_of}
@@ -138,12 +139,25 @@ files_from history (Some place) = slice_index_or history.files place []
 abbrev pub name_at : History → ℕ → Oid
 name_at history place = slice_index_or history.names place (record { 0 = [] })
 
+-- the name that a commit had before it was exported, where it is kept: 40 hexadecimal digits
+unfoldable pub original_of : Header → Option Oid
+original_of header = option_and_then oid_of_hex header.original
+
+-- there is a name, and none of these commits has it
+abbrev pub is_free : List Oid → Option Oid → Bool
+is_free names None = false
+is_free names (Some name) = is_none (place_named names name)
+
+-- original names are asked for, and a commit has none, or that of another
+unfoldable pub lacks_name : Limits → History → Header → Bool
+lacks_name limits history header = limits.original_names && not (is_free history.names (original_of header))
+
 unfoldable pub commit_on : History → List ℕ → Files → Header → Commit
 commit_on history parents files header = record {
   parents = parents;
   files = files;
   subject = subject_of header.message;
-  name = record { 0 = name_of kind.Commit (commit_body (tree_name files) (map (name_at history) parents) header) };
+  name = unwrap_or (original_of header) (record { 0 = name_of kind.Commit (commit_body (tree_name files) (map (name_at history) parents) header) });
 }
 
 -- The history with one more commit; one of a name that stands there already adds its directories alone.
@@ -190,9 +204,9 @@ is_no_name text = length text == 40 && list_all (λ byte. byte == 48) text
 
 -- ---- commands
 
--- what a commit does whose edits mean this
-abbrev pub after_edits : Limits → Loading → given.Commit → Result (List Edit) ImportFault → Result Loading ImportFault
-after_edits limits loading given meant = do
+-- what a commit does that has its name, and whose edits mean this
+abbrev pub after_named : Limits → Loading → given.Commit → Result (List Edit) ImportFault → Result Loading ImportFault
+after_named limits loading given meant = do
   first ← begins_with loading given.branch given.from
   others ← each_of (place_of_target BadFrom loading) given.merges
   edits ← meant
@@ -204,6 +218,11 @@ after_edits limits loading given meant = do
     history = with_ref given.branch place history;
     marks = with_mark given.mark (marked.Commit place) loading.marks;
   })
+
+-- what a commit does whose edits mean this; one that lacks its name is refused at its line
+abbrev pub after_edits : Limits → Loading → given.Commit → Result (List Edit) ImportFault → Result Loading ImportFault
+after_edits limits loading given meant =
+    if lacks_name limits loading.history given.header then Err (Stream (Syntax given.line)) else after_named limits loading given meant
 
 unfoldable pub after_commit : Limits → Loading → given.Commit → Result Loading ImportFault
 after_commit limits loading given = after_edits limits loading given (each_of (edit_of loading.marks) given.changes)

@@ -7,11 +7,12 @@ use bf_grammar::{Limit, StreamFault};
 use std::alloc::{AllocError, AllocFailed};
 use thiserror::Error;
 
-/// Why a stream gave no history. Lines are counted from 1, and are those of the target or of the change
-/// that is refused.
+/// Why a stream gave no history. Lines are counted from 1, and are those of the target, of the change or of
+/// the commit that is refused.
 #[derive(Clone, Copy, Debug, Drop, PartialEq, Eq, Error)]
 pub enum ImportFault {
-    /// The stream is refused for its form, or could not be read. Want of memory has its own variant.
+    /// The stream is refused for its form, or for a commit that lacks its original name, or it could not be
+    /// read. Want of memory has its own variant.
     #[error("{0}")]
     Stream(StreamFault),
     /// A target that names no commit.

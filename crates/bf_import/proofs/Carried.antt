@@ -12,8 +12,9 @@ use Rattle.bf_oid.specs.declared.object.Oid.{Oid}
 use Rattle.bf_grammar.specs.Forms.{colon_number, ◌>>=◌}
 use Rattle.bf_oid.specs.Object.{oid_of_hex}
 use Rattle.bf_forest.specs.declared.edits.Edit.{Edit}
+use Rattle.bf_grammar.specs.declared.fault.StreamFault.TheVariants.{Syntax}
 use Rattle.bf_history.specs.declared.fault.ImportFault.{ImportFault}
-use Rattle.bf_history.specs.declared.fault.ImportFault.TheVariants.{BadFrom, Unsupported}
+use Rattle.bf_history.specs.declared.fault.ImportFault.TheVariants.{BadFrom, Stream, Unsupported}
 use Rattle.bf_history.specs.declared.marked.Marked.{Marked}
 use Rattle.bf_history.specs.declared.marked.Marked.TheVariants as marked
 use Rattle.bf_history.specs.Contents.{after_command_over, blobs_behind}
@@ -21,7 +22,7 @@ use Rattle.bf_history.specs.Imports.{Means}
 use Rattle.bf_history.specs.Keeping.{Kept, command_meant, edits_meant, kept_behind, kept_behind_all, kept_with}
 use Rattle.bf_history.specs.Meanings.{History, Loading, each_of, mark_in, ref_in, place_named, ref_of_target, commit_marked, place_by, place_of_target}
 use Rattle.bf_history.specs.Meanings.{begins_with, place_of_commit, with_ref, without_ref, with_mark, is_no_name, after_command, after_commit, after_edits}
-use Rattle.bf_history.specs.Meanings.{after_reset}
+use Rattle.bf_history.specs.Meanings.{after_named, after_reset, lacks_name}
 use Rattle.bf_history.proofs.Meant.{means_refused, means_same, means_passed_on, means_then}
 use Rattle.bf_import.specs.declared.targets.Role.{Role}
 use Rattle.bf_import.specs.Growing.{Importing, StandsBelow, after_parts, blob_name, commit_from, joined, mark_set, parents_given, ref_set, with_place}
@@ -206,7 +207,7 @@ module _ (limits : Limits) (loading : Loading) (given : given.Commit) (meant : R
   with_first : Option ℕ → Result Loading ImportFault
   with_first first = parents_given loading first given.merges >>= with_parents first
 
-  commit_meant : (begins_with loading given.branch given.from >>= with_first) ≡ after_edits limits loading given meant
+  commit_meant : (begins_with loading given.branch given.from >>= with_first) ≡ after_named limits loading given meant
   unfolding with_first with_parents
   commit_meant = go (begins_with loading given.branch given.from)
     where
@@ -216,43 +217,43 @@ module _ (limits : Limits) (loading : Loading) (given : given.Commit) (meant : R
       go (Err fault) = refl
 
   module _ {X : Type 0} (view : X → Loading) (result : Result X ImportFault) where
-    commit_same : Means view result (begins_with loading given.branch given.from >>= with_first) → Means view result (after_edits limits loading given meant)
-    commit_same = means_same view result (begins_with loading given.branch given.from >>= with_first) (after_edits limits loading given meant) commit_meant
+    commit_same : Means view result (begins_with loading given.branch given.from >>= with_first) → Means view result (after_named limits loading given meant)
+    commit_same = means_same view result (begins_with loading given.branch given.from >>= with_first) (after_named limits loading given meant) commit_meant
 
     pub first_refused : (fault : ImportFault) → IsErrAnd result (λ other. other ≡ fault)
         → Means (λ (place : Option ℕ). place) (Err fault) (begins_with loading given.branch given.from)
-        → Means view result (after_edits limits loading given meant)
+        → Means view result (after_named limits loading given meant)
     first_refused fault exit means = commit_same (means_passed_on (λ (place : Option ℕ). place) view (begins_with loading given.branch given.from) with_first
         fault result exit means)
 
     module _ (first : Option ℕ) (first_is : begins_with loading given.branch given.from ≡ Ok first) where
-      from_first : Means view result (with_first first) → Means view result (after_edits limits loading given meant)
+      from_first : Means view result (with_first first) → Means view result (after_named limits loading given meant)
       from_first means = commit_same (means_then (λ (place : Option ℕ). place) view (begins_with loading given.branch given.from) with_first first result
           first_is means)
 
       pub parents_refused : {V : Type 0} (other : V → List ℕ) (fault : ImportFault) → IsErrAnd result (λ other. other ≡ fault)
           → Means other (Err fault) (parents_given loading first given.merges)
-          → Means view result (after_edits limits loading given meant)
+          → Means view result (after_named limits loading given meant)
       unfolding with_first
       parents_refused other fault exit means = from_first
           (means_passed_on other view (parents_given loading first given.merges) (with_parents first) fault result exit means)
 
       module _ (parents : List ℕ) (parents_are : parents_given loading first given.merges ≡ Ok parents) where
-        from_parents : Means view result (with_parents first parents) → Means view result (after_edits limits loading given meant)
+        from_parents : Means view result (with_parents first parents) → Means view result (after_named limits loading given meant)
         unfolding with_first
         from_parents means = from_first (means_then (λ (places : List ℕ). places) view (parents_given loading first given.merges) (with_parents first) parents
             result parents_are means)
 
         pub edits_refused : {V : Type 0} (other : V → List Edit) (fault : ImportFault) → IsErrAnd result (λ other. other ≡ fault)
             → Means other (Err fault) meant
-            → Means view result (after_edits limits loading given meant)
+            → Means view result (after_named limits loading given meant)
         unfolding with_parents
         edits_refused other fault exit means =
             from_parents (means_passed_on other view meant
             (λ edits. after_parts limits loading given first parents edits) fault result exit means)
 
         module _ (edits : List Edit) (edits_are : meant ≡ Ok edits) where
-          pub from_edits : Means view result (after_parts limits loading given first parents edits) → Means view result (after_edits limits loading given meant)
+          pub from_edits : Means view result (after_parts limits loading given first parents edits) → Means view result (after_named limits loading given meant)
           unfolding with_parents
           from_edits means =
               from_parents (means_then (λ (all : List Edit). all) view meant
@@ -261,11 +262,24 @@ module _ (limits : Limits) (loading : Loading) (given : given.Commit) (meant : R
           -- the commit is past a limit
           pub limits_passed : {V : Type 0} (other : V → History) (fault : ImportFault) → IsErrAnd result (λ other. other ≡ fault)
               → Means other (Err fault) (joined limits loading.history (commit_from loading.history first parents edits given.header))
-              → Means view result (after_edits limits loading given meant)
+              → Means view result (after_named limits loading given meant)
           limits_passed other fault exit means =
               let commit = commit_from loading.history first parents edits given.header in
               from_edits (means_passed_on other view (joined limits loading.history commit)
               (λ (history : History). Ok (with_place loading given (place_of_commit loading.history commit) history)) fault result exit means)
+
+-- a commit is refused that lacks its name
+pub nameless_refused : {X : Type 0} (view : X → Loading) (limits : Limits) (loading : Loading) (given : given.Commit) (meant : Result (List Edit) ImportFault)
+    → lacks_name limits loading.history given.header ≡ true
+    → Means view (Err (Stream (Syntax given.line))) (after_edits limits loading given meant)
+nameless_refused view limits loading given meant lacks = rw lacks refl
+
+-- what is meant by a commit that has its name is meant
+pub named_carried : {X : Type 0} (view : X → Loading) (limits : Limits) (loading : Loading) (given : given.Commit) (meant : Result (List Edit) ImportFault)
+    (result : Result X ImportFault) → lacks_name limits loading.history given.header ≡ false
+    → Means view result (after_named limits loading given meant) → Means view result (after_edits limits loading given meant)
+named_carried view limits loading given meant result has means =
+    means_same view result (after_named limits loading given meant) (after_edits limits loading given meant) (rw has refl) means
 
 -- the commit stands, with its branch and its mark
 pub commit_carried : (limits : Limits) (loading : Loading) (given : given.Commit) (first : Option ℕ) (parents : List ℕ) (edits : List Edit) (grown : History)

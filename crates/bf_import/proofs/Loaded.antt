@@ -22,10 +22,10 @@ use Rattle.bf_import.specs.Loading.{Loaded, Loads, LoadsFrom, LoadsOn, MayLoad, 
 use Rattle.bf_import.proofs.Refusals.{meaning_refuses}
 use Rattle.bf_io.specs.Causes.{Rose, FailsOnlyAt}
 
--- a meaning is never refused as a stream is
-no_stream : (kept : Kept) (fault : StreamFault) → IsRefusal kept (faults.Stream fault) → ⊥
-no_stream None fault own = own
-no_stream (Some blobs) fault own = own
+-- a meaning is never refused for a source that fails
+no_source : (kept : Kept) → IsRefusal kept (faults.Stream stream.Read) → ⊥
+no_source None own = own
+no_source (Some blobs) own = own
 
 nothing_yet : (limits : Limits) (start : Kept) (left : Option (List ℕ))
     → LoadsOn limits start left (option_map (start_of limits.stream) left) start nothing_loaded
@@ -111,7 +111,19 @@ module _ (limits : Limits) (start : Kept) (before after : Option Place) (kept : 
   told_meant : {X : Type 0} (view : X → Loading) (bytes : List ℕ) (command : Command) (fault : ImportFault) (p : Place) → On bytes p
       → Gave (Some p) (Ok (Some command)) → IsRefusal kept fault → Means view (Err fault) (command_meant limits kept loading command)
       → MayLoad (Some bytes) limits start (Err fault)
-  told_meant view bytes command (faults.Stream fault) p on gives own is = absurd (no_stream kept fault own)
+  told_meant view bytes command (faults.Stream (stream.Syntax line)) p on gives own is =
+      command_refused bytes command (faults.Stream (stream.Syntax line)) p on gives is
+  told_meant view bytes command (faults.Stream (stream.Unsupported line)) p on gives own is =
+      command_refused bytes command (faults.Stream (stream.Unsupported line)) p on gives is
+  told_meant view bytes command (faults.Stream (stream.Truncated line)) p on gives own is =
+      command_refused bytes command (faults.Stream (stream.Truncated line)) p on gives is
+  told_meant view bytes command (faults.Stream (stream.NoDone line)) p on gives own is =
+      command_refused bytes command (faults.Stream (stream.NoDone line)) p on gives is
+  told_meant view bytes command (faults.Stream stream.Read) p on gives own is = tt
+  told_meant view bytes command (faults.Stream (stream.TooLarge what)) p on gives own is =
+      command_refused bytes command (faults.Stream (stream.TooLarge what)) p on gives is
+  told_meant view bytes command (faults.Stream stream.NoMemory) p on gives own is =
+      command_refused bytes command (faults.Stream stream.NoMemory) p on gives is
   told_meant view bytes command (faults.BadFrom line) p on gives own is = command_refused bytes command (faults.BadFrom line) p on gives is
   told_meant view bytes command (faults.BadMark line) p on gives own is = command_refused bytes command (faults.BadMark line) p on gives is
   told_meant view bytes command (faults.BadPath line) p on gives own is = command_refused bytes command (faults.BadPath line) p on gives is
@@ -171,7 +183,13 @@ meant_under view limits own kept loading command result same means =
 
 -- a refusal of meaning is no fault of the source, and one of an import
 of_import : (fault : ImportFault) → IsOfMeaning fault → IsFaultOf None fault
-of_import (faults.Stream fault) own = absurd own
+of_import (faults.Stream (stream.Syntax line)) own = tt
+of_import (faults.Stream (stream.Unsupported line)) own = absurd own
+of_import (faults.Stream (stream.Truncated line)) own = absurd own
+of_import (faults.Stream (stream.NoDone line)) own = absurd own
+of_import (faults.Stream stream.Read) own = absurd own
+of_import (faults.Stream (stream.TooLarge what)) own = absurd own
+of_import (faults.Stream stream.NoMemory) own = absurd own
 of_import (faults.BadFrom line) own = own
 of_import (faults.BadMark line) own = own
 of_import (faults.BadPath line) own = own
@@ -182,7 +200,7 @@ of_import faults.NoMemory own = own
 
 of_refusal : (kept : Kept) (fault : ImportFault) → IsRefusal kept fault → IsFaultOf kept fault
 of_refusal None fault own = of_import fault own
-of_refusal (Some blobs) (faults.Stream fault) own = absurd own
+of_refusal (Some blobs) (faults.Stream fault) own = of_import (faults.Stream fault) own
 of_refusal (Some blobs) (faults.BadFrom line) own = own
 of_refusal (Some blobs) (faults.BadMark line) own = own
 of_refusal (Some blobs) (faults.BadPath line) own = own
@@ -224,14 +242,13 @@ own_refused (Some blobs) stream.Read = tt
 own_refused (Some blobs) (stream.TooLarge what) = tt
 own_refused (Some blobs) stream.NoMemory = tt
 
--- a meaning is never refused for a source that fails
 abbrev fault_in : Result (Unit {0}) ImportFault → ImportFault
 fault_in (Ok done) = faults.NoMemory
 fault_in (Err fault) = fault
 
 no_read : (kept : Kept) (fault : ImportFault) → IsRefusal kept fault
     → (let r : Result (Unit {0}) ImportFault = Err fault in r) ≡ Err (faults.Stream stream.Read) → ⊥
-no_read kept fault own is = no_stream kept stream.Read (subst (IsRefusal kept) (ap fault_in is) own)
+no_read kept fault own is = no_source kept (subst (IsRefusal kept) (ap fault_in is) own)
 
 pub cause_stopped : {X : Type 0} (view : X → Loading) (limits : Limits) (kept : Kept) (loading : Loading) (command : Command) (fault : ImportFault)
     (result : Result (Unit {0}) ImportFault) (before now : ℕ) → before ≤ now → IsErrAnd result (λ other. other ≡ fault)

@@ -11,6 +11,7 @@ use Rattle.bf_grammar.specs.declared.command.DataRef.TheVariants as dataref
 use Rattle.bf_grammar.specs.declared.command.Target.{Target}
 use Rattle.bf_grammar.specs.declared.fault.Limit.TheVariants.{Commits, Entries}
 use Rattle.bf_grammar.specs.declared.fault.Limits.{Limits}
+use Rattle.bf_grammar.specs.declared.fault.StreamFault.TheVariants.{Syntax}
 use Rattle.bf_oid.specs.declared.object.Mode.{Mode}
 use Rattle.bf_oid.specs.declared.object.Oid.{Oid}
 use Rattle.bf_grammar.specs.Forms.{colon_number, ◌>>=◌}
@@ -28,7 +29,7 @@ use Rattle.bf_history.specs.Imports.{Means}
 use Rattle.bf_history.specs.Keeping.{Kept, command_meant}
 use Rattle.bf_history.specs.Meanings.{Loading, History, each_of, mark_in, commit_marked, place_by, place_of_target, blob_marked, is_module}
 use Rattle.bf_history.specs.Meanings.{content_named, path_at, edit_of, begins_with, within_limits, is_no_name, after_commit, after_edits, after_reset, after_tag}
-use Rattle.bf_history.specs.Meanings.{after_command}
+use Rattle.bf_history.specs.Meanings.{after_command, after_named, lacks_name}
 use Rattle.bf_import.specs.Faults.{IsOfFurnishing, IsOfMeaning, IsRefusal}
 
 -- a refusal is one of meaning
@@ -125,15 +126,23 @@ module _ (Own : ImportFault → Type 0) (wider : (fault : ImportFault) → IsOfM
   then_own (Ok x) next own rest = rest x
   then_own (Err fault) next own rest = own
 
-  commit_own : (limits : Limits) (loading : Loading) (given : given.Commit) (edits : Result (List Edit) ImportFault) → IfErr edits Own
-      → IfErr (after_edits limits loading given edits) Own
-  commit_own limits loading given edits own =
+  named_own : (limits : Limits) (loading : Loading) (given : given.Commit) (edits : Result (List Edit) ImportFault) → IfErr edits Own
+      → IfErr (after_named limits loading given edits) Own
+  named_own limits loading given edits own =
       then_own (begins_with loading given.branch given.from) _ (widened (begins_with loading given.branch given.from) (first_refuses loading given.branch given.from))
       (λ first. then_own (each_of (place_of_target faults.BadFrom loading) given.merges) _
       (widened (each_of (place_of_target faults.BadFrom loading) given.merges)
       (each_refuses (place_of_target faults.BadFrom loading) given.merges (λ target. target_refuses faults.BadFrom loading target tt)))
       (λ others. then_own edits _ own
       (λ edits. then_own (within_limits limits _) _ (widened (within_limits limits _) (limits_refuse limits _)) (λ history. tt))))
+
+  commit_own : (limits : Limits) (loading : Loading) (given : given.Commit) (edits : Result (List Edit) ImportFault) → IfErr edits Own
+      → IfErr (after_edits limits loading given edits) Own
+  commit_own limits loading given edits own = go (lacks_name limits loading.history given.header)
+    where
+      go : (test : Bool) → IfErr (if test then Err (faults.Stream (Syntax given.line)) else after_named limits loading given edits) Own
+      go true = wider (faults.Stream (Syntax given.line)) tt
+      go false = named_own limits loading given edits own
 
 commit_refuses : (limits : Limits) (loading : Loading) (given : given.Commit) → Refuses (after_commit limits loading given)
 unfolding after_commit

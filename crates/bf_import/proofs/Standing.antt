@@ -104,7 +104,7 @@ module _ (limits : Limits) (history : History) (parents : List ℕ) (files : Fil
   module _ (grown : History) (pool : within_entries limits.entries (with_trees_of history files) ≡ Ok grown) (number : ℕ)
       (shown : files_at grown.directories number ≡ files)
       (tree : Oid) (tree_is : tree.0 ≡ tree_name (files_at grown.directories number)) (names : List Oid) (names_are : names ≡ grown.names)
-      (name : Oid) (name_is : name.0 ≡ commit_name tree.0 parents names header) where
+      (name : Oid) (name_is : name ≡ commit_name tree.0 parents names header) where
     grown_is : with_trees_of history files ≡ grown
     grown_is = few_alike limits.entries (with_trees_of history files) grown pool
 
@@ -114,10 +114,9 @@ module _ (limits : Limits) (history : History) (parents : List ℕ) (files : Fil
     named : name ≡ (commit_on history parents files header).name
     unfolding commit_on
     named =
-        ap (λ (bytes : List ℕ). let o : Oid = record { 0 = bytes } in o)
-        (name_is
+        name_is
         ∙ ap (λ (t : List ℕ). commit_name t parents names header) (tree_is ∙ ap tree_name shown)
-        ∙ ap (λ (n : List Oid). commit_name (tree_name files) parents n header) names_kept)
+        ∙ ap (λ (n : List Oid). commit_name (tree_name files) parents n header) names_kept
 
     few_there : (h : History) → h.directories ≡ with_directories history.directories files → within_limits limits h ≡ within_commits limits.commits h
     few_there h same =

@@ -12,8 +12,10 @@ abbrev pub refusal_of_stream : StreamFault → ImportFault
 refusal_of_stream stream.NoMemory = faults.NoMemory
 refusal_of_stream fault = faults.Stream fault
 
--- the refusals of meanings: of the limits, those on commits and on entries alone; no content is missed
+-- The refusals of meanings. That of a commit that lacks its name is one of syntax. Of the limits, those on commits and on
+-- entries alone; no content is missed.
 abbrev pub IsOfMeaning : ImportFault → Type 0
+IsOfMeaning (faults.Stream (stream.Syntax line)) = Unit {0}
 IsOfMeaning (faults.Stream fault) = ⊥
 IsOfMeaning (faults.NoContent line) = ⊥
 IsOfMeaning (faults.TooLarge Commits) = Unit {0}

@@ -23,7 +23,7 @@ use Rattle.bf_history.specs.declared.marked.Marked.{Marked}
 use Rattle.bf_history.specs.declared.marked.Marked.TheVariants as marked
 use Rattle.bf_history.specs.Imports.{Means}
 use Rattle.bf_history.specs.Keeping.{Kept, command_meant, edits_meant}
-use Rattle.bf_history.specs.Meanings.{History, Loading, Commit, after_edits, commit_on, each_of, files_from, nothing_loaded}
+use Rattle.bf_history.specs.Meanings.{History, Loading, Commit, after_edits, after_named, commit_on, each_of, files_from, nothing_loaded}
 use Rattle.bf_history.specs.Meanings.{place_named, place_of_commit, place_of_target, stood, with_commit, with_mark, with_ref, within_limits, without_ref}
 
 -- a history that grows, and its limits
@@ -61,6 +61,10 @@ meant_by kept before command = command_meant before.limits kept before.loading c
 
 abbrev pub committed : Kept → Importing → given.Commit → Result Loading ImportFault
 committed kept before given = after_edits before.limits before.loading given (edits_meant kept before.loading.marks given.changes)
+
+-- what is meant by a commit that has its name
+abbrev pub named_committed : Kept → Importing → given.Commit → Result Loading ImportFault
+named_committed kept before given = after_named before.limits before.loading given (edits_meant kept before.loading.marks given.changes)
 
 -- ---- commits
 

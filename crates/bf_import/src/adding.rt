@@ -3,11 +3,11 @@ ghost use Rattle.std.specs.Prelude.{◌≡◌, ◌≤◌, ◌<◌, length, unwra
 ghost use Rattle.bf_forest.specs.Trees.{files_at};
 ghost use Rattle.bf_history.specs.Bodies.{subject_of};
 ghost use Rattle.bf_history.specs.Imports.{Means};
-ghost use Rattle.bf_history.specs.Meanings.{place_named, place_of_commit};
+ghost use Rattle.bf_history.specs.Meanings.{lacks_name, place_named, place_of_commit};
 ghost use Rattle.bf_import.specs.Growing.{HasPlace, commit_from, edited_files, joined, refusal_of, with_edits, with_named, within_commits, within_entries};
 
 use crate::growth::Growth;
-use bf_commits::{commit_name, into_subject};
+use bf_commits::{commit_name, into_subject, original_name};
 use bf_forest::{Edit, ForestFault};
 use bf_grammar::{Header, Limit};
 use bf_history::ImportFault;
@@ -15,6 +15,19 @@ use bf_io::Bytes;
 use bf_oid::Oid;
 
 impl Growth {
+    /// Whether original names are asked for, and a commit has none, or that of another.
+    pub(crate) fn lacks_name(&self, header: &Header) -> bool
+        ensures { result ≡ lacks_name self.now.limits self.now.history header.now }
+    {
+        if !self.keeps_original_names() {
+            return false;
+        }
+        match original_name(header) {
+            Some(name) => self.place_named(name).is_some(),
+            None => true,
+        }
+    }
+
     /// Adds a commit with these parents, whose files are those of a place after edits, and gives its
     /// place; without a place they begin with no files. A commit whose name is there already stays at its
     /// place.

@@ -153,6 +153,13 @@ impl Growth {
         self.names.as_slice()
     }
 
+    /// Whether each commit keeps the name that it had before it was exported.
+    pub(crate) fn keeps_original_names(&self) -> bool
+        ensures { result ≡ self.now.limits.original_names }
+    {
+        self.limits.original_names
+    }
+
     /// The most commits that there may be.
     pub(crate) fn most(&self) -> u32
         ensures { result ≡ self.now.limits.commits }

@@ -7,7 +7,7 @@ ghost use Rattle.bf_history.specs.Imports.{Means};
 ghost use Rattle.bf_history.specs.Keeping.{edits_meant, kept_behind, kept_behind_all, kept_with};
 ghost use Rattle.bf_history.specs.Meanings.{after_reset, after_tag, is_no_name};
 ghost use Rattle.bf_history.specs.Meanings.{place_of_commit, with_mark};
-ghost use Rattle.bf_import.specs.Growing.{HasPlace, Leaves, StandsBelow, blob_name, commit_from, committed, joined, mark_set, meant_by, nothing_imported};
+ghost use Rattle.bf_import.specs.Growing.{HasPlace, Leaves, StandsBelow, blob_name, commit_from, committed, joined, mark_set, meant_by, named_committed, nothing_imported};
 ghost use Rattle.bf_import.specs.Growing.{ref_removed, ref_set};
 
 use crate::growth::Growth;
@@ -15,7 +15,7 @@ use crate::history::History;
 use crate::targets::Role;
 use bf_commits::{Contents, edits_of};
 use bf_forest::Edit;
-use bf_grammar::{Changes, Command, Commit, Header, Limits, Target};
+use bf_grammar::{Changes, Command, Commit, Header, Limits, StreamFault, Target};
 use bf_history::{ImportFault, Marked};
 use bf_io::Bytes;
 use bf_oid::{Kind, object_name};
@@ -122,6 +122,25 @@ impl Importer {
     ) -> Result<(), ImportFault>
         ensures loading { let kept = C.kept contents.old in
             Leaves self.new result (committed kept self.old commit) }
+        ensures kept { OnOk result
+            (C.kept contents.new ≡ kept_behind_all (C.kept contents.old) commit.changes) }
+        ensures limits { OnOk result (self.new.limits ≡ self.old.limits) }
+    {
+        if self.growth.lacks_name(&commit.header) {
+            let line = commit.line;
+            return Err(ImportFault::Stream(StreamFault::Syntax { line }));
+        }
+        self.take_named(contents, commit)
+    }
+
+    /// Carries out a commit that has its name.
+    fn take_named<C: Contents>(
+        &mut self,
+        contents: &mut C,
+        commit: Commit,
+    ) -> Result<(), ImportFault>
+        ensures loading { let kept = C.kept contents.old in
+            Leaves self.new result (named_committed kept self.old commit) }
         ensures kept { OnOk result
             (C.kept contents.new ≡ kept_behind_all (C.kept contents.old) commit.changes) }
         ensures limits { OnOk result (self.new.limits ≡ self.old.limits) }

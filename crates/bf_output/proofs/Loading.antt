@@ -15,19 +15,20 @@ use Rattle.bf_grammar.specs.declared.command.Header.{Header}
 use Rattle.bf_grammar.specs.declared.command.Target.{Target}
 use Rattle.bf_grammar.specs.declared.fault.Limits.{Limits}
 use Rattle.bf_grammar.specs.declared.fault.StreamFault.{StreamFault}
+use Rattle.bf_grammar.specs.declared.fault.StreamFault.TheVariants.{Syntax}
 use Rattle.bf_oid.specs.declared.object.Oid.{Oid}
 use Rattle.bf_grammar.specs.Forms.{colon_number, ◌>>=◌}
 use Rattle.bf_oid.specs.Object.{oid_of_hex}
 use Rattle.bf_graph.specs.Graph.{IsGraph}
 use Rattle.bf_graph.proofs.Layouts.{IsGraph-nil, IsGraph-push}
 use Rattle.bf_history.specs.declared.fault.ImportFault.{ImportFault}
-use Rattle.bf_history.specs.declared.fault.ImportFault.TheVariants.{BadFrom, Unsupported}
+use Rattle.bf_history.specs.declared.fault.ImportFault.TheVariants.{Stream, BadFrom, Unsupported}
 use Rattle.bf_history.specs.declared.marked.Marked.{Marked}
 use Rattle.bf_history.specs.declared.marked.Marked.TheVariants as marked
 use Rattle.bf_history.specs.Imports.{loaded}
 use Rattle.bf_history.specs.Meanings.{History, Loading, Commit, nothing_loaded, each_of, mark_in, ref_in, place_named, commit_marked, place_by}
 use Rattle.bf_history.specs.Meanings.{place_of_target, edit_of, begins_with, files_from, commit_on, stood, with_commit, place_of_commit, within_limits}
-use Rattle.bf_history.specs.Meanings.{with_ref, without_ref, with_mark, after_commit, after_reset, after_tag, after_command, is_no_name}
+use Rattle.bf_history.specs.Meanings.{after_named, lacks_name, with_ref, without_ref, with_mark, after_commit, after_reset, after_tag, after_command, is_no_name}
 use Rattle.bf_history.specs.Named.{value_of, with_value, without_value}
 use Rattle.bf_history.proofs.Steps.{last_step, within_same}
 
@@ -232,10 +233,10 @@ with_mark_are n (Some number) what marks h k = with_value_are (IsThere n) ◌==�
 made : Loading → Header → Option ℕ → List ℕ → List Edit → Commit
 made loading header first others edits = commit_on loading.history (option_to_list first ++ others) (edited (files_from loading.history first) edits) header
 
-after_commit_sound : (limits : Limits) (loading : Loading) (given : given.Commit) → IsSound loading
-    → IfOk (after_commit limits loading given) IsSound
-unfolding after_commit made commit_on
-after_commit_sound limits loading given s =
+after_named_sound : (limits : Limits) (loading : Loading) (given : given.Commit) → IsSound loading
+    → IfOk (after_named limits loading given (each_of (edit_of loading.marks) given.changes)) IsSound
+unfolding made commit_on
+after_named_sound limits loading given s =
     four_steps (begins_with loading given.branch given.from) (each_of (place_of_target BadFrom loading) given.merges)
     (each_of (edit_of loading.marks) given.changes)
     (λ first others edits. within_limits limits (with_commit loading.history (made loading given.header first others edits)))
@@ -263,6 +264,13 @@ after_commit_sound limits loading given s =
 either_sound : (b : Bool) (one other : Result Loading ImportFault) → IfOk one IsSound → IfOk other IsSound → IfOk (cond b one other) IsSound
 either_sound true one other h k = h
 either_sound false one other h k = k
+
+after_commit_sound : (limits : Limits) (loading : Loading) (given : given.Commit) → IsSound loading
+    → IfOk (after_commit limits loading given) IsSound
+unfolding after_commit
+after_commit_sound limits loading given s =
+    either_sound (lacks_name limits loading.history given.header) (Err (Stream (Syntax given.line)))
+    (after_named limits loading given (each_of (edit_of loading.marks) given.changes)) tt (after_named_sound limits loading given s)
 
 after_reset_sound : (loading : Loading) (branch : List ℕ) (from : Option Target) → IsSound loading → IfOk (after_reset loading branch from) IsSound
 unfolding after_reset

@@ -52,8 +52,9 @@ pub record IsFrontOf (run whole : Run) : Type 0 where
 abbrev pub IsFrontIfTold : Option (List Outcome) → History → Begun → Run → Type 0
 IsFrontIfTold told history first run = IfSome told (λ plan. IsFrontOf run (run_over history first plan))
 
--- What is known is answered by the tester, with the names of the commits; one worker tested what the run asked for, and
--- nothing else. The run on what is known is told, or the events of its legs with it.
+-- What is known is answered by the tester, with the names of the commits. With one worker its answers are exactly those
+-- that the run used, in order. A test whose answer never came to the tester is not seen here. The run on what is known is
+-- told, or the events of its legs with it.
 pub record IsTestedAs (IsTold : Legs → Run → Told → Type 0) (request : Request) (tested : TesterShown) (history : History)
     (first : Begun) (told : Told) : Type 0 where
   pub table : List (Option Outcome)

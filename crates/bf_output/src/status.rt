@@ -1,4 +1,7 @@
 //! How the program ends.
+//!
+//! A status is a variant with what it tells; only `number_of` knows its number. Definitions over statuses write out every
+//! arm, since a new variant that is taken for another one would weaken a clause. They divide statuses by `stage_of` alone.
 ghost use Rattle.std.specs.Prelude.{◌≡◌};
 ghost use Rattle.bf_output.specs.Statuses.{number_of};
 

@@ -1,7 +1,7 @@
 -- What each command of a stream keeps.
 use Rattle.std.proofs.Common.{◌≡◌, ℕ, zero, suc, ◌+◌, ◌<◌, ◌≤◌, ◌==◌, Bool, true, false, not, cond, List, [], ◌∷◌, ◌++◌, length, map, codes, get_or}
-use Rattle.std.proofs.Common.{Option, Some, None, Result, Ok, Err, IfOk, refl, sym, ap, subst, ◌∙◌, arith, ⊎_elim, length-append}
-use Rattle.std.proofs.lemmas.Bool.{cases_lt}
+use Rattle.std.proofs.Common.{Option, Some, None, IfSome, unwrap_or, option_and_then, if◌then◌else◌, Result, Ok, Err, IfOk, refl, sym, ap, subst, ◌∙◌, arith, ⊎_elim, length-append}
+use Rattle.std.proofs.lemmas.Bool.{cases_lt, eqb-true}
 use Rattle.std.proofs.lemmas.List.Elements.{All-nil, All-push}
 use Rattle.std.proofs.lemmas.Slice.Eq.{bytes_eq-Decides}
 use Rattle.std.specs.List.{position}
@@ -13,21 +13,25 @@ use Rattle.bf_grammar.specs.declared.command.Header.{Header}
 use Rattle.bf_grammar.specs.declared.command.Target.{Target}
 use Rattle.bf_grammar.specs.declared.fault.Limits.{Limits}
 use Rattle.bf_grammar.specs.declared.fault.StreamFault.{StreamFault}
+use Rattle.bf_grammar.specs.declared.fault.StreamFault.TheVariants.{Syntax}
 use Rattle.bf_grammar.specs.Forms.{◌>>=◌}
+use Rattle.hex.specs.Hex.{decode_of}
+use Rattle.hex.specs.declared.error.FromHexError.{FromHexError}
+use Rattle.hex.proofs.HexLemmas.{decode_of-ok}
 use Rattle.bf_oid.specs.declared.object.Kind.TheVariants as kind
 use Rattle.bf_oid.specs.declared.object.Oid.{Oid}
-use Rattle.bf_oid.specs.Object.{object_header}
+use Rattle.bf_oid.specs.Object.{name_where, object_header, oid_of_hex}
 use Rattle.bf_forest.specs.declared.edits.Edit.{Edit}
 use Rattle.bf_forest.specs.Files.{Files, edited, is_same}
 use Rattle.bf_forest.specs.Trees.{tree_name, with_directories}
 use Rattle.bf_history.specs.declared.fault.ImportFault.{ImportFault}
-use Rattle.bf_history.specs.declared.fault.ImportFault.TheVariants.{BadFrom, Unsupported}
+use Rattle.bf_history.specs.declared.fault.ImportFault.TheVariants.{Stream, BadFrom, Unsupported}
 use Rattle.bf_history.specs.declared.marked.Marked.TheVariants as marked
 use Rattle.bf_history.specs.Bodies.{commit_body, without_empty_lines}
 use Rattle.bf_history.specs.Imports.{loaded}
 use Rattle.bf_history.specs.Meanings.{History, Loading, Commit, nothing_loaded, each_of, place_named, place_of_target, edit_of, begins_with, files_from}
 use Rattle.bf_history.specs.Meanings.{name_at, commit_on, stood, with_commit, place_of_commit, within_limits, with_ref, without_ref, with_mark, after_commit}
-use Rattle.bf_history.specs.Meanings.{after_reset, after_tag, after_command, is_no_name}
+use Rattle.bf_history.specs.Meanings.{after_named, after_reset, after_tag, after_command, is_no_name, lacks_name, original_of}
 use Rattle.bf_history.proofs.Steps.{last_step, within_same}
 use Rattle.bf_tables.proofs.Positions.{position_more}
 use Rattle.bf_replay.specs.Kept.{IsOneLine, IsWholeName, IsKept}
@@ -115,14 +119,38 @@ one_line : (history : History) (parents : List ℕ) (files : Files) (header : He
 unfolding commit_on
 one_line history parents files header = front_passes (λ b. not (b == 10)) (without_empty_lines header.message)
 
+-- 40 hexadecimal digits write a whole name
+decoded_name : (text : List ℕ) → length text ≡ 40 → (read : Result (List ℕ) FromHexError) → decode_of text ≡ read → IfSome (name_where read) IsWholeName
+decoded_name text long (Ok bytes) is =
+    let all = decode_of-ok text bytes is in
+    record { long = omega (arith, long, all.2); bytes = all.3 }
+decoded_name text long (Err fault) is = tt
+
+name_either : (text : List ℕ) (b : Bool) → (length text == 40) ≡ b → IfSome (if b then name_where (decode_of text) else None) IsWholeName
+name_either text true long = decoded_name text (eqb-true (length text) 40 long) (decode_of text) refl
+name_either text false long = tt
+
+original_whole : (header : Header) → IfSome (original_of header) IsWholeName
+unfolding original_of
+original_whole header = go header.original
+  where
+    go : (original : Option (List ℕ)) → IfSome (option_and_then oid_of_hex original) IsWholeName
+    go (Some text) = name_either text (length text == 40) refl
+    go None = tt
+
+either_whole : (original : Option Oid) (hashed : Oid) → IfSome original IsWholeName → IsWholeName hashed → IsWholeName (unwrap_or original hashed)
+either_whole (Some name) hashed one other = one
+either_whole None hashed one other = other
+
 whole_name : (history : History) (parents : List ℕ) (files : Files) (header : Header) → IsWholeName (commit_on history parents files header).name
 unfolding commit_on
 whole_name history parents files header =
     let body : List ℕ = commit_body (tree_name files) (map (name_at history) parents) header in
-    record {
+    either_whole (original_of header) _ (original_whole header)
+    (record {
       long = sha1_long (object_header kind.Commit (length body) ++ body);
       bytes = sha1_bytes (object_header kind.Commit (length body) ++ body);
-    }
+    })
 
 -- ---- commands
 
@@ -142,10 +170,9 @@ four_steps (Err e) b c d f P h = tt
 abbrev made : Loading → Header → Option ℕ → List ℕ → List Edit → Commit
 made loading header first others edits = commit_on loading.history (option_to_list first ++ others) (edited (files_from loading.history first) edits) header
 
-after_commit_kept : (limits : Limits) (loading : Loading) (given : given.Commit) → IsKept loading.history
-    → AfterIsKept (after_commit limits loading given)
-unfolding after_commit
-after_commit_kept limits loading given k =
+after_named_kept : (limits : Limits) (loading : Loading) (given : given.Commit) → IsKept loading.history
+    → AfterIsKept (after_named limits loading given (each_of (edit_of loading.marks) given.changes))
+after_named_kept limits loading given k =
     four_steps (begins_with loading given.branch given.from) (each_of (place_of_target BadFrom loading) given.merges)
     (each_of (edit_of loading.marks) given.changes)
     (λ first others edits. within_limits limits (with_commit loading.history (made loading given.header first others edits)))
@@ -172,6 +199,13 @@ unref_kept name history k = record { counted = k.counted; one_line = k.one_line;
 either_kept : (b : Bool) (one other : Result Loading ImportFault) → AfterIsKept one → AfterIsKept other → AfterIsKept (cond b one other)
 either_kept true one other h k = h
 either_kept false one other h k = k
+
+after_commit_kept : (limits : Limits) (loading : Loading) (given : given.Commit) → IsKept loading.history
+    → AfterIsKept (after_commit limits loading given)
+unfolding after_commit
+after_commit_kept limits loading given k =
+    either_kept (lacks_name limits loading.history given.header) (Err (Stream (Syntax given.line)))
+    (after_named limits loading given (each_of (edit_of loading.marks) given.changes)) tt (after_named_kept limits loading given k)
 
 after_reset_kept : (loading : Loading) (branch : List ℕ) (from : Option Target) → IsKept loading.history
     → AfterIsKept (after_reset loading branch from)

@@ -108,6 +108,18 @@ reads_pure left faults a x = record {
   beyond = refl;
 }
 
+-- nothing is read, and what is given goes by the limits
+pub reads_by : {S X : Type 0} (left : S → Option (List ℕ)) (faults : S → ℕ) (a : Cursor S) (form : Limits → X) (x : X) → x ≡ form (limits_of a)
+    → Reads left faults a a (Ok x) (λ limits. pure (form limits))
+reads_by left faults a form x is = record {
+  gives = gives_pure (λ x. x) (place_at left a) x (form (limits_of a)) is;
+  turns = omega arith;
+  cause = record { later = omega arith; failed = λ is. absurd (cc) };
+  limits = refl;
+  source = refl;
+  beyond = refl;
+}
+
 -- what is not read from the stream was refused
 pub reads_refused : {S X : Type 0} (left : S → Option (List ℕ)) (faults : S → ℕ) (a : Cursor S) (fault : StreamFault) → (fault ≡ Read → ⊥)
     → Reads {X = X} left faults a a (Err fault) (λ _. lifted (Err fault))

@@ -77,7 +77,7 @@ impl<'a, S: Source> Reader<'a, S> {
         ensures { Reads S.left S.faults self.old self.new result (blob_from line) }
     {
         let mark = self.mark()?;
-        self.skip_original_oid()?;
+        self.original_oid()?;
         let content = self.data()?;
         Ok(Command::Blob {
             line,
@@ -91,7 +91,6 @@ impl<'a, S: Source> Reader<'a, S> {
         ensures { Reads S.left S.faults self.old self.new result (commit_from line branch) }
     {
         let mark = self.mark()?;
-        self.skip_original_oid()?;
         let header = self.header()?;
         let from = self.target(b"from")?;
         let merges = self.merges()?;
@@ -107,16 +106,18 @@ impl<'a, S: Source> Reader<'a, S> {
         }))
     }
 
-    /// Who wrote and who committed a commit, and what they say of it.
+    /// The name that a commit had, who wrote and who committed it, and what they say of it.
     fn header(&mut self) -> Result<Header, StreamFault>
         ensures { Reads S.left S.faults self.old self.new result grammar.header_at }
     {
+        let original = self.original_oid()?;
         let author = self.optional_ident(b"author")?;
         let committer = self.committer()?;
         let encoding = self.encoding()?;
         self.no_signature()?;
         let message = self.data()?;
         Ok(Header {
+            original,
             author,
             committer,
             encoding,
@@ -130,7 +131,7 @@ impl<'a, S: Source> Reader<'a, S> {
     {
         let mark = self.mark()?;
         let from = self.required_from()?;
-        self.skip_original_oid()?;
+        self.original_oid()?;
         self.optional_ident(b"tagger")?;
         self.data()?;
         Ok(Command::Tag {

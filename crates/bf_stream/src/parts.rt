@@ -1,5 +1,7 @@
 //! The parts of a command: lines that begin with their word, and data parts.
+ghost use Rattle.std.specs.Prelude.{◌≡◌, IfOk, Some};
 ghost use Rattle.bf_grammar.specs.Commands as grammar;
+ghost use Rattle.bf_grammar.specs.Commands.{where_asked};
 ghost use Rattle.bf_stream.specs.Cursor.{IsShortWord};
 ghost use Rattle.bf_stream.specs.Parts.{ident_behind, ident_in, target_behind, target_in};
 ghost use Rattle.bf_stream.specs.Standing.{HasLine, Reads, Takes, TakesIfSome};
@@ -8,6 +10,7 @@ use crate::Reader;
 use bf_forms::{DataLine, data_line, encoding_of, ident_of, mark_of, text_after};
 use bf_grammar::{StreamFault, Target, Targets};
 use bf_io::{Bytes, Source};
+use std::alloc::{AllocError, Global};
 
 impl<'a, S: Source> Reader<'a, S> {
     /// `mark :<n>`, where it stands.
@@ -22,17 +25,20 @@ impl<'a, S: Source> Reader<'a, S> {
         Ok(Some(mark))
     }
 
-    /// Goes past `original-oid <text>`, where it stands.
-    pub(crate) fn skip_original_oid(&mut self) -> Result<(), StreamFault>
+    /// `original-oid <text>`, where it stands. The text is given where original names are asked for.
+    pub(crate) fn original_oid(&mut self) -> Result<Option<Bytes>, StreamFault>
         ensures { Reads S.left S.faults self.old self.new result grammar.original_oid_at }
     {
         if !self.cursor.at_word(b"original-oid")? {
-            return Ok(());
+            return Ok(None);
         }
+        let alloc = self.cursor.allocator();
+        let limits = self.cursor.limits();
         let line = self.cursor.line_number();
-        text_after(line, b"original-oid", self.cursor.line())?;
+        let text = text_after(line, b"original-oid", self.cursor.line())?;
+        let kept = kept_where(alloc, limits.original_names, text)?;
         self.cursor.take_line();
-        Ok(())
+        Ok(kept)
     }
 
     /// `author <ident>` or `tagger <ident>`, where it stands.
@@ -173,4 +179,14 @@ impl<'a, S: Source> Reader<'a, S> {
             }
         }
     }
+}
+
+/// A text where it is asked for.
+fn kept_where(alloc: Global, asked: bool, text: &[u8]) -> Result<Option<Bytes>, AllocError>
+    ensures { IfOk result (λ kept. kept ≡ where_asked asked (Some text.now)) }
+{
+    if asked {
+        return Ok(Some(Bytes::from_slice(alloc, text)?));
+    }
+    Ok(None)
 }

@@ -30,6 +30,7 @@ struct Texts<'a> {
 
 fn header(alloc: Global, texts: &Texts<'_>) -> Result<Header, AllocError> {
     Ok(Header {
+        original: None,
         author: part(alloc, texts.author)?,
         committer: Bytes::from_slice(alloc, texts.committer)?,
         encoding: part(alloc, texts.encoding)?,

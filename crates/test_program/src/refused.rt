@@ -62,6 +62,7 @@ fn commits_and_entries_have_limits(rt: HostRuntime) -> Result<(), Fail> {
             stream: 1_000,
             commits: commits.min(100_000),
             entries: entries.min(40_000_000),
+            original_names: false,
         };
         let found = said(rt.alloc(), TWO_COMMITS, limits)?;
         assert_eq!(rt; found.as_str(), text, "{commits} and {entries}");
@@ -75,6 +76,54 @@ fn a_source_that_fails_is_no_refusal(rt: HostRuntime) -> Result<(), Fail> {
     let mut source = MemSource::new(stream, 16, vec![in rt.alloc(); 3]?);
     let found = import(rt.alloc(), &mut source, Limits::standard()).err();
     assert_eq!(rt; found, Some(ImportFault::Stream(StreamFault::Read)));
+    Ok(())
+}
+
+// A stream of two commits, with these lines before the committer of each.
+fn named(alloc: Global, first: &[u8], second: &[u8]) -> Result<Bytes, AllocError> {
+    let mut stream = Bytes::from_slice(alloc, b"commit refs/heads/main\n")?;
+    stream.append(first)?;
+    stream.append(b"committer A <a@b> 0 +0000\ndata 0\ncommit refs/heads/main\n")?;
+    stream.append(second)?;
+    stream.append(b"committer A <a@b> 1 +0000\ndata 0\n")?;
+    Ok(stream)
+}
+
+const ONE_NAME: &[u8] = b"original-oid 0123456789012345678901234567890123456789\n";
+
+const OTHER_NAME: &[u8] = b"original-oid abcdefABCDEF01234567890123456789abcdefab\n";
+
+// Lines of original names, and what becomes of a stream where these are asked for.
+static ORIGINAL: [(&[u8], &[u8], &str); 6] = [
+    (ONE_NAME, OTHER_NAME, "loaded"),
+    (ONE_NAME, ONE_NAME, "line 5: syntax"),
+    (ONE_NAME, b"", "line 5: syntax"),
+    (b"", OTHER_NAME, "line 1: syntax"),
+    (b"original-oid 0123\n", OTHER_NAME, "line 1: syntax"),
+    (
+        ONE_NAME,
+        b"original-oid g123456789012345678901234567890123456789\n",
+        "line 5: syntax",
+    ),
+];
+
+fn original_names() -> &'static [(&'static [u8], &'static [u8], &'static str)] {
+    &ORIGINAL
+}
+
+#[test]
+fn commits_keep_the_names_that_they_had(rt: HostRuntime) -> Result<(), Fail> {
+    for &(first, second, text) in original_names() {
+        let stream = named(rt.alloc(), first, second)?;
+        let found = said(
+            rt.alloc(),
+            stream.as_slice(),
+            Limits::standard().with_original_names(),
+        )?;
+        assert_eq!(rt; found.as_str(), text, "{text}");
+        let found = said(rt.alloc(), stream.as_slice(), Limits::standard())?;
+        assert_eq!(rt; found.as_str(), "loaded", "where they are not asked for");
+    }
     Ok(())
 }
 

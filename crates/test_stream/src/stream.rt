@@ -327,6 +327,7 @@ fn lines_and_streams_have_limits(rt: HostRuntime) -> Result<(), Fail> {
         stream: 20,
         commits: 1,
         entries: 1,
+        original_names: false,
     };
     let table: [(&str, Option<StreamFault>); 5] = [
         ("progress x", None),

@@ -7,19 +7,19 @@ unfolding blob_at
 returns-in_err-mark g c =
     reads_handed_on _ c.from_residual.ensures.1 (reads_stopped _ c.in_err-mark.ensures)
 
-pub returns-in_err-skip_original_oid : goal.returns-in_err-skip_original_oid
+pub returns-in_err-original_oid : goal.returns-in_err-original_oid
 unfolding blob_at
-returns-in_err-skip_original_oid g c =
-    reads_handed_on _ c.from_residual-in_err-skip_original_oid.ensures.1
-    (reads_then _ c.in_ok-mark.ensures (reads_stopped _ c.in_err-skip_original_oid.ensures))
+returns-in_err-original_oid g c =
+    reads_handed_on _ c.from_residual-in_err-original_oid.ensures.1
+    (reads_then _ c.in_ok-mark.ensures (reads_stopped _ c.in_err-original_oid.ensures))
 
 pub returns-in_err-content : goal.returns-in_err-content
 unfolding blob_at
 returns-in_err-content g c =
     reads_handed_on _ c.from_residual-in_err-content.ensures.1
-    (reads_then _ c.in_ok-mark.ensures (reads_then _ c.in_ok-skip_original_oid.ensures (reads_stopped _ c.in_err-content.ensures)))
+    (reads_then _ c.in_ok-mark.ensures (reads_then _ c.in_ok-original_oid.ensures (reads_stopped _ c.in_err-content.ensures)))
 
 pub returns : goal.returns
 unfolding blob_at
 returns g c =
-    reads_then _ c.in_ok-mark.ensures (reads_then _ c.in_ok-skip_original_oid.ensures (reads_then _ c.in_ok-content.ensures (reads_pure _ _ _ _)))
+    reads_then _ c.in_ok-mark.ensures (reads_then _ c.in_ok-original_oid.ensures (reads_then _ c.in_ok-content.ensures (reads_pure _ _ _ _)))

@@ -1,9 +1,10 @@
-use Rattle.std.proofs.Common.{◌≡◌, ℕ, ◌+◌, ◌*◌, List, [], ◌++◌, length, map, codes, subst, sym, ◌∙◌}
+use Rattle.std.proofs.Common.{◌≡◌, ℕ, ◌+◌, ◌*◌, List, [], ◌++◌, length, map, codes, ap, subst, sym, ◌∙◌}
 use Rattle.hex.specs.Hex.{encode_lower}
+use Rattle.bf_oid.specs.declared.object.Oid.{Oid}
 use Rattle.bf_history.specs.Bodies.{commit_body}
 use Rattle.bf_commits.specs.Naming.{Adds, IsBody, header_lines, name_at, parent_lines}
 use Rattle.bf_commits.proofs.Pieces.{adds_then, pieces_are, pieces_long}
-use Rattle.bf_commits.proofs.body.commit_name.Goals as goal
+use Rattle.bf_commits.proofs.body.hashed_name.Goals as goal
 
 pub returns-clause-oid : goal.returns-clause-oid
 returns-clause-oid c =
@@ -25,4 +26,5 @@ returns-clause-oid c =
     (pieces_long tree names parents header c.add_name.ensures.length c.add_parents.ensures.length) in
     let hashed : IsBody c.add_header.new.self (length (first ++ lines ++ rest)) (first ++ lines ++ rest) =
     subst (λ (n : ℕ). IsBody c.add_header.new.self n (first ++ lines ++ rest)) long (adds bytes [] c.start-body.ensures) in
-    c.finish.ensures body (subst (λ (b : List ℕ). IsBody c.add_header.new.self (length b) b) (pieces_are tree names parents header) hashed)
+    ap (λ (bytes : List ℕ). let name : Oid = record { 0 = bytes } in name)
+    (c.finish.ensures body (subst (λ (b : List ℕ). IsBody c.add_header.new.self (length b) b) (pieces_are tree names parents header) hashed))
