@@ -63,6 +63,7 @@ pub enum LogFile {
 /// What the shelf gives for a word. `Shelf` comes only where its count of faults rose.
 pub fn load_word<F: Shelf>(words: &[Word], index: u32, shelf: &mut F) -> Result<LogFile, Fault>
     ensures file { IfOk result (IsFileAt (F.files shelf.old) words.now index) }
+    ensures same { F.files shelf.new ≡ F.files shelf.old }
     ensures cause { FailsOnlyAt Fault.Shelf (F.faults shelf.old) (F.faults shelf.new) result }
     ensures no_read { IsErrOf result Fault.Read → ⊥ }
 {
@@ -82,6 +83,7 @@ pub fn load_file<F: Shelf>(
     shelf: &mut F,
 ) -> Result<Option<LogFile>, Fault>
     ensures file { IfOk result (IsFileOf (F.files shelf.old) words.now replay) }
+    ensures same { F.files shelf.new ≡ F.files shelf.old }
     ensures cause { FailsOnlyAt Fault.Shelf (F.faults shelf.old) (F.faults shelf.new) result }
     ensures asked { IsErrOf result Fault.Shelf → IsTrue (is_some replay) }
     ensures unloaded { IsLeftUnless (is_some replay) shelf.old shelf.new }

@@ -8,7 +8,7 @@ use Rattle.bf_words.specs.FirstOption.{first_option}
 use Rattle.bf_words.specs.Options.{is_text, verb_of}
 use Rattle.bf_words.specs.Words.{next_index, request_behind, word_at}
 use Rattle.bf_commands.specs.declared.order.Order.{Order}
-use Rattle.bf_commands.specs.declared.order.Order.TheVariants.{Certify, Check, Checkout, Journal, Many}
+use Rattle.bf_commands.specs.declared.order.Order.TheVariants.{Certify, Check, Checkout, Journal, Many, Serve}
 
 unfoldable pub order_of : List ℕ → Option Order
 order_of word =
@@ -17,6 +17,7 @@ order_of word =
     else if is_text (codes "checkout") word then Some Checkout
     else if is_text (codes "journal") word then Some Journal
     else if is_text (codes "many") word then Some Many
+    else if is_text (codes "serve") word then Some Serve
     else None
 
 -- ---- a command that stands before another one
@@ -44,6 +45,7 @@ may_follow Check verb = false
 may_follow Checkout verb = is_run verb
 may_follow Journal verb = is_run verb
 may_follow Many verb = false
+may_follow Serve verb = false
 
 abbrev pub is_followed : Order → Option Verb → Bool
 is_followed order None = false

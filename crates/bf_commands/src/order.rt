@@ -21,6 +21,8 @@ pub enum Order {
     Journal,
     /// `many`: several searches share their workers.
     Many,
+    /// `serve`: requests are answered line by line.
+    Serve,
 }
 
 /// The command that a word gives, where it is one of these.
@@ -34,6 +36,7 @@ pub fn order_of(word: &[u8]) -> Option<Order>
         b"checkout" => Some(Order::Checkout),
         b"journal" => Some(Order::Journal),
         b"many" => Some(Order::Many),
+        b"serve" => Some(Order::Serve),
         _ => None,
     }
 }
@@ -46,7 +49,7 @@ impl Order {
         match self {
             Order::Certify => matches!(word, b"simulate" | b"run"),
             Order::Checkout | Order::Journal => matches!(word, b"run"),
-            Order::Check | Order::Many => false,
+            Order::Check | Order::Many | Order::Serve => false,
         }
     }
 }

@@ -1,4 +1,7 @@
 //! Testing several commits at once.
+//!
+//! The threads end when the run has ended, or when no worker can go on. Then the calling thread goes on alone, with the
+//! tests that the run still asks for. So a failed test that is reported was made here, and its tester knows the reason.
 ghost use Rattle.std.specs.Prelude.{◌≡◌, false, ◌≤◌, [], length, IfOk};
 ghost use Rattle.bf_farm.specs.Answering.{IsByWorkers};
 ghost use Rattle.bf_farm.specs.Cases.{setting_of, IsReportOn, HasHistoryOn, IsSoundAgain};

@@ -1,4 +1,7 @@
 //! The replay of what the workers did, on a board of one's own.
+//!
+//! A thread is handed the lock of a board, and knows its type alone. So nothing is known of what the threads did. The
+//! calling thread does the stored events again, before it absorbs the testers: only then can it ask each for its answers.
 ghost use Rattle.std.specs.Prelude.{◌≡◌, true, OnOk};
 ghost use Rattle.bf_farm.specs.Cores.{IsSameStart, IsSameLength};
 ghost use Rattle.bf_farm.specs.Reports.{IsAnswered};

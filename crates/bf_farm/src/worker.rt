@@ -1,4 +1,7 @@
 //! A worker: it picks places, tests them, and posts the outcomes.
+//!
+//! Paths guess good and bad alone. So a skip may lead to a commit whose test was ended: it is tested again, and the first
+//! test's work is lost. At the end of a leg no test is ended that the next leg asks for.
 ghost use Rattle.std.specs.Prelude.{◌≡◌};
 ghost use Rattle.bf_farm.specs.Reports.{AnswersFollow};
 ghost use Rattle.bf_farm.specs.Testers.{IsPart};

@@ -7,7 +7,7 @@ use Rattle.bf_io.specs.declared.shelf.ShelfFile.{ShelfFile}
 use Rattle.bf_journal.specs.declared.disk.Disk.{Ghosts}
 use Rattle.bf_tester.specs.declared.answer.Answer.{Answer}
 use Rattle.bf_words.specs.Words.{request, word_at}
-use Rattle.bf_answers.specs.Answers.{Answers, Command, HasTestCause, IsComplete, IsUntested}
+use Rattle.bf_answers.specs.Answers.{Answers, HasTestCause, IsComplete, IsUntested}
 use Rattle.bf_answers.specs.Devices.{Met, TesterMet}
 use Rattle.bf_program.specs.Answers.{asked_in}
 use Rattle.bf_program.specs.Printing.{PrintsLog}
@@ -17,8 +17,9 @@ use Rattle.bf_checkout_run.specs.CheckingOut.{asked_by, to_checkout}
 use Rattle.bf_journal_run.specs.Held.{IsHeldBy}
 use Rattle.bf_journal_run.specs.Journalling.{IsRecalledBy, to_journal}
 use Rattle.bf_many_run.specs.Command.{loads_list, to_many}
+use Rattle.bf_serve_run.specs.Command.{IsServeComplete, ServeAnswers, serves}
 use Rattle.bf_commands.specs.declared.order.Order.{Order}
-use Rattle.bf_commands.specs.declared.order.Order.TheVariants.{Certify, Check, Checkout, Journal, Many}
+use Rattle.bf_commands.specs.declared.order.Order.TheVariants.{Certify, Check, Checkout, Journal, Many, Serve}
 use Rattle.bf_commands.specs.Journal.{DiskMet, request_to_journal}
 use Rattle.bf_commands.specs.Orders.{order_of, request_to_certify}
 
@@ -72,6 +73,12 @@ asks_of (Some Many) words = record {
   shop = false;
   disk = false;
 }
+asks_of (Some Serve) words = record {
+  stream = serves words;
+  file = serves words;
+  shop = false;
+  disk = false;
+}
 
 -- ---- what a call met
 
@@ -100,8 +107,9 @@ in_folders farm = record farm.met { tester = farm.shop }
 -- ---- what it has to do
 
 pub record Duty : Type 1 where
-  pub command : Command  -- what is told, and what it may ask for
-  pub met : Met  -- what this command meets
+  pub Gains : Status → Type 0  -- what the sink gained, by the status
+  pub Completes : Status → Type 0  -- and where no device failed, and no test
+  pub Tests : Status → Type 0  -- which tests a test fault comes of
   pub Logs : Status → Type 0  -- what is said of the log that it prints
   pub Uses : Type 0  -- what becomes of the tester
   pub UsesShop : Type 0  -- and of the workshop
@@ -110,40 +118,45 @@ pub record Duty : Type 1 where
 -- at each order; a line without one has that of `bisect_main`
 abbrev pub duty_of : Option Order → FarmMet → Duty
 duty_of None farm = record {
-  command = asked_in farm.met;
-  met = farm.met;
+  Gains = Answers (asked_in farm.met) farm.met;
+  Completes = IsComplete (asked_in farm.met) farm.met;
+  Tests = HasTestCause (asked_in farm.met).tests farm.met.tester;
   Logs = PrintsLog farm.met;
   Uses = IsUsedFor (request farm.met.words) farm.met.words farm.met.tester.before farm.met.tester.after;
   UsesShop = IsUntested farm.shop;
   Recalls = farm.recalled ≡ [];
 }
 duty_of (Some Certify) farm = record {
-  command = to_certify farm.met;
-  met = farm.met;
+  Gains = Answers (to_certify farm.met) farm.met;
+  Completes = IsComplete (to_certify farm.met) farm.met;
+  Tests = HasTestCause (to_certify farm.met).tests farm.met.tester;
   Logs = λ result. Unit {0};
   Uses = IsUsedFor (request_to_certify farm.met.words) farm.met.words farm.met.tester.before farm.met.tester.after;
   UsesShop = IsUntested farm.shop;
   Recalls = farm.recalled ≡ [];
 }
 duty_of (Some Check) farm = record {
-  command = to_check farm.met;
-  met = farm.met;
+  Gains = Answers (to_check farm.met) farm.met;
+  Completes = IsComplete (to_check farm.met) farm.met;
+  Tests = HasTestCause (to_check farm.met).tests farm.met.tester;
   Logs = λ result. Unit {0};
   Uses = IsUntested farm.met.tester;
   UsesShop = IsUntested farm.shop;
   Recalls = farm.recalled ≡ [];
 }
 duty_of (Some Checkout) farm = record {
-  command = to_checkout (in_folders farm);
-  met = in_folders farm;
+  Gains = Answers (to_checkout (in_folders farm)) (in_folders farm);
+  Completes = IsComplete (to_checkout (in_folders farm)) (in_folders farm);
+  Tests = HasTestCause (to_checkout (in_folders farm)).tests (in_folders farm).tester;
   Logs = λ result. Unit {0};
   Uses = IsUntested farm.met.tester;
   UsesShop = IsUsedFor (asked_by farm.met.words) farm.met.words farm.shop.before farm.shop.after;
   Recalls = farm.recalled ≡ [];
 }
 duty_of (Some Journal) farm = record {
-  command = to_journal farm.met farm.disk;
-  met = farm.met;
+  Gains = Answers (to_journal farm.met farm.disk) farm.met;
+  Completes = IsComplete (to_journal farm.met farm.disk) farm.met;
+  Tests = HasTestCause (to_journal farm.met farm.disk).tests farm.met.tester;
   Logs = λ result. Unit {0};
   Uses = IsUsedFor (request_to_journal farm.met.words) farm.met.words farm.recalling farm.met.tester.after;
   UsesShop = IsUntested farm.shop;
@@ -152,8 +165,18 @@ duty_of (Some Journal) farm = record {
       farm.met.tester.after.answers farm.recalled;
 }
 duty_of (Some Many) farm = record {
-  command = to_many farm.met;
-  met = farm.met;
+  Gains = Answers (to_many farm.met) farm.met;
+  Completes = IsComplete (to_many farm.met) farm.met;
+  Tests = HasTestCause (to_many farm.met).tests farm.met.tester;
+  Logs = λ result. Unit {0};
+  Uses = IsUntested farm.met.tester;
+  UsesShop = IsUntested farm.shop;
+  Recalls = farm.recalled ≡ [];
+}
+duty_of (Some Serve) farm = record {
+  Gains = ServeAnswers farm.met;
+  Completes = IsServeComplete farm.met;
+  Tests = HasTestCause false farm.met.tester;
   Logs = λ result. Unit {0};
   Uses = IsUntested farm.met.tester;
   UsesShop = IsUntested farm.shop;
@@ -163,12 +186,12 @@ duty_of (Some Many) farm = record {
 -- A call did what it had to.
 pub record IsDone (duty : Duty) (result : Status) : Type 0 where
   -- what the sink gained, by the status
-  pub answers : Answers duty.command duty.met result
+  pub answers : duty.Gains result
   -- where no device failed, and no test, the text is that of the command, with its status; or memory ran out
-  pub complete : IsComplete duty.command duty.met result
+  pub complete : duty.Completes result
   pub log : duty.Logs result
   -- a test fault is answered only for a failed test of a command that tests
-  pub test : HasTestCause duty.command.tests duty.met.tester result
+  pub test : duty.Tests result
   pub used : duty.Uses
   pub shop_used : duty.UsesShop
   pub recalled : duty.Recalls
@@ -191,3 +214,4 @@ IsDiskHeld by before after (Some Checkout) words left files answers = after ≡ 
 IsDiskHeld by before after (Some Journal) words left files answers =
     IsHeldBy by before after (request_to_journal words) words left files answers
 IsDiskHeld by before after (Some Many) words left files answers = after ≡ before
+IsDiskHeld by before after (Some Serve) words left files answers = after ≡ before

@@ -1,4 +1,7 @@
 //! The top call of all commands.
+//!
+//! The order of a line says what the call has to do and which devices it asks for (`duty_of`, `asks_of`). So a further
+//! command brings an arm to each, and no clause of `farm_main` changes.
 ghost use Rattle.std.specs.Prelude.{◌≡◌, [], false, All, IsTrue};
 ghost use Rattle.bf_io.specs.Causes.{Rose};
 ghost use Rattle.bf_output.specs.Shown.{shown_by};
@@ -25,6 +28,7 @@ use bf_journal_run::journal;
 use bf_many_run::many;
 use bf_output::Status;
 use bf_program::bisect_main;
+use bf_serve_run::serve;
 use bf_tester::{Host, Tester};
 use std::alloc::Global;
 
@@ -32,7 +36,7 @@ use std::alloc::Global;
 /// say and prints the certificate of the first bad commit, `check` tells whether a certificate holds, `checkout` tests
 /// each commit by the workshop, in a folder that holds exactly its files, `journal` keeps each outcome on the disk and
 /// goes on from those that are kept, `many` searches as each line of a file says, by workers that the searches share,
-/// and every other line has the answer of `bisect_main`.
+/// `serve` answers the requests behind the stream, and every other line has the answer of `bisect_main`.
 ///
 /// The status is `ReadFault` only where the count of faults of the stream rose, `ShelfFault` only where that of the
 /// shelf did, `WriteFault` only where that of the sink did, `JournalFault` only where that of the disk did, and
@@ -210,5 +214,6 @@ fn carry_out<
         Some(Order::Checkout) => checkout(rt, alloc, words, stream, shelf, shop, out),
         Some(Order::Journal) => journal(rt, alloc, words, stream, shelf, tester, disk, out),
         Some(Order::Many) => many(rt, alloc, words, stream, shelf, out),
+        Some(Order::Serve) => serve(alloc, words, stream, shelf, out),
     }
 }

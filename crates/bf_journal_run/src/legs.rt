@@ -1,4 +1,7 @@
 //! The legs of a run that is kept: after each the outcomes are kept first, and then the lines so far go out.
+//!
+//! So a crash loses no mark that you have seen printed. `go_on_kept` tests a leg and keeps its outcomes, and only then does
+//! `go_through` write its lines.
 ghost use Rattle.std.specs.Prelude.{◌≡◌, ◌≤◌, false, true, length, All, IfErr, IfOk, IsErrOf, OnOk};
 ghost use Rattle.std.specs.Option.{is_some};
 ghost use Rattle.bf_answers.specs.Answers.{IsCaused};

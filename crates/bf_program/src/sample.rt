@@ -1,4 +1,4 @@
-//! The command `sample`.
+//! The command `sample`. It searches here, by a plan as its tester, so that its text is one answer.
 ghost use Rattle.std.specs.Prelude.{◌≡◌, ◌<◌, ◌≤◌, ◌++◌, false, [], length, count_by, All, IfOk, OnOk};
 ghost use Rattle.std.specs.Option.{ForSome};
 ghost use Rattle.bf_state.specs.Ends.{HasEnds};

@@ -1,4 +1,7 @@
 //! The legs of a search: after each the lines so far go out.
+//!
+//! A leg's text is made whole before it is written, and every refusal comes before the first leg. So no refusal follows
+//! part of a log.
 ghost use Rattle.std.specs.Prelude.{◌≡◌, ◌≤◌, false, true, [], length, IfOk};
 ghost use Rattle.bf_farm.specs.Testers.{HasAnswersOf};
 ghost use Rattle.bf_state.specs.Ends.{HasEnds};

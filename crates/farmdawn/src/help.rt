@@ -1,4 +1,4 @@
-//! The texts of `--help` and `--version`.
+//! The texts of `--help` and `--version`. `main` answers these words itself: `read_words` knows neither.
 
 /// What `--help` prints.
 pub(crate) const HELP: &[u8] = b"\
@@ -17,6 +17,7 @@ farmdawn check FILE < STREAM
 farmdawn checkout run [OPTION..] BAD GOOD.. -- COMMAND.. < STREAM
 farmdawn journal run [OPTION..] BAD GOOD.. -- COMMAND.. < STREAM
 farmdawn many N FILE < STREAM
+farmdawn serve [--original-names] < STREAM-AND-REQUESTS
 
 simulate searches the history of a git fast-import stream for the first bad commit, as git bisect
 does, and prints the log and the answer. No test is run: PLAN says how each would end. run tests
@@ -32,7 +33,9 @@ stream that has the files, and tests each commit in a folder below bisect-trees 
 its files; COMMAND gets the folder and the commit's name as its last words. journal searches as run
 does and keeps each outcome in the file bisect.journal, from which the same line goes on. many
 searches as each line of FILE says, which has the words behind simulate without --workers, --leg,
---trace and --replay; N workers, 1 to 64, work for all of them.
+--trace and --replay; N workers, 1 to 64, work for all of them. serve runs no test: behind a stream
+that ends with its line done it reads requests, a line each, tells which commit a worker of yours is
+to test, and takes what the test showed.
 
   BAD, GOOD         names of commits, as gitrevisions(7) has them: main, v1.0, main~3, 1a2b3c4
   PLAN              a letter for each commit in the order of the stream: g good, b bad, s skip,
@@ -45,6 +48,7 @@ searches as each line of FILE says, which has the words behind simulate without 
   --workers N       test up to N commits at once, 1 to 64; log and answer are the same for every N
   --leg K           write the lines so far after every K marks; log and answer are the same
   --trace           print behind the answer what the workers did: claim, post and give
+  --original-names  take the names of commits from their lines original-oid (serve)
 
 The status is 0 where the first bad commit was found or the command did what it was asked, 1 where
 a word is wrong, 2 where only skipped commits are left, 3 where a merge base is bad, 4 where a good

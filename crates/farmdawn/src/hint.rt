@@ -35,8 +35,9 @@ fn line_of(command: &[u8]) -> &'static str {
         b"check" => "check FILE",
         b"checkout" | b"journal" => "the word run and the rest of its line",
         b"many" => "many N FILE, where N is 1 to 64",
+        b"serve" => "serve [--original-names]",
         _ =>
-            "the first word is simulate, run, next, replay, gen, sample, certify, check, checkout, journal or many",
+            "the first word is simulate, run, next, replay, gen, sample, certify, check, checkout, journal, many or serve",
     }
 }
 

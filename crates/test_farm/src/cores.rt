@@ -156,3 +156,56 @@ fn a_claim_that_is_given_back(rt: HostRuntime) -> Result<(), Fail> {
     another_worker_takes_it(&rt, &mut core)?;
     Ok(())
 }
+
+/// Asserts what an outcome that is known from elsewhere leaves: it withdraws these workers.
+fn learns(
+    rt: &impl Abort,
+    core: &mut Core,
+    place: u32,
+    outcome: Outcome,
+    wanted: &[u32],
+) -> Result<(), AllocError> {
+    assert!(rt; core.is_free(place));
+    let withdrawn = core.learn(place, outcome)?;
+    assert_eq!(rt; withdrawn.workers.as_slice(), wanted);
+    assert!(rt; core.has_outcome(place));
+    assert!(rt; !core.is_free(place));
+    Ok(())
+}
+
+/// Asserts which places some path asks for, from these on.
+fn wants(rt: &impl Abort, core: &mut Core, wanted: &[u32]) -> Result<(), AllocError> {
+    for place in 0..9 {
+        let is_wanted = core.wants(place)?;
+        assert_eq!(rt; is_wanted, wanted.contains(&place));
+    }
+    Ok(())
+}
+
+/// An outcome that is learnt before its place is asked for waits, and is used when a mark leads there.
+fn an_outcome_is_learnt(rt: &impl Abort, core: &mut Core) -> Result<(), AllocError> {
+    wants(rt, core, &[1, 2, 3, 4, 5, 6])?;
+    picks(rt, core, 1, 3)?;
+    assert!(rt; core.is_under_test(3) && !core.has_outcome(3));
+    picks(rt, core, 2, 5)?;
+    picks(rt, core, 3, 1)?;
+    wants(rt, core, &[1, 2, 3, 4, 5, 6])?;
+    learns(rt, core, 4, BAD, &[])?;
+    wants(rt, core, &[1, 2, 3, 5, 6])?;
+    assert_eq!(rt; core.entries().len(), 0);
+    assert_eq!(rt; core.claims().len(), 3);
+    withdraws(rt, core, (1, 3), GOOD, &[3])?;
+    has_marked(rt, core, Mark::Good, 3);
+    wants(rt, core, &[5, 6])?;
+    withdraws(rt, core, (2, 5), BAD, &[3])?;
+    assert!(rt; core.ending() == Some(&Ending::FirstBad(4)));
+    wants(rt, core, &[])
+}
+
+#[test]
+fn an_outcome_from_elsewhere(rt: HostRuntime) -> Result<(), Fail> {
+    let reach = line(rt.alloc())?;
+    let mut core = started(rt.alloc(), &reach, 0)?;
+    an_outcome_is_learnt(&rt, &mut core)?;
+    Ok(())
+}

@@ -90,6 +90,12 @@ fn each_command_is_carried_out(rt: HostRuntime) -> Result<(), Fail> {
             status: 16,
             text: b"no such file\n",
         },
+        Row {
+            words: &[b"serve"],
+            file: b"",
+            status: 0,
+            text: b"ready 1 8\n",
+        },
     ];
     for row in &rows {
         let told = told(&rt, row.words, EIGHT, row.file)?;
@@ -226,6 +232,12 @@ fn words_are_told_by_their_index(rt: HostRuntime) -> Result<(), Fail> {
             file: b"",
             status: 1,
             text: b"usage fault at word 3\n",
+        },
+        Row {
+            words: &[b"serve", b"file"],
+            file: b"",
+            status: 1,
+            text: b"usage fault at word 1\n",
         },
     ];
     for row in &rows {

@@ -1,0 +1,4 @@
+pub mod Replying
+pub mod Writing
+pub mod Concluding
+pub mod Replies

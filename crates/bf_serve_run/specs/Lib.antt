@@ -1,0 +1,3 @@
+pub mod Serving
+pub mod Command
+pub mod Laws
