@@ -5,17 +5,22 @@
     word WORD                       for each word of the command; a byte that is not printable is \\ and three octal digits
     folder FOLDER                   where the command was run below the top
     term-new TERM, term-old TERM    where they were given
+    build WORD                      the line of sh that builds a commit before its test
+    retry N, repeat N               where they were given
+    made TIME                       when the answer was found, by the clock of that machine, and in UTC
+    machine WORD                    what that was: system, release and kind, without its name
     called-bad NAME [STATUS]        with what its test ended, where it was tested
     called-good NAME [STATUS]       for each
     outcome NAME STATUS             for each test that the answer stands on, as they are marked
     against NAME STATUS             for each further outcome that contradicts the answer
+    confirmed NAME OUTCOME N of M   the answer, and each parent of it, that was tested again: N of M tests were good, or bad
     certificate 1                   and so on to the line `end`, which is the certificate of farmdawn(1)
 """
 from __future__ import annotations
 
 import hashlib
 import re
-from typing import Dict, List, Optional, Set
+from typing import Dict, List, Optional, Set, Tuple
 
 from .facts import SKIP
 
@@ -27,13 +32,16 @@ WORD = r'([ -\[\]-~]|\\[0-3][0-7][0-7])*'
 # the kinds of lines in their order, and their forms
 FORMS = {
     'word': 'word ' + WORD, 'folder': 'folder ' + WORD, 'term-new': 'term-new ' + TERM, 'term-old': 'term-old ' + TERM,
+    'build': 'build ' + WORD, 'retry': 'retry [1-9][0-9]?', 'repeat': 'repeat [1-9][0-9]?',
+    'made': 'made [0-9]{4}-[0-9]{2}-[0-9]{2}T[0-9]{2}:[0-9]{2}:[0-9]{2}Z', 'machine': 'machine ' + WORD,
     'called-bad': 'called-bad %s(?: %s)?' % (NAME, STATUS), 'called-good': 'called-good %s(?: %s)?' % (NAME, STATUS),
-    'outcome': 'outcome %s %s' % (NAME, STATUS), 'against': 'against %s %s' % (NAME, STATUS), 'certificate': 'certificate 1',
+    'outcome': 'outcome %s %s' % (NAME, STATUS), 'against': 'against %s %s' % (NAME, STATUS),
+    'confirmed': 'confirmed %s (?:good|bad) [0-9]{1,3} of [1-9][0-9]{0,2}' % NAME, 'certificate': 'certificate 1',
     'bad': 'bad ' + NAME, 'first-parent': 'first-parent', 'good': 'good ' + NAME, 'reach': 'reach %s from %s' % (NAME, NAME), 'end': 'end',
 }
 KINDS = list(FORMS)
 NEEDED = ('word', 'called-bad', 'called-good', 'certificate', 'bad', 'good', 'end')
-REPEATED = ('word', 'called-good', 'outcome', 'against', 'good', 'reach')
+REPEATED = ('word', 'called-good', 'outcome', 'against', 'confirmed', 'good', 'reach')
 
 
 class Fault(Exception):
@@ -66,7 +74,11 @@ class Answer:
         self.goods: List[str] = []                  # called good, or tested so
         self.listed: Set[str] = set()               # the good ones of the certificate
         self.words: List[str] = []
-        self.bad, self.term, self.first_parent = '', 'bad', False
+        self.build: Optional[str] = None
+        self.folder, self.retry, self.repeat = '', 0, 1
+        self.made, self.machine = '', ''
+        self.confirmed: List[Tuple[str, str, int, int]] = []   # a commit, good or bad, and so many of so many tests
+        self.bad, self.term, self.old, self.first_parent = '', 'bad', 'good', False
         self.start = 0                              # the number of the line `certificate 1`
 
     def commits(self) -> List[str]:
@@ -91,14 +103,22 @@ class Answer:
         parts = line.split(' ')
         if kind == 'word':
             self.words.append(line[len('word '):])
+        elif kind in ('build', 'folder', 'made', 'machine'):
+            setattr(self, kind, line[len(kind) + 1:])
+        elif kind in ('retry', 'repeat'):
+            setattr(self, kind, int(parts[1]))
         elif kind == 'term-new':
             self.term = parts[1]
+        elif kind == 'term-old':
+            self.old = parts[1]
         elif kind in ('called-bad', 'called-good'):
             self.take_end(number, kind[len('called-'):], parts)
         elif kind == 'outcome':
             self.take_outcome(number, parts[1], int(parts[2]))
         elif kind == 'against':
             self.against[parts[1]] = int(parts[2])
+        elif kind == 'confirmed':
+            self.take_confirmed(number, parts)
         elif kind == 'certificate':
             self.start = number
         elif kind == 'first-parent':
@@ -127,6 +147,15 @@ class Answer:
         self.outcomes[commit] = status
         if status == 0:
             self.goods.append(commit)
+
+    def take_confirmed(self, number: int, parts: List[str]) -> None:
+        """How often a commit was what the answer says of it."""
+        times, runs = int(parts[3]), int(parts[5])
+        if times > runs:
+            raise Fault(number, 'more than all of the tests')
+        if any(parts[1] == name for name, _, _, _ in self.confirmed):
+            raise Fault(number, 'named twice')
+        self.confirmed.append((parts[1], parts[2], times, runs))
 
     def take_listed(self, number: int, kind: str, commit: str) -> None:
         """The bad commit, and the good ones, of the certificate: the head says the same of them."""

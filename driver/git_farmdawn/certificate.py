@@ -10,11 +10,12 @@ from __future__ import annotations
 import hashlib
 import os
 import subprocess
+import time
 from typing import TYPE_CHECKING, Dict, Iterable, List, NamedTuple, Set, Tuple
 
 from .answer_file import Answer, Fault, encoded, read_answer, with_sum
-from .ending import Ending, marks_of
-from .facts import SKIP
+from .ending import Ending
+from .facts import SKIP, marks_of
 from .outputs import has_room, write_whole
 from .words import Stop
 
@@ -108,6 +109,11 @@ def head_lines(ending: Ending, test: Test) -> List[str]:
     lines += [encoded('folder', os.fsencode(repo.prefix))] if repo.prefix else []
     lines += ['term-new ' + settings.term_new] if settings.term_new is not None else []
     lines += ['term-old ' + settings.term_old] if settings.term_old is not None else []
+    lines += [encoded('build', os.fsencode(settings.build[-1]))] if settings.build else []
+    lines += ['retry %d' % settings.retry] if settings.retry else ['repeat %d' % settings.repeat] if settings.repeat > 1 else []
+    system = os.uname()
+    lines += [time.strftime('made %Y-%m-%dT%H:%M:%SZ', time.gmtime()),
+              encoded('machine', os.fsencode('%s %s %s' % (system.sysname, system.release, system.machine)))]
     for kind, name in [('called-bad', settings.bad)] + [('called-good', good) for good in settings.goods]:
         lines.append('%s %s%s' % (kind, name, ' %d' % test.known[name] if name in test.known else ''))
     ends = set(settings.goods + [settings.bad])
@@ -115,7 +121,9 @@ def head_lines(ending: Ending, test: Test) -> List[str]:
         # a commit that --skip names may have an outcome, which the answer does not stand on
         if name in test.known and name not in ends and (word == 'skip') == (test.known[name] == SKIP):
             lines.append('outcome %s %d' % (name, test.known[name]))
-    return lines + ['against %s %d' % (one.commit, one.status) for one in ending.contradictions(test)]
+    lines += ['against %s %d' % (one.commit, one.status) for one in ending.contradictions(test)]
+    return lines + ['confirmed %s %s %d of %d' % (one.commit, 'bad' if one.is_bad else 'good', one.times, one.runs)
+                    for one in test.confirmed if one.runs]
 
 
 def make(ending: Ending, test: Test) -> bytes:
@@ -153,7 +161,7 @@ def write_all(ending: Ending, status: int) -> int:
     """The files of all searches; of several each has the name of its test behind it."""
     path = ending.settings.certificate or ''
     for test in ending.tests:
-        failed = write_one(ending, test, path + ('.' + test.name if test.name else ''))
+        failed = write_one(ending, test, path + ('.' + test.short if test.name else ''))
         status = failed or status
     return status
 
@@ -289,28 +297,46 @@ def check_answer(checker: Checker, data: bytes) -> Answer:
 
 
 def told(answer: Answer) -> List[str]:
-    """What is said of a file that holds: what is known by it, and what is not."""
+    """What is said of a file that holds: what it claims, what is known by it, and what is not."""
     statuses = list(answer.outcomes.values())
     good, skipped = statuses.count(0), statuses.count(125)
-    lines = ['certificate holds for ' + answer.bad,
-             'it is the first %s commit, by %d tests (%d good, %d skipped) of: %s'
-             % (answer.term, len(statuses), good, skipped, ' '.join(answer.words).rstrip(' ')),
-             '%s of it are good, where the %d good commits of the certificate and all of their ancestors are'
-             % ('the first parent' if answer.first_parent else 'the parents', len(answer.listed))]
     own = answer.outcomes.get(answer.bad, answer.tested_ends.get(answer.bad))
-    untested = [name for name in answer.called if name not in answer.tested_ends]
-    lines.append('%s; of the %d ends %d were tested; whether the tests ended so is not checked'
-                 % ('its test ended with %d' % own if own is not None else 'it was called so, and not tested', len(answer.called),
-                    len(answer.called) - len(untested)))
-    if not good and not any(status == 0 for status in answer.tested_ends.values()):
+    parents = 'its first parent is' if answer.first_parent else 'its parents are'
+    lines = ['certificate holds for ' + answer.bad,
+             'checked: the file and this history agree: where the outcomes are what it claims, and the %d good commits are good with all of '
+             'their ancestors, it is the first %s commit: %s good' % (len(answer.listed), answer.term, parents),
+             'it claims: %s, by %d tests (%d good, %d skipped) of: %s'
+             % ('its test ended with %d' % own if own is not None else 'it was called so, and not tested', len(statuses), good, skipped,
+                ' '.join(answer.words).rstrip(' '))]
+    return lines + claims_of(answer) + ['not checked: whether the tests ended so; --retest tests the commit and its parents here']
+
+
+def claims_of(answer: Answer) -> List[str]:
+    """What a file claims beside the outcomes that its answer stands on."""
+    lines = []
+    if answer.made or answer.machine:
+        lines.append('it claims: made %s on %s' % (answer.made or 'at a time that is not told', answer.machine or 'a machine that is not told'))
+    if answer.build is not None or answer.retry or answer.repeat > 1:
+        often = 'a failure counts behind %d others' % answer.retry if answer.retry else 'good is what was good %d times' % answer.repeat
+        parts = ['built by: ' + answer.build] if answer.build is not None else []
+        lines.append('it claims: ' + ', '.join(parts + ([often] if answer.retry or answer.repeat > 1 else [])))
+    for name, called in answer.called.items():
+        status = answer.tested_ends.get(name)
+        lines.append('it claims: %s was called %s, and %s' % (name[:12], answer.term if called == 'bad' else answer.old,
+                                                              'not tested' if status is None else 'its test ended with %d' % status))
+    if answer.confirmed:
+        tallies = ['%s %s %d of %d' % (name[:12], answer.term if kind == 'bad' else answer.old, times, runs)
+                   for name, kind, times, runs in answer.confirmed]
+        lines.append('it claims: tested again: ' + ', '.join(tallies))
+    if not any(status == 0 for status in [*answer.outcomes.values(), *answer.tested_ends.values()]):
         lines.append('no test was good: a command that always fails has such a certificate, too')
     if answer.against:
         lines.append('%d further outcomes contradict it: %s' % (len(answer.against), ', '.join(name[:12] for name in answer.against)))
     return lines
 
 
-def check(checker: Checker, voice: Telling) -> int:
-    """git farmdawn --check FILE; gives the status."""
+def read_file(checker: Checker) -> Answer:
+    """The answer of a file that holds."""
     path = checker.shown
     try:
         with open(path, 'rb') as file:
@@ -319,8 +345,12 @@ def check(checker: Checker, voice: Telling) -> int:
             data = file.read(MOST_BYTES + 1)
     except OSError:
         raise Stop(16, path + ': no such file') from None
-    answer = check_answer(checker, data)
-    text = ''.join(line + '\n' for line in told(answer)).encode()
+    return check_answer(checker, data)
+
+
+def check(checker: Checker, voice: Telling) -> int:
+    """git farmdawn --check FILE; gives the status."""
+    text = ''.join(line + '\n' for line in told(read_file(checker))).encode()
     try:
         os.write(1, text)
     except OSError:

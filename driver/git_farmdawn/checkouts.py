@@ -5,15 +5,18 @@ import errno
 import fcntl
 import os
 import time
-from typing import Dict, Generator, Optional, Union
+from typing import TYPE_CHECKING, Dict, Generator, Optional, Union
 
 from .copies import Copies
 from .folders import content, first_line, remove_all
-from .left import Before, head_of, unfinished
+from .left import Before, Signs, head_of, signs_of, unfinished
 from .loop import Loop, Work
 from .process import Child, Command, Keeper, end_holders
 from .repository import PLAIN, Repository
 from .run import Run
+
+if TYPE_CHECKING:
+    from .pool import Pool
 
 ATTRIBUTES = ':(top,glob)**/.gitattributes'
 FEW = 2000                              # commits in which it is found at once whether files .gitattributes differ
@@ -35,6 +38,8 @@ class Shop:
         self.copies, self.submodules = copies, submodules
         self.attributes: Optional[bool] = None
         self.adding = False
+        self.pool: Optional[Pool] = None
+        self.clean = False                      # whether files that git ignores are removed, too
         # git takes more of the repository's configuration for a worktree's own where this is set
         self.own_config = b'worktreeconfig' in content(run.repo.gitdir + '/config').lower()
 
@@ -71,6 +76,22 @@ class Checkout:
         self.broken, self.commit = False, ''
         self.brought: Dict[str, str] = {}
         self.before: Optional[Before] = None
+        self.index: Signs = None                # of git's index, as it was left here
+        self.place = shop.pool.take() if shop.pool is not None else None
+        self.foreign = False                    # whether its commit is that of an earlier search
+        if self.place is not None and shop.pool is not None:
+            self.build = self.place.build
+            self.commit = self.place.take(shop.pool.sign)
+            self.foreign = bool(self.commit)
+            self.folder = self.place.path if self.commit else ''
+
+    def leave(self) -> None:
+        """Leaves a checkout of the pool as one that is whole, without what was brought."""
+        if self.place is None or self.shop.pool is None or self.broken or not self.commit or not self.is_worktree():
+            return
+        for path in self.brought:
+            remove_all(os.path.join(self.folder, path))
+        self.place.leave(self.commit, self.shop.pool.sign)
 
     # -- git ------------------------------------------------------------------
 
@@ -133,7 +154,7 @@ class Checkout:
         """Removes what is there, and has git make a worktree with the settings of the user's work tree."""
         if self.is_worktree():
             remove_all(self.own)
-        self.folder = self.shop.run.new_place(self.number)
+        self.folder = self.place.renew() if self.place is not None else self.shop.run.new_place(self.number)
         self.commit = ''
         self.brought.clear()
         remove_all(self.build)
@@ -162,21 +183,36 @@ class Checkout:
         for name in ('index.lock', 'HEAD.lock'):        # of a git that was killed; the folder is ours alone
             if os.path.lexists(os.path.join(self.own, name)):
                 os.unlink(os.path.join(self.own, name))
-        renew = bool(before) and self.shop.attributes is not False and before != commit
+        renew = bool(before) and (self.shop.attributes is not False or self.foreign) and before != commit
+        self.foreign = False
         if renew:
             renew = not (yield from self.git(log, 'diff-tree', '-r', '--quiet', before, commit, '--', ATTRIBUTES))
+        if before and not renew and signs_of(self.own + '/index') != self.index:
+            renew = yield from self.hides_files()
         if not (yield from self.git(log, 'checkout', '-q', '-f', '--detach', commit)):
             return False
         if renew and not (yield from self.write_all(log)):
             return False
-        if not (yield from self.git(log, 'clean', '-q', '-ffd')):
+        if not (yield from self.git(log, 'clean', '-q', '-ffdx' if self.shop.clean else '-ffd')):
             return False
+        if self.shop.clean:
+            remove_all(self.build)
         if self.shop.submodules and not (yield from self.update_submodules(log)):
             return False
         if head_of(self.repo, self.own, self.folder) != commit:
             return False
-        self.commit = commit
+        self.commit, self.index = commit, signs_of(self.own + '/index')
         return True
+
+    def hides_files(self) -> Steps:
+        """Whether a test has told git not to look at a file (`git update-index --skip-worktree`): no checkout writes it then."""
+        if os.path.lexists(self.own + '/info/sparse-checkout'):
+            return False
+        path = os.path.join(self.shop.run.state, f'listed-{self.number}')
+        with open(path, 'wb') as out:
+            if not (yield from self.git(out.fileno(), 'ls-files', '-v', '-z')):
+                return True
+        return any(row[:2] in (b'S ', b's ') for row in content(path).split(b'\0'))
 
     def write_all(self, log: int) -> Steps:
         """Has git write each file: one whose content is the same in both commits may be written otherwise by other attributes."""
@@ -207,16 +243,17 @@ class Checkout:
 
     # -- processes of a test --------------------------------------------------
 
-    def open_lock(self) -> int:
+    def open_lock(self, seat: int) -> int:
         """The lock that each process of a test has open."""
-        fd = os.open(self.lock, os.O_RDWR | os.O_CREAT | os.O_CLOEXEC, 0o600)
+        fd = os.open(f'{self.lock}.{seat}', os.O_RDWR | os.O_CREAT | os.O_CLOEXEC, 0o600)
         fcntl.flock(fd, fcntl.LOCK_SH)
         return fd
 
-    def end_leftovers(self) -> Generator[Child | float, object, None]:
-        """Ends what a test started as a session of its own, where it has the lock of this folder open."""
+    def end_leftovers(self, seat: int) -> Generator[Child | float, object, None]:
+        """Ends what a test started as a session of its own, where it has its lock open."""
+        lock = f'{self.lock}.{seat}'
         try:
-            fd = os.open(self.lock, os.O_RDWR | os.O_CREAT | os.O_CLOEXEC, 0o600)
+            fd = os.open(lock, os.O_RDWR | os.O_CREAT | os.O_CLOEXEC, 0o600)
         except OSError:
             return
         try:
@@ -225,7 +262,7 @@ class Checkout:
                     fcntl.flock(fd, fcntl.LOCK_EX | fcntl.LOCK_NB)
                     return
                 except OSError:
-                    end_holders(self.lock, 15 if turn < 20 else 9, exact=True)
+                    end_holders(lock, 15 if turn < 20 else 9, exact=True)
                 yield 0.05
         finally:
             os.close(fd)

@@ -4,7 +4,7 @@ from __future__ import annotations
 import os
 from typing import TYPE_CHECKING, Callable, Iterator, List, Optional
 
-from .engine import Engine, Lost, Refused, Reply
+from .engine import Engine, Lost, Refused, Reply, Unfit
 from .record import Test
 from .words import Stop
 
@@ -15,14 +15,16 @@ if TYPE_CHECKING:
     from .telling import Telling
 
 RESTARTS = 3
+MOST_SEARCHES = 64                      # of an engine; more tests wait for their turn
 
 
 class Dialogue:
-    """Asks, and has the events told: `heard` is called behind each of them, and `lost` where an engine was lost, so that claims are
-    forgotten. Neither asks for anything."""
+    """Asks, and has the events told: `heard` is called behind each of them, and `lost` where another engine takes the place of one, so that claims
+    are forgotten. Neither asks for anything."""
 
     def __init__(self, settings: Settings, run: Run, history: History, tests: List[Test], voice: Telling) -> None:
         self.settings, self.run, self.history, self.tests, self.voice = settings, run, history, tests, voice
+        self.turn = tests[:MOST_SEARCHES]       # those whose searches are under way
         self.engine: Optional[Engine] = None
         self.restarts = 0
         self.heard: Callable[[Test, bytes, bytes], object] = lambda test, kind, rest: None
@@ -51,9 +53,12 @@ class Dialogue:
             self.engine.load(stream)
         except Refused as refusal:
             raise Stop(9, f'farmdawn refuses the history: {refusal}') from None
+        except Unfit as fault:
+            raise Stop(1, f'{program} is of another version: git farmdawn needs its `serve --original-names` ({fault})') from None
+        self.engine.names.take(self.history.order if self.history.has_long_names() else ())
 
     def begin_searches(self) -> None:
-        """Begins a search for each test."""
+        """Begins a search for each test whose turn it is."""
         assert self.engine is not None
         words = self.settings.engine_words()
         for name in self.history.skips():
@@ -62,9 +67,10 @@ class Dialogue:
             words += [self.history.bad, *self.history.goods]
         else:
             with open(os.path.join(self.run.state, 'replay'), 'wb') as file:
-                file.write(self.settings.replay)
+                file.write(self.engine.names.shorten(self.settings.replay.decode('latin-1')).encode('latin-1'))
             words += ['--replay', 'replay']
-        for test in self.tests:
+        for number, test in enumerate(self.turn, 1):
+            test.number = number
             test.begin()
             reply = self.engine.ask_all(self.engine.words(words))[-1]
             if reply.kind == 'refused':
@@ -88,12 +94,21 @@ class Dialogue:
         if self.restarts > RESTARTS:
             raise fault
         self.voice.say(f'{fault}; another one goes on')
+        self.hand_over()
+
+    def begin_again(self) -> None:
+        """Another engine, as no request takes an outcome back."""
+        self.end()
+        self.hand_over()
+
+    def hand_over(self) -> None:
+        """Another engine gets the history, the searches and what is known now."""
         self.lost()
         try:
             self.start_engine(self.history.again())
             self.begin_searches()
-        except Lost as again:
-            self.restart(again)
+        except Lost as fault:
+            self.restart(fault)
             return
         self.learn_known()
 
@@ -101,13 +116,17 @@ class Dialogue:
         """Tells all outcomes that are known, many at once."""
         assert self.engine is not None
         try:
-            for test in self.tests:
-                self.engine.ask_all([f'learn {test.number} {commit} {status}' for commit, status in test.known.items()])
+            for test in self.turn:
+                if test.wrong is None:
+                    self.engine.ask_all([f'learn {test.number} {commit} {status}' for commit, status in test.known.items()])
         except Lost as fault:
             self.restart(fault)
 
     def learn(self, test: Test, commit: str, status: int) -> None:
-        """Tells an outcome that is of no pick; one that is known already is refused, and nothing changes."""
+        """Tells an outcome that is of no pick; one that is known already is refused, and nothing changes. A test whose turn
+        comes later learns it then."""
+        if test not in self.turn:
+            return
         try:
             self.ask(f'learn {test.number} {commit} {status}')
         except Refused:
@@ -115,15 +134,31 @@ class Dialogue:
 
     def certificate(self, test: Test) -> List[bytes]:
         """The lines of the certificate of a search that found the first bad commit."""
-        while True:
+        while test in self.turn:
             test.certificate = []
             if self.ask(f'certificate {test.number}').kind == 'ok':
-                return test.certificate
+                break
+        return test.certificate
+
+    # -- more tests than an engine has searches ----------------------------------
+
+    def next_turn(self) -> bool:
+        """Another engine searches for the next tests, where there are such; the searches of this one have their ends."""
+        at = self.tests.index(self.turn[-1]) + 1
+        if at == len(self.tests):
+            return False
+        for test in self.turn if self.settings.certificate else ():
+            if test.status == 0:
+                self.certificate(test)
+        self.end()
+        self.turn = self.tests[at:at + MOST_SEARCHES]
+        self.hand_over()
+        return True
 
     def hear(self, kind: bytes, rest: bytes) -> None:
         """Takes an event."""
         number, _, rest = rest.partition(b' ')
-        test = self.tests[int(number) - 1]
+        test = self.turn[int(number) - 1]
         test.hear(kind, rest)
         self.heard(test, kind, rest)
 

@@ -6,6 +6,7 @@ import time
 from html import escape
 from typing import Dict, List, NamedTuple, Optional, Sequence
 
+from .facts import outcome_of
 from .report_facts import Facts, TestFact, is_needless
 from .telling import NAME, span
 
@@ -17,26 +18,37 @@ STEPS = (0.1, 0.2, 0.5, 1, 2, 5, 10, 15, 30, 60, 120, 300, 600, 900, 1800, 3600,
 # a pattern for each outcome, for those who see few colours
 PATTERNS = (('good', ''), ('bad', 'M-2 2 2-2M-2 10 10-2M6 10 10 6'), ('skipped', 'M2 2h2M6 6h2'), ('stopped', 'M0 0 8 8M8 0 0 8'),
             ('lost', 'M4 0v8'))
+PLAIN = {'good': '#0072b2', 'bad': '#c94f00', 'skipped': '#6f7378', 'stopped': '#9c3d78', 'lost': '#9c3d78'}   # without a style
 MOST_CELLS = 160
 CELL, GAP = 9, 4
 
 
-def page_text(text: str) -> str:
-    """A text as the page has it: controls, and what turns the direction of a text, by sign or number."""
+def plain(text: str) -> str:
+    """A text with controls, and what turns the direction of a text, by sign or number."""
     def sign(match: re.Match[str]) -> str:
         code = ord(match.group())
         return '^' + chr(64 + code) if code < 32 else '^?' if code == 127 else '[U+%04X]' % code
-    return escape(re.sub('[\ufffe\uffff]|[\U0001fffe-\U0001ffff]', '\ufffd', HIDDEN.sub(sign, COLOURS.sub('', text))))
+    return re.sub('[\ufffe\uffff]|[\U0001fffe-\U0001ffff]', '\ufffd', HIDDEN.sub(sign, COLOURS.sub('', text)))
+
+
+def page_text(text: str) -> str:
+    """The same as the page has it."""
+    return escape(plain(text))
 
 
 def patterns() -> str:
     """What fills the bars and cells."""
-    out = ['<svg width="0" height="0" aria-hidden="true" style="position:absolute"><defs>']
+    out = ['<svg width="0" height="0" aria-hidden="true" class="patterns"><defs>']
     for name, path in PATTERNS:
-        mark = '<path class="m" d="%s"/>' % path if path else ''
-        out.append('<pattern id="p-%s" width="8" height="8" patternUnits="userSpaceOnUse"><rect width="8" height="8" class="c-%s"/>'
-                   '%s</pattern>' % (name, name, mark))
+        mark = '<path class="m" stroke="#fff" fill="none" d="%s"/>' % path if path else ''
+        out.append('<pattern id="p-%s" width="8" height="8" patternUnits="userSpaceOnUse"><rect width="8" height="8" class="c-%s" fill="%s"/>'
+                   '%s</pattern>' % (name, name, PLAIN[name], mark))
     return '\n'.join(out) + '</defs></svg>'
+
+
+def filling(outcome: str) -> str:
+    """What fills a bar, by its own attribute, so that it is filled where a server allows no style."""
+    return 'url(#p-%s)' % outcome if outcome in PLAIN else 'none'
 
 
 def legend(words: Sequence[str], faint: str = '') -> List[str]:
@@ -44,8 +56,8 @@ def legend(words: Sequence[str], faint: str = '') -> List[str]:
     out = ['<ul class="legend">']
     for word in OUTCOMES:
         if word in words:
-            out.append('<li><svg width="22" height="12" aria-hidden="true"><rect x="1" y="1" width="20" height="10" class="%s"/></svg>'
-                       '%s</li>' % (word, MEANT.get(word, word)))
+            out.append('<li><svg width="22" height="12" aria-hidden="true"><rect x="1" y="1" width="20" height="10" class="%s" fill="%s"/></svg>'
+                       '%s</li>' % (word, filling(word), MEANT.get(word, word)))
     return out + (['<li>%s</li>' % faint] if faint else []) + ['</ul>']
 
 
@@ -60,7 +72,7 @@ class Cell(NamedTuple):
     number: Optional[int]       # of its row in the table
 
 
-def cells_of(facts: Facts, place: Dict[str, int]) -> List[Cell]:
+def cells_of(facts: Facts, place: Dict[str, int], known: Dict[str, int]) -> List[Cell]:
     """The commits that have an outcome, and the ends, in the order of the history."""
     found: Dict[str, Cell] = {}
     for end in facts['ends']:
@@ -68,8 +80,9 @@ def cells_of(facts: Facts, place: Dict[str, int]) -> List[Cell]:
         if end['commit'] in place and end['status'] is None:
             found[end['commit']] = Cell(end['commit'], place[end['commit']], called, None)
     for number, one in enumerate(facts['tests'], 1):
-        if one['commit'] in place and one['status'] is not None:
-            found[one['commit']] = Cell(one['commit'], place[one['commit']], one['outcome'], number)
+        if one['commit'] in place and one['status'] is not None and (one['run'] == 1 or one['commit'] not in found):
+            outcome = outcome_of(known[one['commit']]) if one['commit'] in known else one['outcome']
+            found[one['commit']] = Cell(one['commit'], place[one['commit']], outcome, number)
     cells = sorted(found.values(), key=lambda cell: cell.at)
     if len(cells) <= MOST_CELLS:
         return cells
@@ -79,9 +92,9 @@ def cells_of(facts: Facts, place: Dict[str, int]) -> List[Cell]:
     return cells[begin:begin + MOST_CELLS]
 
 
-def strip(facts: Facts, place: Dict[str, int]) -> List[str]:
+def strip(facts: Facts, place: Dict[str, int], known: Dict[str, int]) -> List[str]:
     """The history from the good commits to the bad one: a cell for each commit that has an outcome, with the answer marked."""
-    cells = cells_of(facts, place)
+    cells = cells_of(facts, place, known)
     if len(cells) < 2:
         return []
     name = facts['answer']['name'] if facts['answer'] else ''
@@ -93,7 +106,7 @@ def strip(facts: Facts, place: Dict[str, int]) -> List[str]:
             out.append('<path d="M%d 0v30" class="boundary"/>' % (x - 1))
         kind = cell.outcome + (' doubt' if cell.commit in contradicts else '')
         title = '<title>%s %s%s</title>' % (cell.commit[:NAME], cell.outcome, ': contradicts' if cell.commit in contradicts else '')
-        bar = '<rect x="%d" y="6" width="%d" height="18" class="%s"/>' % (x, CELL - 1, kind)
+        bar = '<rect x="%d" y="6" width="%d" height="18" class="%s" fill="%s"/>' % (x, CELL - 1, kind, filling(cell.outcome))
         out.append('<a href="#t%d" tabindex="-1">%s%s</a>' % (cell.number, title, bar) if cell.number else bar)
         x, last = x + CELL, cell.at
     words = {cell.outcome for cell in cells}
@@ -146,9 +159,9 @@ def bar_of(number: int, one: TestFact, scale: Scale) -> str:
     spent = max(0.0, (one['ended'] or scale.now) - began)
     title = '%s %s: %s, worker %d, from %.1f s for %s' % (one['commit'][:NAME], page_text(one['subject']), one['outcome'],
                                                           one['worker'] or 1, began - scale.first, span(spent))
-    return ('<a href="#t%d" tabindex="-1"><rect x="%.3f%%" y="%d" width="%.3f%%" height="%d" class="%s%s"><title>%s</title></rect></a>'
+    return ('<a href="#t%d" tabindex="-1"><rect x="%.3f%%" y="%d" width="%.3f%%" height="%d" class="%s%s" fill="%s"><title>%s</title></rect></a>'
             % (number, (began - scale.first) / scale.total * 100, ((one['worker'] or 1) - 1) * scale.row + 2,
-               spent / scale.total * 100, scale.row - 4, one['outcome'], ' needless' if is_needless(one) else '', title))
+               spent / scale.total * 100, scale.row - 4, one['outcome'], ' needless' if is_needless(one) else '', filling(one['outcome']), title))
 
 
 def farm(facts: Facts, counts: str) -> List[str]:

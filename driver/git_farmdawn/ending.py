@@ -3,9 +3,10 @@ from __future__ import annotations
 
 import os
 import time
-from typing import TYPE_CHECKING, Dict, List, Optional, Tuple
+from typing import TYPE_CHECKING, List, Optional
 
-from . import evidence
+from . import evidence, several
+from .confirm import sentence
 from .facts import SKIP, ends_of
 from .outputs import last_lines, write_whole
 from .telling import NAME, about, lasting, rounds, shown
@@ -54,7 +55,7 @@ class Ending:
             status = 13
         for test in self.tests:
             self.tell_answer(test)
-        if len(self.tests) > 1:
+        if self.tests[0].name:
             self.tell_groups()
         self.tell_sums()
         status = self.write_certificates(status)
@@ -85,8 +86,8 @@ class Ending:
         lines: List[bytes] = []
         for test in self.tests:
             if test.name:
-                lines.append(b'# search of ' + test.name.encode() + b': ' + os.fsencode(test.words[-1].replace('\n', ' ')))
-            lines += self.search.log_lines(test, with_answer)
+                lines.append(several.title(test, self.settings.is_list))
+            lines += self.search.log_lines(test, with_answer) if test.wrong is None else [b'# ' + os.fsencode(several.left_out(test))]
         return b''.join(line + b'\n' for line in lines)
 
     def print_log(self, with_answer: bool) -> bool:
@@ -108,11 +109,11 @@ class Ending:
             return False
 
     def answer_text(self) -> bytes:
-        """The answers, to be seen at once."""
-        lines = []
-        for test in self.tests:
-            name = ' [%s]' % test.name if test.name else ''
-            lines += [self.voice.bold(os.fsdecode(line) + name) for line in test.answer]
+        """The answers, to be seen at once; those of several tests by commit."""
+        if self.tests[0].name:
+            lines = list(several.first_lines(self))
+        else:
+            lines = [self.voice.bold(os.fsdecode(line)) for line in self.tests[0].answer]
         return b''.join(os.fsencode(line) + b'\n' for line in lines)
 
     def keep_log(self, text: bytes) -> Optional[str]:
@@ -149,11 +150,18 @@ class Ending:
             voice.say('none of the commits that change these paths is %s, and %s changes none of them; the same line without '
                       '--path searches all commits, and knows the outcomes that were found' % (new, name))
         ends = ends_of(self.settings.bad, self.settings.goods, self.settings.terms)
+        self.tell_confirmed(test)
         doubt = evidence.tell_unseen(test.known, ends)
         if doubt:
             voice.say(self.of(test) + doubt)
         for line in evidence.tell_contradictions(self.contradictions(test), new, old):
             voice.say(self.of(test) + line) if not line.startswith(' ') else voice.line(line)
+
+    def tell_confirmed(self, test: Test) -> None:
+        """How often the answer and its parents were what it says of them."""
+        if test.confirmed:
+            tell = self.voice.tell if test.is_sure else self.voice.say
+            tell(self.of(test) + sentence(test.confirmed, test.is_sure, self.settings.terms))
 
     def contradictions(self, test: Test) -> List[evidence.Contradiction]:
         """The outcomes in hand that contradict the answer of a search."""
@@ -174,8 +182,7 @@ class Ending:
 
     def all_named(self, test: Test) -> List[str]:
         """The commits that the answer names."""
-        words = [word.strip("'") for line in test.answer for word in line.decode('ascii', 'replace').split()]
-        return [word for word in words if word in self.search.history.place]
+        return evidence.named_by(test.answer, self.search.history.place)
 
     def show_commit(self, name: str) -> None:
         """The commit in one screen."""
@@ -213,7 +220,7 @@ class Ending:
     def tell_left(self, test: Test) -> None:
         """The commits of which one is the first bad one."""
         names = self.all_named(test)
-        if not self.voice.quiet and names:
+        if not self.voice.quiet and names and not test.name:
             self.voice.line('%sone of %s:' % (self.of(test), counted(len(names), 'commit')))
             for name in names[:MOST_CANDIDATES]:
                 self.voice.line('    %s  %s' % (name[:NAME], shown(self.search.history.subject[name], SUBJECT)))
@@ -237,29 +244,22 @@ class Ending:
     # -- several searches, and sums ----------------------------------------------------
 
     def tell_groups(self) -> None:
-        """Which tests have the same answer."""
-        groups: Dict[str, List[str]] = {}
-        other = {2: 'only skipped commits are left', 6: 'stopped by a test'}
-        for test in self.tests:
-            name = self.named(test) if test.status == 0 else None
-            if name:
-                key = '%s  %s' % (name[:NAME], shown(self.search.history.subject[name], SUBJECT))
-            else:
-                key = other.get(test.status or 0, 'no answer (status %d)' % (test.status or 0))
-            groups.setdefault(key, []).append(test.name)
-        self.voice.say('%s, %s:' % (counted(len(self.tests), 'test'), counted(len(groups), 'answer')))
-        for key, names in groups.items():
-            self.voice.line('    %s\n        %s' % (key, ', '.join(names)))
+        """The answers by commit, where they are not on the terminal, and the tests that have none."""
+        self.voice.say(several.heading(self) + ':')
+        for line in [] if is_terminal() else several.first_lines(self):
+            self.voice.line(line)
+        for line in several.other_lines(self):
+            self.voice.line(line)
 
     def tell_sums(self) -> None:
         """How many tests there were, how many of them the log has, and how long all took."""
-        rows = [(test, row) for test in self.tests for row in test.rows]
+        rows = [row for test in self.tests for row in test.rows]
         if self.voice.quiet or not rows:
             return
-        marks = {(test.name, name) for test in self.tests for name in used_of(test.log)}
-        used = [row for test, row in rows if (test.name, row.commit) in marks and row.status is not None]
-        text = '%s (%d needed) in %s, %s' % (counted(len(rows), 'test'), len(used), lasting(time.monotonic() - self.search.began),
-                                             counted(self.settings.workers, 'worker'))
+        if self.tests[0].name or self.search.builds:
+            self.voice.line(several.sums(self.search))
+            return
+        text, used = several.counts(self.search, rows), several.used_rows(self.search)
         if self.settings.workers > 1 and used:
             text += '; one at a time about ' + lasting(sum(row.ended - row.began for row in used))
         self.voice.line(text)
@@ -283,17 +283,6 @@ class Ending:
             self.voice.say('there is no report: %s cannot be written, or has no room' % self.report.folder)
             return 14 if status <= 6 else status
         return status
-
-
-def marks_of(log: List[bytes]) -> List[Tuple[str, str]]:
-    """The marks of a log: the word, and the commit."""
-    words = [line.decode('ascii', 'replace').split() for line in log if line.startswith(b'git bisect ')]
-    return [(mark[2], mark[3]) for mark in words if len(mark) == 4 and mark[2] != 'start']
-
-
-def used_of(log: List[bytes]) -> List[str]:
-    """The commits that the lines of a log mark."""
-    return [name for _, name in marks_of(log)]
 
 
 def tell_begin(search: Search) -> None:

@@ -6,9 +6,12 @@ import select
 import subprocess
 from typing import Callable, Iterable, List, Mapping, NamedTuple, NoReturn, Optional, Sequence
 
+from .long_names import LongNames
+
 EVENTS = (b'log', b'left', b'answer', b'end', b'needless', b'certificate')
 LAST_WORDS = 1000                       # milliseconds in which it may say why it ends
 LONGEST = 60000                         # bytes of a line of words; a request may have 65,535
+LONGEST_TOLD = 1000                     # bytes of what it told on its standard error
 
 
 class Lost(Exception):
@@ -17,6 +20,10 @@ class Lost(Exception):
 
 class Refused(Exception):
     """It refused the history or a request; the text says why."""
+
+
+class Unfit(Exception):
+    """It is none that answers the driver; the text says what it said."""
 
 
 class Reply(NamedTuple):
@@ -31,9 +38,11 @@ class Engine:
     def __init__(self, program: str, hear: Callable[[bytes, bytes], object], folder: str, env: Mapping[str, str]) -> None:
         self.hear, self.requests, self.inbox, self.program = hear, 0, b'', program
         self.lines: List[bytes] = []
+        self.names = LongNames()
+        self.told = os.open(os.path.join(folder, 'engine.told'), os.O_RDWR | os.O_CREAT | os.O_TRUNC | os.O_CLOEXEC, 0o600)
         # a session of its own: what a terminal sends is for the driver, which ends the engine by closing its input
         self.popen = subprocess.Popen([program, 'serve', '--original-names'], stdin=subprocess.PIPE, stdout=subprocess.PIPE,
-                                      bufsize=0, cwd=folder, env=dict(env), start_new_session=True)
+                                      stderr=self.told, bufsize=0, cwd=folder, env=dict(env), start_new_session=True)
         assert self.popen.stdin is not None and self.popen.stdout is not None
         self.to, self.out = self.popen.stdin.fileno(), self.popen.stdout.fileno()
         os.set_blocking(self.to, False)
@@ -81,13 +90,14 @@ class Engine:
     def ask_all(self, lines: Sequence[str]) -> List[Reply]:
         """Sends requests ahead of their replies, and gives these; one may be `refused`."""
         self.requests += len(lines)
-        self.write(''.join([line + '\n' for line in lines]).encode())
+        self.write(self.names.shorten(''.join([line + '\n' for line in lines])).encode())
         return [self.read_reply() for _ in lines]
 
     def read_reply(self) -> Reply:
         """The next reply; events before it are told."""
         while True:
             kind, _, rest = self.read_line().partition(b' ')
+            rest = self.names.lengthen(rest)
             if kind not in EVENTS:
                 return Reply(kind.decode('ascii', 'replace'), rest.decode('ascii', 'replace'))
             self.hear(kind, rest)
@@ -121,7 +131,7 @@ class Engine:
         self.lines[:0] = lines[::-1]
 
     def fail(self) -> NoReturn:
-        """It is gone: raises Lost with its last words, or Refused where it refused the history."""
+        """It is gone: raises Lost with its last words, Refused where it refused the history, and Unfit where it knows no such command."""
         part = b'x'
         try:
             while part and self.readable.poll(LAST_WORDS):
@@ -133,17 +143,23 @@ class Engine:
         text = self.end_with(said)
         if said.startswith((b'refused ', b'stream refused', b'too large')):
             raise Refused(text)
+        if said.startswith(b'usage fault'):
+            raise Unfit(text)
         raise Lost(text)
 
     def end_with(self, said: bytes) -> str:
-        """Ends it, and says with what it ended."""
+        """Ends it, and says with what it ended, and what it told last."""
+        told = os.pread(self.told, LONGEST_TOLD, 0) if self.told >= 0 else b''
         self.end()
-        text = said.decode('ascii', 'replace').strip()
+        text = (said or told.partition(b'\n')[0]).decode('ascii', 'replace').strip()
         return f'farmdawn ended with {self.popen.returncode}{": " + text if text else ""}'
 
     def end(self) -> Optional[int]:
         """Closes its input, which ends it, and waits for that."""
         self.to = self.out = -1         # numbers that other files may get now
+        if self.told >= 0:
+            os.close(self.told)
+        self.told = -1
         for file in (self.popen.stdin, self.popen.stdout):
             if file is not None:
                 file.close()

@@ -51,6 +51,12 @@ class Contradiction(NamedTuple):
         return 'it is %s, and has the first %s commit' % (old, new)
 
 
+def named_by(answer: Iterable[bytes], place: Dict[str, int]) -> List[str]:
+    """The commits that the lines of an answer name."""
+    words = [word.strip("'") for line in answer for word in line.decode('ascii', 'replace').split()]
+    return [word for word in words if word in place]
+
+
 def with_answer(order: Sequence[str], parents: Sequence[Iterable[int]], place: Dict[str, int], answer: str) -> Set[int]:
     """The places of the commits that have the answer: itself and all that come behind it. Parents stand before."""
     found = {place[answer]}

@@ -4,7 +4,7 @@ from __future__ import annotations
 import os
 import shutil
 import stat
-from typing import Any, Callable
+from typing import Set
 
 
 def first_line(path: str) -> str:
@@ -37,18 +37,21 @@ def is_ours(path: str) -> bool:
 def remove_all(path: str) -> None:
     """Removes all of a path, also what a test made that cannot be written. It is for what is ours alone, when no process of a test
     has it any more."""
-    def free(call: Callable[[str], Any], name: str, _: object) -> None:
-        """Makes it one that can be removed, and tries again."""
+    freed: Set[str] = set()
+
+    def free(_: object, name: str, __: object) -> None:
+        """Makes it one that can be removed, for the next turn."""
+        freed.add(name)
         try:
             os.chmod(os.path.dirname(name), 0o700)
             if not os.path.islink(name):
                 os.chmod(name, 0o700)
-            call(name)
         except OSError:
             pass
     if os.path.islink(path) or os.path.isfile(path):
         os.unlink(path)
     elif os.path.lexists(path):
-        shutil.rmtree(path, onerror=free)
-        if os.path.lexists(path):
-            shutil.rmtree(path, ignore_errors=True)
+        before = -1
+        while os.path.lexists(path) and before < len(freed):    # each turn comes deeper
+            before = len(freed)
+            shutil.rmtree(path, onerror=free)

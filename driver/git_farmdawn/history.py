@@ -1,12 +1,14 @@
 """The shape of the history: what git lists between the ends, as the stream that the engine reads.
 
-A commit of the stream has git's name as its own (`original-oid`), its subject as its message, and no files.
+A commit of the stream has git's name as its own (`original-oid`; the first 40 digits of one that has 64), its subject as its
+message, and no files.
 """
 from __future__ import annotations
 
 import subprocess
 from typing import Dict, Iterator, List, NamedTuple, Sequence, Set, Tuple
 
+from .long_names import SHORT
 from .repository import Repository
 from .words import Stop
 
@@ -159,10 +161,14 @@ class History:
             if not parents:
                 out.append(b'reset refs/heads/c\n\n')
             out.append(b'commit refs/heads/c\nmark :%d\noriginal-oid %s\ncommitter f <f> %d +0000\ndata %d\n%s\n'
-                       % (at + 1, name.encode(), at + 1, len(subject), subject))
+                       % (at + 1, name[:SHORT].encode(), at + 1, len(subject), subject))
             out += [b'%s :%d\n' % (b'merge' if number else b'from', parent + 1) for number, parent in enumerate(parents)]
             out.append(b'\n')
         return b''.join(out)
+
+    def has_long_names(self) -> bool:
+        """Whether names have 64 digits; the stream has the first 40 of each."""
+        return len(self.bad) > SHORT
 
     def again(self) -> Iterator[bytes]:
         """The same stream once more, for another engine."""

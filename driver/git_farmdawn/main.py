@@ -14,6 +14,7 @@ from .telling import Telling
 from .words import Stop
 
 if TYPE_CHECKING:
+    from .certificate import Checker
     from .ending import Ending
     from .guardian import Guardian
     from .options import Line
@@ -89,16 +90,23 @@ class Program:
             return 0
         if line.action == 'check':
             return self.check(repo, line.file)
+        if line.action == 'retest':
+            from . import retest
+            return retest.retest(self, line, repo)
         return self.search_for(line, repo)
 
     def check(self, repo: Repository, file: str) -> int:
         """Checks a certificate."""
         from . import certificate
+        return certificate.check(self.checker(repo, file), self.voice)
+
+    def checker(self, repo: Repository, file: str) -> Checker:
+        """What a check of a certificate needs."""
+        from .certificate import Checker
         self.loop.held(lambda: self.open_run(repo))
         assert self.run is not None
         farmdawn = os.environ.get('FARMDAWN') or 'farmdawn'
-        farmdawn = os.path.abspath(farmdawn) if '/' in farmdawn else farmdawn
-        return certificate.check(certificate.Checker(repo, self.run.state, farmdawn, file), self.voice)
+        return Checker(repo, self.run.state, os.path.abspath(farmdawn) if '/' in farmdawn else farmdawn, file)
 
     # -- a search ------------------------------------------------------------------
 
@@ -129,6 +137,17 @@ class Program:
 
     def begin(self, settings: Settings, repo: Repository) -> Search:
         """All that a search needs: what is kept, the history, the engine, the copies."""
+        search = self.prepare(settings, repo)
+        if settings.noise is None:
+            search.begin()
+        else:
+            from . import noisy
+            noisy.begin(search)
+        search.beside = self.loop.spawn(search.shop.find_attributes([settings.bad, *settings.goods], search.history.bases, search.history.left))
+        return search
+
+    def prepare(self, settings: Settings, repo: Repository) -> Search:
+        """The same without the engine, which the history is handed to."""
         from . import evidence
         from .checkouts import Shop
         from .copies import Copies
@@ -141,6 +160,8 @@ class Program:
         assert self.run is not None and self.guardian is not None
         tests = [Test(number, name, words, open_kept(settings, repo, name, self.voice.say))
                  for number, (name, words) in enumerate(settings.tests, 1)]
+        for test in tests:
+            test.short = settings.short.get(test.name, test.name)
         look_for_room([self.run.state] + [place for test in tests for place in (test.outcomes.folder, test.outcomes.log_dir)])
         history = History(repo, Ends(settings.bad, settings.goods, settings.first_parent, settings.paths, settings.skips))
         for text in evidence.look_at_ends(repo, settings, history.beside):
@@ -150,10 +171,14 @@ class Program:
             self.voice.tell(why)
         copies = Copies(repo.top, settings.copies, os.path.join(self.run.state, 'given'))
         shop = Shop(self.loop, self.guardian, self.run, copies, settings.submodules)
+        shop.clean = settings.clean
+        if settings.pool is not None:
+            from .pool import Pool
+            shop.pool = Pool(repo, settings.pool, settings.submodules)
         search = self.search = Search(settings, shop, history, tests, self.voice)
-        search.begin()
+        if settings.build and tests[0].name:
+            search.trials.built = open_kept(settings, repo, 'build', self.voice.say)
         self.watch, self.ending = Watch(search), Ending(search)
-        search.beside = self.loop.spawn(shop.find_attributes([history.bad, *history.goods], history.bases, history.left))
         return search
 
     def open_report(self, settings: Settings, search: Search) -> None:
@@ -209,6 +234,17 @@ class Program:
         self.watch.end_tests()
         return self.ending.stopped(status, reason)
 
+    @staticmethod
+    def leave_pool(search: Search) -> None:
+        """The checkouts of a pool stay; those in which nothing is half done are whole."""
+        pool = search.shop.pool
+        if pool is None:
+            return
+        for slot in search.places.slots:
+            if not slot.jobs():
+                slot.leave()
+        pool.end(search.settings.keep)
+
     def undo(self) -> None:
         """Ends what runs, and removes what is of this run alone."""
         self.loop.calm = True
@@ -217,6 +253,7 @@ class Program:
             self.watch.end_tests()
         if self.search is not None:
             self.search.end()
+            self.leave_pool(self.search)
         if self.run is not None:
             self.run.remove()
         if self.guardian is not None:

@@ -1,26 +1,28 @@
 """The command line, word by word, without a look at the repository."""
 from __future__ import annotations
 
-from typing import Dict, List, NamedTuple, Optional, Tuple
+from typing import Dict, List, NamedTuple, Optional, Set, Tuple
 
 from .values import wants_value
 from .words import ME, Stop, quoted
 
-FLAGS = ('--first-parent', '--check-ends', '--trust-ends', '--submodules', '--fresh', '--quiet')
+FLAGS = ('--first-parent', '--check-ends', '--trust-ends', '--submodules', '--together', '--clean', '--fresh', '--quiet')
 VALUES = ('--workers', '--term-new', '--term-old', '--skip', '--path', '--timeout', '--deadline', '--copy', '--build', '--tests',
+          '--tests-from', '--missing', '--build-timeout', '--pool', '--keep',
           '--state', '--log-dir', '--log-limit', '--replay', '--certificate', '--report')
-ACTIONS = ('--help', '--version', '--check', '--prune')
+# their value stands behind = alone, so that no word that follows is taken for it; and what they have without one
+MAY_HAVE_VALUE = {'--confirm': '3'}
+REPEATS = ('--retry', '--repeat')
+OF_ODDS = ('--noise', '--sure')
+ACTIONS = ('--help', '--version', '--check', '--retest', '--prune')
+OF_FILES = ('--check', '--retest')
 OTHER_NAMES = {'--term-bad': '--term-new', '--term-good': '--term-old'}
 SHORT = {'-j': '--workers', '-h': '--help', '-q': '--quiet'}
-KNOWN = FLAGS + VALUES + ACTIONS + ('--test',) + tuple(OTHER_NAMES)
+KNOWN = FLAGS + VALUES + REPEATS + OF_ODDS + ACTIONS + ('--test',) + tuple(MAY_HAVE_VALUE) + tuple(OTHER_NAMES)
 # commands of git bisect, which stand for nothing here
 OF_BISECT = ('start', 'run', 'bad', 'good', 'new', 'old')
 # words that are options or commands elsewhere, and what stands for them here
 ELSEWHERE = {
-    '--repeat': "for a test that fails now and then: -- sh -c 'for run in 1 2 3; do COMMAND || exit; done'",
-    '--retry': "for a test that fails falsely now and then: -- sh -c 'COMMAND || COMMAND'",
-    '--clean': "for a test that begins without ignored files: -- sh -c 'git clean -qfdx && COMMAND'",
-    '--pool': 'checkouts of git farmdawn are its own',
     '--good': 'the line is: git farmdawn BAD GOOD -- COMMAND',
     '--bad': 'the line is: git farmdawn BAD GOOD -- COMMAND',
 }
@@ -38,8 +40,8 @@ class Line:
 
     def __init__(self, words: List[str]) -> None:
         self.words = words
-        self.action = 'search'                      # or help, version, check, prune
-        self.file = ''                              # of --check
+        self.action = 'search'                      # or help, version, check, retest, prune
+        self.file = ''                              # of --check and --retest
         self.state: Optional[str] = None            # of --state, which --prune takes, too
         self.ends: List[Word] = []
         self.flags: List[str] = []
@@ -125,7 +127,9 @@ class Reader:
     def option(self, word: str) -> None:
         """One option with its value."""
         option, value = self.split(word)
-        if option in VALUES or option == '--check':
+        if option in MAY_HAVE_VALUE:
+            value = MAY_HAVE_VALUE[option] if value is None else value
+        elif option in VALUES + REPEATS + OF_ODDS + OF_FILES:
             value = self.value(option) if value is None else value
         elif value is not None:
             raise Stop(1, '%s takes no value; see %s -h' % (option, ME))
@@ -158,6 +162,8 @@ def read(words: List[str]) -> Line:
         raise Stop(1, '%s; is a -- missing before the command?' % stop.text.split(';')[0]) from None
     if line.action == 'check' and (len(words) > 2 or not line.file):
         raise Stop(1, '--check wants a file alone; see %s -h' % ME)
+    if line.action == 'retest':
+        check_retest(line)
     if line.action == 'prune' and (line.ends or line.command is not None or line.values):
         raise Stop(1, '--prune stands alone; see %s -h' % ME)
     if line.action == 'search':
@@ -165,15 +171,19 @@ def read(words: List[str]) -> Line:
     return line
 
 
+def check_retest(line: Line) -> None:
+    """The ends are those of the file, and so is its one test."""
+    if line.ends or not line.file or line.command == []:
+        raise Stop(1, '--retest wants a file, and takes no BAD and GOOD; see %s -h' % ME)
+    if line.tests or any(option in ('--tests', '--tests-from') for option, _ in line.values):
+        raise Stop(1, '--retest wants a file, and takes no tests; see %s -h' % ME)
+
+
 def check_whole(line: Line) -> None:
     """Whether the line has all that a search needs."""
-    has_tests = bool(line.tests) or any(option == '--tests' for option, _ in line.values)
-    replays = any(option == '--replay' for option, _ in line.values)
-    if line.command is None and not has_tests:
-        raise Stop(1, missing_command(line))
-    if line.command is not None and (has_tests or not line.command):
-        raise Stop(1, 'a command stands behind --, or in --test and --tests; not in both' if has_tests else
-                   'BAD, GOOD and a command are wanted; see %s -h' % ME)
+    given = {option for option, _ in line.values}
+    replays = '--replay' in given
+    check_command(line, given)
     if replays and line.ends:
         raise Stop(1, '--replay has the ends from the log, and takes no BAD and GOOD')
     ranges = [end for end in line.ends if '..' in end.text]
@@ -182,6 +192,18 @@ def check_whole(line: Line) -> None:
     if not replays and len(line.ends) < 2 and not ranges:
         raise Stop(1, 'BAD, GOOD and a command are wanted, and %s; see %s -h'
                    % ('GOOD is missing' if line.ends else 'BAD and GOOD are missing', ME))
+
+
+def check_command(line: Line, given: Set[str]) -> None:
+    """Whether there is a command, in one place alone."""
+    if line.command is None and '--tests-from' in given:
+        raise Stop(1, '--tests-from wants a command behind --, in which {} stands for the test')
+    if line.command is None and not line.tests and '--tests' not in given:
+        raise Stop(1, missing_command(line))
+    if line.command is not None and line.tests:
+        raise Stop(1, 'a command stands behind --, or in --test; not in both')
+    if line.command == []:
+        raise Stop(1, 'BAD, GOOD and a command are wanted; see %s -h' % ME)
 
 
 def missing_command(line: Line) -> str:

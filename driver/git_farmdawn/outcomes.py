@@ -11,7 +11,7 @@ import re
 import stat
 from typing import TYPE_CHECKING, Callable, Dict, Iterable, List, Optional, Tuple
 
-from .facts import FIRST_STOP
+from .facts import FIRST_STOP, decided
 from .outputs import NoRoom, make_folder, open_new, write_whole
 from .words import Stop
 
@@ -20,7 +20,9 @@ if TYPE_CHECKING:
     from .settings import Settings
 
 FORM = b'4'
-MOST_BYTES = 300
+MOST_BYTES = 1000
+STATUS = '(?:0|[1-9][0-9]{0,2})'
+WHOLE = re.compile('([0-9a-f]+)((?: %s)+) ([0-9a-f]{16}) end\n' % STATUS)
 
 
 def hash_path(hasher: hashlib._Hash, path: str, name: str) -> None:
@@ -61,6 +63,7 @@ class Outcomes:
 
     def __init__(self, folder: str, number: Callable[[], str], say: Callable[[str], None]) -> None:
         self.count_number, self.number, self.say = number, number(), say
+        self.runs: Dict[str, List[int]] = {}        # the statuses of all tests of a commit, as they ended
         self.folder = os.path.join(folder, 'results-' + self.number)
         self.log_dir = self.folder
         if os.path.islink(self.folder):
@@ -102,23 +105,23 @@ class Outcomes:
         """The file of a commit's outcome."""
         return os.path.join(self.folder, commit + '.outcome')
 
-    def sum(self, commit: str, status: int) -> str:
+    def sum(self, commit: str, statuses: str) -> str:
         """What binds an outcome to this command: one of another folder has another sum."""
-        return hashlib.sha256(('%s %s %d' % (self.number, commit, status)).encode()).hexdigest()[:16]
+        return hashlib.sha256(('%s %s %s' % (self.number, commit, statuses)).encode()).hexdigest()[:16]
 
-    def read(self, commit: str) -> Optional[int]:
-        """The outcome that a file has, or None where it has none that is whole and of this command."""
+    def read(self, commit: str) -> Optional[List[int]]:
+        """The statuses that a file has, or None where it has none that are whole and of this command."""
         try:
             fd = os.open(self.path(commit), os.O_RDONLY | os.O_NOFOLLOW | os.O_NONBLOCK)
         except OSError:
             return None
         with open(fd, 'rb') as file:
             data = file.read(MOST_BYTES) if stat.S_ISREG(os.fstat(file.fileno()).st_mode) else b''
-        match = re.fullmatch(rb'([0-9a-f]+) (0|[1-9][0-9]{0,2}) ([0-9a-f]{16}) end\n', data)
-        if not match or match.group(1).decode() != commit:
+        match = WHOLE.fullmatch(data.decode('ascii', 'replace'))
+        if not match or match.group(1) != commit or match.group(3) != self.sum(commit, match.group(2)[1:]):
             return None
-        status = int(match.group(2))
-        return status if status < FIRST_STOP and match.group(3).decode() == self.sum(commit, status) else None
+        statuses = [int(word) for word in match.group(2).split()]
+        return statuses if max(statuses) < FIRST_STOP else None
 
     def names(self) -> List[str]:
         """The commits that have a file."""
@@ -130,26 +133,31 @@ class Outcomes:
         for commit in self.names():
             if commit not in wanted:
                 continue
-            status = self.read(commit)
-            if status is None:
+            statuses = self.read(commit)
+            if statuses is None:
                 self.say('%s is no whole outcome, and is forgotten' % self.path(commit))
                 self.forget([commit])
             else:
-                found[commit] = status
+                self.runs[commit], found[commit] = statuses, decided(statuses)
         return found
 
-    def keep(self, commit: str, status: int) -> None:
-        """Keeps an outcome, where it is one: a test that stops a search is made again."""
-        if status < FIRST_STOP:
-            try:
-                write_whole(self.path(commit), b'%s %d %s end\n' % (commit.encode(), status, self.sum(commit, status).encode()))
-            except OSError:
-                raise NoRoom(self.folder) from None
+    def keep(self, commit: str, status: int, again: bool = False) -> None:
+        """Keeps an outcome, where it is one: a test that stops a search is made again. That of a commit which was tested `again` stands
+        behind those before it: so the file says what each test ended with, and what most of them deny does not come back."""
+        if status >= FIRST_STOP:
+            return
+        statuses = self.runs[commit] = (self.runs.get(commit, []) if again else []) + [status]
+        text = ' '.join(str(one) for one in statuses)
+        try:
+            write_whole(self.path(commit), ('%s %s %s end\n' % (commit, text, self.sum(commit, text))).encode())
+        except OSError:
+            raise NoRoom(self.folder) from None
 
     def forget(self, commits: Iterable[str]) -> None:
         """Removes the outcomes of these commits."""
         for commit in commits:
             try:
+                self.runs.pop(commit, None)
                 os.unlink(self.path(commit))
             except OSError:
                 pass
@@ -162,21 +170,30 @@ class Outcomes:
         """Whether the files that the command names hold what they held at the begin."""
         return self.count_number() == self.number
 
+    def log_of(self, commit: str, kind: str = '.log') -> str:
+        """The file for the output of a test."""
+        return os.path.join(self.log_dir, commit + kind)
+
     def open_log(self, commit: str, kind: str = '.log') -> Tuple[str, int]:
         """The file for the output of a test, a new one, so that no link is followed."""
-        path = os.path.join(self.log_dir, commit + kind)
+        path = self.log_of(commit, kind)
         return path, open_new(path)
 
 
 def open_kept(settings: Settings, repo: Repository, name: str, say: Callable[[str], None]) -> Outcomes:
     """The outcomes of a test that earlier runs kept; none with --fresh."""
     typed = settings.typed[name]
-    words = [repo.prefix, str(settings.timeout), str(settings.submodules)] + (settings.build or []) + [''] + typed
+    often = ['--retry', str(settings.retry)] if settings.retry else ['--repeat', str(settings.repeat)] if settings.repeat > 1 else []
+    words = often + [repo.prefix, str(settings.timeout), str(settings.submodules)] + (settings.build or []) + [''] + typed
+    if settings.missing:
+        words.append('missing %s' % sorted(settings.missing.items()))
+    if settings.build_timeout:
+        words.append('build %d' % settings.build_timeout)
 
     def number() -> str:
         return test_number(words, repo.top, settings.copies, settings.outside)
     kept = Outcomes(settings.state or repo.folder, number, say)
     if settings.fresh:
         kept.forget(kept.names())
-    kept.put_outputs(settings.log_dir and os.path.join(settings.log_dir, name) if name else settings.log_dir)
+    kept.put_outputs(settings.log_dir and os.path.join(settings.log_dir, settings.short.get(name, name)) if name else settings.log_dir)
     return kept

@@ -7,11 +7,17 @@ import os
 from .words import ME, Stop
 
 PROBE = 65536
+FIRST_RUN = '.run1.log'                 # the output of a first run whose outcome was taken back
 NEW_FILE = os.O_WRONLY | os.O_CREAT | os.O_EXCL | os.O_CLOEXEC | os.O_NOFOLLOW
 
 
 class NoRoom(Exception):
     """There is no room: a test gives no verdict there."""
+
+
+def kind_of_log(run: int) -> str:
+    """What stands behind the commit in the name of an output: the first run has the plain name."""
+    return '.log' if run == 1 else '.run%d.log' % run
 
 
 def make_folder(folder: str) -> None:

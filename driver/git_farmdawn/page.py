@@ -1,15 +1,14 @@
 """index.html: first what was found, what failed, and what speaks for it; then the change, the search and its tests."""
 from __future__ import annotations
 
-import os
 import re
 import time
 from typing import TYPE_CHECKING, List, Optional
 
 from .drawing import farm, page_text, patterns, strip
-from .outputs import last_lines
-from .report_facts import AnswerFact, Facts, TestFact, is_needless, text_of
-from .style import STYLE
+from .odds import of_hundred
+from .report_facts import AnswerFact, Facts, TestFact, is_needless, was_taken_back
+from .report_more import text_of
 from .telling import NAME, span
 from .words import counted, quoted
 
@@ -20,6 +19,7 @@ if TYPE_CHECKING:
 SHOW = ('-c', 'log.showSignature=false', '-c', 'core.quotePath=false', 'show', '--no-color', '--no-notes')
 CHANGE = SHOW + ('--no-ext-diff', '--no-textconv', '--format=', '--diff-merges=first-parent')
 MOST_LINES, MOST_BYTES, OPEN_LINES = 2000, 200000, 120
+MOST_TOLD = 10                          # commits with their odds
 PLACES = re.compile(r'[+]{3} |--- |diff |index |(new|deleted) file mode |@@|\\')
 
 
@@ -48,13 +48,13 @@ class Page:
         """All of it."""
         facts, answer = self.facts, self.facts['answer']
         parts = self.head() + (self.verdict(answer) if answer else self.no_verdict())
-        parts += self.output() + self.doubts() + strip(facts, self.search.history.place)
+        parts += self.output() + self.doubts() + strip(facts, self.search.history.place, self.test.known) + self.again()
         parts += self.change(answer['name']) if answer else []
-        parts += self.search_part() + ['<h2>The tests</h2>', '<details%s><summary>Who tested what, and when</summary>' %
-                                       (' open="open"' if len(facts['tests']) <= 40 else '')]
-        parts += farm(facts, self.counts()) + self.table() + ['</details>']
+        parts += self.search_part() + ['<h2>The tests</h2>', *self.table(), '<details><summary>Who tested what, and when</summary>']
+        parts += farm(facts, self.counts()) + ['</details>']
         parts.append('<h2>The log</h2>' + block(page_text('\n'.join(facts['log']))))
-        parts.append('<footer>Made by git farmdawn %s; <a href="result.json">result.json</a> has the same.</footer>\n</body>\n</html>\n'
+        parts.append('<footer>Made by git farmdawn %s; <a href="result.json">result.json</a> has the same, and '
+                     '<a href="summary.md">summary.md</a> it in short.</footer>\n</body>\n</html>\n'
                      % page_text(facts['version']))
         return '\n'.join(parts)
 
@@ -67,34 +67,30 @@ class Page:
             title = 'No answer: ' + page_text(facts['reason'] or '')
         return ['<!DOCTYPE html>\n<html xmlns="http://www.w3.org/1999/xhtml" lang="en">\n<head>\n<meta charset="utf-8"/>\n'
                 '<meta name="generator" content="git farmdawn"/>\n<meta name="viewport" content="width=device-width, initial-scale=1"/>\n'
-                '<title>%s</title>\n<style>\n%s\n</style>\n</head>\n<body>' % (title, STYLE), patterns()]
+                '<title>%s</title>\n<link rel="stylesheet" href="report.css"/>\n</head>\n<body>' % title, patterns()]
 
     # -- what was found ----------------------------------------------------------------
 
     def verdict(self, answer: AnswerFact) -> List[str]:
         """The commit, who made it, how its test ended, and the last good one."""
         facts = self.facts
-        rows = ['<dt>Commit</dt><dd class="name">%s</dd>' % answer['name'], fact('Author', answer['author']),
+        name = page_text(answer['name'])
+        shown = '<a href="%s">%s</a>' % (page_text(facts['link']), name) if facts['link'] else name
+        rows = ['<dt>Commit</dt><dd class="name">%s</dd>' % shown, fact('Author', answer['author']),
                 fact('Date', shown_time(answer['date']))]
         own = self.row_of(answer['name'])
         if own:
             rows.append(fact('Its test', 'ended with %d' % (own['status'] or 0)))
-        rows += self.parents(answer['name'])
+        rows += self.parents()
         return ['<header class="verdict">\n<p class="kind">First %s commit</p>\n<h1>%s</h1>\n<dl>%s</dl>\n</header>'
                 % (page_text(facts['terms']['new']), page_text(answer['subject']), ''.join(rows))]
 
-    def parents(self, name: str) -> List[str]:
+    def parents(self) -> List[str]:
         """The parents of the answer that were good."""
-        history, old = self.search.history, self.facts['terms']['old']
-        out = []
-        for at in history.parents[history.place[name]]:
-            parent = history.order[at]
-            status = self.test.known.get(parent)
-            how = 'tested' if status == 0 else 'called so, and not tested' if status is None and parent in self.facts['good'] else ''
-            if how:
-                out.append('<dt>Last %s one</dt><dd><span class="name">%s</span> %s (%s)</dd>' %
-                           (page_text(old), parent[:NAME], page_text(text_of(history.subject[parent])), how))
-        return out
+        old = page_text(self.facts['terms']['old'])
+        return ['<dt>Last %s one</dt><dd><span class="name">%s</span> %s (%s)</dd>' %
+                (old, one['commit'][:NAME], page_text(one['subject']), 'called so, and not tested' if one['status'] is None else 'tested')
+                for one in self.facts['last_good']]
 
     def no_verdict(self) -> List[str]:
         """Why there is none, or the commits of which one is it."""
@@ -115,16 +111,17 @@ class Page:
 
     def output(self) -> List[str]:
         """The last lines of the test that decided."""
-        facts = self.facts
-        last = re.search('[0-9a-f]{40,64}', facts['log'][-1]) if facts['log'] and facts['status'] is not None else None
-        row = self.row_of(last.group()) if last else None
-        if row is None or not row['log']:
+        output = self.facts['output']
+        if output is None:
             return []
-        lines = last_lines(os.path.join(self.test.outcomes.log_dir, row['commit'] + '.log'), 20)
-        text = text_of(b'\n'.join(lines)[-4000:]).replace('\r', '\n').rstrip('\n')
-        if not text:
-            return []
-        return ['<h2>The last lines of the output of %s</h2>' % row['commit'][:NAME] + block(page_text(text))]
+        return ['<h2>The last lines of the output of %s</h2>' % output['commit'][:NAME] + block(page_text('\n'.join(output['lines'])))]
+
+    def again(self) -> List[str]:
+        """How the fault is seen, and how it is searched again."""
+        lines = self.facts['again']
+        rows = [('To see it', lines['see']), ('To search again', lines['search'])]
+        return ['<h2>How to run it again</h2>\n<dl>' + ''.join('<dt>%s</dt><dd><code>%s</code></dd>' % (name, page_text(line))
+                                                                for name, line in rows if line) + '</dl>']
 
     def doubts(self) -> List[str]:
         """What speaks against the answer, and whether the ends were tested."""
@@ -138,7 +135,18 @@ class Page:
         agree = len([one for one in facts['tests'] if one['outcome'] in ('good', 'bad') and is_needless(one) and one['commit'] not in against])
         if facts['answer'] and agree:
             out.append('<li>%s that the log does not need %s with it</li>' % (counted(agree, 'outcome'), 'agrees' if agree == 1 else 'agree'))
+        out += self.confirmed() + self.odds()
         return ['<h2>How sure it is</h2>\n<ul>'] + out + ['</ul>'] if out else []
+
+    def confirmed(self) -> List[str]:
+        """How often the answer and its parents were what it says, where they were tested again."""
+        text = self.facts['sentence']
+        return ['<li%s>%s</li>' % ('' if self.facts['sure'] else ' class="doubt"', page_text(text))] if text else []
+
+    def odds(self) -> List[str]:
+        """The odds of the commits that have most of them, of a search by odds."""
+        return ['<li>%s: %s %s</li>' % (of_hundred(one['odds']), one['commit'][:NAME], page_text(one['subject']))
+                for one in self.facts['odds'][:MOST_TOLD]]
 
     # -- the change --------------------------------------------------------------------
 
@@ -174,7 +182,7 @@ class Page:
     def search_part(self) -> List[str]:
         """What was searched, and by what."""
         facts = self.facts
-        out = ['<h2>The search</h2>\n<dl>', fact('Repository', facts['repository']),
+        out = ['<h2>The search</h2>\n<dl>', fact('Repository', facts['remote'] or facts['repository']), fact('Host', facts['host']),
                '<dt>Command</dt><dd><code>%s</code></dd>' % page_text(' '.join(quoted(word) for word in facts['command']))]
         for end in facts['ends']:
             how = 'not tested' if end['status'] is None else 'its test ended with %d' % end['status']
@@ -200,7 +208,8 @@ class Page:
                '</thead>\n<tbody>']
         for number, one in enumerate(self.facts['tests'], 1):
             spent = '' if one['began'] is None else span((one['ended'] or time.time()) - one['began'])
-            note = ' (known)' if one['kept'] else ' (needless)' if is_needless(one) else ''
+            note = (' (known)' if one['kept'] else ' (taken back)' if was_taken_back(self.test, one) else ' (needless)' if is_needless(one)
+                    else ' (run %d)' % one['run'] if one['run'] > 1 else '')
             link = '<a href="%s" aria-label="output of %s">output</a>' % (one['log'], one['commit'][:NAME]) if one['log'] else ''
             out.append('<tr id="t%d"><td>%s%s</td><td class="name">%s</td><td class="what">%s</td><td class="number">%s</td><td>%s</td></tr>'
                        % (number, one['outcome'], note, one['commit'][:NAME], page_text(one['subject']), spent, link))

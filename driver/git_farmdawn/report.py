@@ -5,12 +5,14 @@ import json
 import os
 import re
 import shutil
-from typing import TYPE_CHECKING, Iterable, List, Optional, Sequence
+from typing import TYPE_CHECKING, Iterable, List, Mapping, Optional, Sequence
 
 from .folders import remove_all
-from .outputs import has_room
+from .outputs import FIRST_RUN, has_room, kind_of_log
 from .page import Page
-from .report_facts import Collector, Facts, TestFact
+from .report_facts import Collector, Facts, TestFact, was_taken_back
+from .style import STYLE
+from .summary import junit_of, summary_of
 from .words import Stop
 
 if TYPE_CHECKING:
@@ -18,8 +20,11 @@ if TYPE_CHECKING:
     from .search import Search
 
 NEW = '.farmdawn-report.'
-MARKS = {'index.html': b'<meta name="generator" content="git farmdawn"/>', 'result.json': b'"generator": "git farmdawn",'}
-OUTPUT = '[0-9a-f]{4,64}[.]txt'
+MARKS = {'index.html': b'<meta name="generator" content="git farmdawn"/>', 'result.json': b'"generator": "git farmdawn",',
+         'report.css': b'/* of a report of git farmdawn */', 'summary.md': b'<!-- git farmdawn -->', 'junit.xml': b'<!-- git farmdawn -->'}
+# a line for each of their parts
+LISTS = ('tests', 'log', 'candidates', 'contradictions', 'confirmed', 'last_good', 'odds', 'answers', 'searches', 'builds')
+OUTPUT = '[0-9a-f]{4,64}([.]run[0-9]+)?[.]txt'
 
 
 def is_of_report(path: str, name: str) -> bool:
@@ -65,7 +70,7 @@ def open_folder(folder: str, search: Search) -> str:
         raise Stop(1, '%s holds the repository; --report wants a folder of its own' % given)
     if any((test.outcomes.log_dir + '/').startswith(folder + '/') for test in search.tests):
         raise Stop(1, 'the outputs of --log-dir cannot be in the folder of the report')
-    foreign = find_foreign(folder, [test.name for test in search.tests if test.name])
+    foreign = find_foreign(folder, [test.short for test in search.tests if test.name])
     if foreign:
         raise Stop(1, '%s is not of a report; --report wants a folder of its own' % foreign)
     return folder
@@ -79,36 +84,52 @@ class Report:
         self.folder = open_folder(folder, search)
 
     def write(self, status: Optional[int], reason: str = '', with_answer: bool = True) -> None:
-        """Both files of each search; where they cannot be written, nothing of a report is left, and OSError is raised.
+        """The files of each search; where they cannot be written, nothing of a report is left, and OSError is raised.
         A status of None is that of a search that runs."""
         for test in self.search.tests:
-            folder = os.path.join(self.folder, test.name) if test.name else self.folder
+            folder = os.path.join(self.folder, test.short) if test.name else self.folder
             own = test.status if with_answer and test.status is not None and status in range(7) else status
             try:
                 os.makedirs(folder, exist_ok=True)
-                facts = Collector(self.search, test, self.version).collect(own, reason, with_answer)
+                collector = Collector(self.search, test, self.version)
+                facts = collector.collect(own, reason, with_answer) if test.wrong is None else collector.collect(1, test.wrong.text, False)
                 self.write_one(folder, test, facts)
             except OSError:
                 if status is not None:
                     self.remove(folder)
                 raise
+        if self.search.tests[0].name:
+            self.write_overview(status, reason)
+
+    def write_overview(self, status: Optional[int], reason: str) -> None:
+        """The files of several searches together."""
+        from .overview import Overview
+        overview = Overview(self.search, self.version)
+        facts = overview.facts(status, reason)
+        self.put(self.folder, {'result.json': json_of(facts), 'index.html': overview.page(facts), 'report.css': STYLE})
+
+    @staticmethod
+    def put(folder: str, texts: Mapping[str, str]) -> None:
+        """Files that are there whole."""
+        for name, text in texts.items():
+            new = os.path.join(folder, NEW + 'new')
+            with open(new, 'w', encoding='utf-8', errors='replace') as file:
+                file.write(text)
+            os.replace(new, os.path.join(folder, name))
 
     def write_one(self, folder: str, test: Test, facts: Facts) -> None:
         """The report of one search."""
         bring_outputs(test, folder, facts['tests'])
         page = Page(facts, self.search, test)
-        for name, text in (('result.json', json_of(facts)), ('index.html', page.text())):
-            new = os.path.join(folder, NEW + 'new')
-            with open(new, 'w', encoding='utf-8', errors='replace') as file:
-                file.write(text)
-            os.replace(new, os.path.join(folder, name))
+        self.put(folder, {'result.json': json_of(facts), 'index.html': page.text(), 'report.css': STYLE,
+                          'summary.md': summary_of(facts), 'junit.xml': junit_of(facts)})
         remove_others(folder, [one['log'] for one in facts['tests']])
 
     @staticmethod
     def remove(folder: str) -> None:
         """All that a report has."""
         remove_others(folder, ())
-        for name in ('index.html', 'result.json', 'outputs'):
+        for name in (*MARKS, 'outputs'):
             remove_all(os.path.join(folder, name))
 
 
@@ -117,7 +138,8 @@ def bring_outputs(test: Test, folder: str, rows: List[TestFact]) -> None:
     os.makedirs(folder + '/outputs', exist_ok=True)
     kept_with_outcomes = test.outcomes.log_dir == test.outcomes.folder
     for one in rows:
-        path, name = os.path.join(test.outcomes.log_dir, one['commit'] + '.log'), 'outputs/%s.txt' % one['commit']
+        kind = FIRST_RUN if was_taken_back(test, one) else kind_of_log(one['run'])
+        path, name = os.path.join(test.outcomes.log_dir, one['commit'] + kind), 'outputs/%s%s' % (one['commit'], kind[:-4] + '.txt')
         if one['outcome'] == 'running' or not os.path.isfile(path) or os.path.islink(path) or one['kept'] and not kept_with_outcomes:
             continue
         one['log'], target = name, os.path.join(folder, name)
@@ -149,12 +171,12 @@ def json_text(value: object) -> str:
     return re.sub('[\x7f-\x9f]', lambda match: '\\u%04x' % ord(match.group()), json.dumps(value, ensure_ascii=False))
 
 
-def json_of(facts: Facts) -> str:
+def json_of(facts: Mapping[str, object]) -> str:
     """A line for each fact, each test and each line of the log."""
     out = []
     for key, value in facts.items():
         text = json_text(value)
-        if key in ('tests', 'log', 'candidates', 'contradictions') and isinstance(value, list) and value:
+        if key in LISTS and isinstance(value, list) and value:
             text = '[\n' + ',\n'.join('    ' + json_text(row) for row in value) + '\n  ]'
         out.append('  %s: %s' % (json_text(key), text))
     return '{\n' + ',\n'.join(out) + '\n}\n'

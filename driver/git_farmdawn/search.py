@@ -3,16 +3,18 @@ from __future__ import annotations
 
 import os
 import time
-from typing import TYPE_CHECKING, Dict, Iterator, List, Optional
+from typing import TYPE_CHECKING, Dict, Iterator, List, Optional, Tuple
 
 from . import telling
 from .checkouts import Sections
-from .claims import Claim, Slot
+from .claims import Claim, Preparation, Slot
 from .dialogue import Dialogue
 from .evidence import WrongEnd, what_to_do
 from .facts import SKIP, Row, agrees, ends_of
+from .needless import Needless
 from .outputs import cut_log
-from .record import Test
+from .places import Places
+from .record import Test, pays
 from .trial import Trials
 
 if TYPE_CHECKING:
@@ -23,6 +25,7 @@ if TYPE_CHECKING:
     from .telling import Telling
 
 MOST_CLAIMS = 1024                      # workers that the engine numbers
+STOPPED = 255                           # ends a search that is left out
 
 
 class Search:
@@ -32,15 +35,19 @@ class Search:
         self.settings, self.shop, self.history, self.tests, self.voice = settings, shop, history, tests, voice
         self.repo, self.run, self.loop = shop.repo, shop.run, shop.loop
         self.trials = Trials(settings, shop.run, voice)
-        self.slots: List[Slot] = []
+        self.places = Places(settings, shop, self.trials, history.place)
+        self.places.wants, self.places.begins, self.places.ended, self.places.prepared = self.wants, self.begins, self.done, self.prepared
         self.claims: Dict[int, Claim] = {}          # by worker
         self.alone: List[Claim] = []                # those without one
+        self.builds: List[Row] = []                 # those that have ended
         self.dialogue = Dialogue(settings, shop.run, history, tests, voice)
         self.dialogue.heard, self.dialogue.lost = self.hear, self.forget_workers
         self.ask, self.learn = self.dialogue.ask, self.dialogue.learn
         self.began, self.terms = time.monotonic(), settings.terms
         self.ends = ends_of(history.bad, history.goods, self.terms)
-        self.ending = False
+        self.ending = self.only_ends = False
+        self.odd_ends: List[Tuple[Test, WrongEnd]] = []     # ends that are to be tested again before they stop the search
+        self.needless = Needless(self)
         self.beside: Optional[Task] = None          # what runs beside the tests
         self.sections = Sections(self.repo) if settings.submodules else None
 
@@ -69,14 +76,13 @@ class Search:
     def hear(self, test: Test, kind: bytes, rest: bytes) -> None:
         """Takes an event. It asks for nothing: what is to be done comes in a later turn."""
         if kind == b'needless':
-            workers = {int(word) for word in rest.split()}
-            for claim in list(self.claims.values()):
-                if claim.test is test:
-                    claim.needless = claim.worker in workers
-                    if claim.needless:
-                        self.loop.later(0, self.review, claim)
+            self.needless.mark(test, {int(word) for word in rest.split()})
         elif kind == b'end':
-            self.loop.later(0, self.review_alone, test)
+            self.loop.later(0, self.needless.review_alone, test)
+
+    def begin_again(self) -> None:
+        """Begins the searches anew with what is known now, as an outcome was taken back."""
+        self.dialogue.begin_again()
 
     def certificate(self, test: Test) -> List[bytes]:
         """The lines of the certificate of a search that found the first bad commit."""
@@ -94,13 +100,17 @@ class Search:
         """All claims: those that run and those that wait."""
         return [*self.claims.values(), *self.alone]
 
+    def is_under_way(self, test: Test, commit: str) -> bool:
+        """Whether somebody tests a commit for a search."""
+        return any(claim.test is test and claim.commit == commit for claim in self.under_way())
+
     def running(self) -> List[Claim]:
         """The tests that run."""
-        return [slot.claim for slot in self.slots if slot.claim is not None]
+        return self.places.running()
 
-    def is_free(self) -> bool:
-        """Whether a checkout is idle, or one more may be made."""
-        return len(self.slots) < self.settings.workers or any(slot.is_idle() for slot in self.slots)
+    def is_free_for(self, commit: str) -> bool:
+        """Whether a commit may be tested now: a checkout has or gets it, or is idle."""
+        return self.places.slot_of(commit) is not None or self.places.is_free()
 
     def free_worker(self) -> int:
         """A number that no claim has."""
@@ -109,69 +119,127 @@ class Search:
             worker += 1
         return worker
 
-    def idle_slot(self, commit: str) -> Slot:
-        """A checkout that nobody uses: one that has the commit, a new one, else the nearest in the history: it has least to build."""
-        at, place = self.history.place[commit], self.history.place
-        idle = [slot for slot in self.slots if slot.is_idle()]
-        best = min(idle, key=lambda slot: abs(place.get(slot.commit, -len(place)) - at), default=None)
-        if best is None or (best.commit != commit and not best.commit and len(self.slots) < self.settings.workers):
-            best = Slot(self.shop, len(self.slots))
-            self.slots.append(best)
-        return best
+    def may_pick(self) -> bool:
+        """Whether the engine is asked for tests: there is none where a search is by odds."""
+        return not self.ending and not self.only_ends and self.dialogue.engine is not None
 
     def fill(self) -> None:
         """Picks as long as a checkout is idle and the engine has work; then ends that nobody has tested."""
-        while not self.ending and self.is_free() and len(self.claims) < MOST_CLAIMS:
+        while self.may_pick() and self.places.is_free() and len(self.claims) < MOST_CLAIMS:
             reply = self.ask(f'pick {self.free_worker()}')
             if reply.kind != 'test':
                 self.fill_with_ends()
                 return
             number, commit = reply.rest.split()
-            self.take(self.free_worker(), self.tests[int(number) - 1], commit)
+            self.take(self.free_worker(), self.dialogue.turn[int(number) - 1], commit)
 
     def take(self, worker: int, test: Test, commit: str) -> None:
         """Takes a pick. One that is under test already without a worker gets this one; a commit that a checkout has or gets waits
-        for that one, so that it is built once."""
+        for that one, so that it is built once. A search that is left out is stopped where it asks for a test."""
+        if test.wrong is not None:
+            self.ask(f'post {worker} {STOPPED}')
+            return
         for claim in self.alone:
-            if claim.test is test and claim.commit == commit:
+            if claim.test is test and claim.commit == commit and claim.run == 1:
                 claim.worker = worker
                 self.alone.remove(claim)
                 self.claims[worker] = claim
                 return
         claim = self.claims[worker] = Claim(worker, test, commit)
-        self.put(claim)
+        self.places.put(claim)
 
-    def put(self, claim: Claim) -> None:
-        """Puts a claim behind those of the same commit, or into an idle checkout."""
-        busy = [slot for slot in self.slots if slot.wants == claim.commit and not slot.is_idle()]
-        self.put_into(busy[0] if busy else self.idle_slot(claim.commit), claim)
+    def put_alone(self, claim: Claim) -> None:
+        """Begins a test that is of no pick, in an idle checkout that is made anew: what an earlier test of the commit left is no part of it."""
+        slot = self.places.idle_slot(claim.commit)
+        slot.ready = ''
+        claim.is_wanted = True
+        self.alone.append(claim)
+        self.places.put_into(slot, claim)
 
-    def put_into(self, slot: Slot, claim: Claim) -> None:
-        """Puts a claim into the queue of a checkout."""
-        slot.wants = claim.commit
-        slot.queue.append(claim)
-        self.next(slot)
-
-    def next(self, slot: Slot) -> None:
-        """Begins the next test of a checkout, where one waits."""
-        if slot.claim is not None or not slot.queue:
-            return
-        claim = slot.claim = slot.queue.popleft()
-        claim.slot, claim.began = slot, time.monotonic()
+    def begins(self, claim: Claim) -> None:
+        """A test begins."""
         if not self.voice.live and not self.settings.quiet:
             self.voice.tell('testing ' + claim.commit[:12] + (f' [{claim.test.name}]' if claim.test.name else ''))
-        claim.task = self.loop.spawn(self.trials.one(slot, claim), lambda task, status: self.done(claim, task, status))
+
+    def wants(self, claim: Claim) -> bool:
+        """Whether a test that waited is still of use; else it is forgotten."""
+        if claim.worker or claim.is_wanted or claim.test.status is None and claim.test in self.asking(claim.commit):
+            return True
+        self.drop(claim)
+        return False
+
+    def end_claim(self, claim: Claim) -> None:
+        """Ends a test, or drops one that waits."""
+        if claim.task is not None:
+            claim.task.cancel('needless')
+            return
+        self.drop(claim)
+        if claim.worker:
+            self.ask(f'give {claim.worker}')
+        self.needless.review_builds()
+
+    def drop(self, claim: Claim) -> None:
+        """Forgets a claim, which waits in a queue or has ended."""
+        self.places.forget(claim)
+        self.claims.pop(claim.worker, None)
+        if claim in self.alone:
+            self.alone.remove(claim)
+
+    # -- what stands built -----------------------------------------------------
+
+    def asking(self, commit: str) -> List[Test]:
+        """The tests whose searches may ask for a commit."""
+        if self.dialogue.engine is None:
+            return []
+        words = self.ask('wanted ' + commit).rest.split()
+        return [test for test in (self.dialogue.turn[int(word) - 1] for word in words) if test.wrong is None]
 
     def fill_here(self, slot: Slot) -> None:
-        """What stands built is tested for each search that may ask for it, before the checkout goes on: so a commit is built once."""
+        """What stands built is tested for each search that may ask for it, where the test costs little beside the build, before the
+        checkout goes on: so a commit is built once."""
         commit = slot.ready
-        if not self.settings.build or not commit or not slot.is_idle() or self.ending:
+        if not self.settings.build or not commit or self.ending:
             return
-        for word in self.ask('wanted ' + commit).rest.split():
-            test = self.tests[int(word) - 1]
-            if commit not in test.known and not any(claim.test is test and claim.commit == commit for claim in self.under_way()):
+        turn, workers = self.dialogue.turn, self.settings.workers
+        for test in self.asking(commit):
+            if commit not in test.known and not self.is_under_way(test, commit) and pays(test, turn, self.builds, workers):
                 self.alone.append(Claim(0, test, commit))
-                self.put_into(slot, self.alone[-1])
+                self.places.put_into(slot, self.alone[-1])
+
+    def prepared(self, slot: Slot, work: Preparation, status: Optional[int]) -> None:
+        """A commit stands ready, or cannot be: then all tests that wait for it have that status."""
+        if work.is_build:
+            self.builds.append(Row(work.commit, slot.number, work.began, time.monotonic(), status, work.at_limit))
+            if self.trials.built is not None:
+                cut_log(work.log, self.settings.log_limit)
+        if self.ending:
+            return
+        if status:
+            self.keep_unbuilt(slot, work, status)
+        elif status is not None:
+            self.places.go_on(slot)
+            self.fill_here(slot)
+        self.go_on()
+
+    def keep_unbuilt(self, slot: Slot, work: Preparation, status: int) -> None:
+        """The outcome of a commit that could not be made ready, for those that wait; one that cannot be built is skipped for all."""
+        waiting = list(slot.queue)
+        slot.queue.clear()
+        for claim in waiting:
+            claim.slot, claim.at_limit = slot, work.at_limit
+            self.trials.say_unbuilt(claim, work, status)
+            row = Row(work.commit, slot.number, work.began, time.monotonic(), status, work.at_limit, ran=not claim.test.name, run=claim.run)
+            self.keep(claim, row, status)
+        if work.is_build and status == SKIP and all(claim.run == 1 for claim in waiting) and self.dialogue.engine is not None:
+            self.skip_for_all(work.commit)
+
+    def skip_for_all(self, commit: str) -> None:
+        """A commit that cannot be built is skipped for all that do not know it."""
+        for test in self.tests:
+            if test.wrong is None and commit not in test.known:
+                test.known[commit] = SKIP
+                test.outcomes.keep(commit, SKIP)
+                self.learn(test, commit, SKIP)
 
     # -- ends ------------------------------------------------------------------
 
@@ -179,69 +247,46 @@ class Search:
         """A worker for which there is nothing to test looks whether an end is as it was called."""
         if self.settings.trust_ends:
             return
-        for test in self.tests:
-            for end in self.ends:
-                if not self.is_free() or test.status is not None:
-                    break
-                self.test_end(test, end.commit)
+        for end in self.ends:
+            for test in self.dialogue.turn:
+                if test.status is None and self.is_free_for(end.commit):
+                    self.test_end(test, end.commit)
 
     def test_end(self, test: Test, commit: str) -> None:
         """Tests an end, where that was not done."""
-        if test.ends.get(commit) is None and not any(claim.test is test and claim.commit == commit for claim in self.under_way()):
+        if test.wrong is None and test.ends.get(commit) is None and not self.is_under_way(test, commit):
             claim = Claim(0, test, commit)
-            claim.is_end = True
+            claim.is_end = claim.is_wanted = True
             self.alone.append(claim)
-            self.put(claim)
+            self.places.put(claim)
 
     def check_end(self, claim: Claim, status: int) -> None:
-        """An end that is not as it was called leaves nothing to search."""
+        """An end that is not as it was called leaves nothing to search; of several tests, one is left out."""
         for end in self.ends:
             if end.commit != claim.commit or not claim.is_end:
                 continue
             if agrees(end, status) is False:
-                raise WrongEnd(end, status, claim.log)
-            if status >= SKIP:
+                self.refuse_end(claim.test, WrongEnd(end, status, claim.log))
+            elif status >= SKIP:
                 self.voice.once('end', f'{end.commit} was called {end.called}, and its test ended with {status}: {what_to_do(end, status)}')
 
-    # -- what is not needed ----------------------------------------------------
-
-    def review(self, claim: Claim) -> None:
-        """A needless test is ended when it has run some seconds, or its search has its end."""
-        if self.claims.get(claim.worker) is not claim or not claim.needless:
-            return
-        if claim.task is None:
-            self.drop(claim)
-            self.ask(f'give {claim.worker}')
-        elif claim.test.status is not None:
-            claim.task.cancel('needless')
-        elif self.settings.needed is not None:
-            rest = claim.began + self.settings.needed - time.monotonic()
-            if rest <= 0:
-                claim.task.cancel('needless')
-            else:
-                self.loop.later(rest, self.review, claim)
-
-    def review_alone(self, test: Test) -> None:
-        """Where a search has its end, nobody asks for its tests without a worker any more, but for ends that are needed."""
-        for claim in list(self.alone):
-            if claim.test is test and not claim.is_end and test.status is not None:
-                self.end_claim(claim)
-
-    def end_claim(self, claim: Claim) -> None:
-        """Ends a test, or drops one that waits."""
-        if claim.task is None:
-            self.drop(claim)
+    def refuse_end(self, test: Test, wrong: WrongEnd) -> None:
+        """The same for an end that was tested once: with --confirm not before it was tested again."""
+        if self.settings.confirm:
+            self.odd_ends.append((test, wrong))
         else:
-            claim.task.cancel('needless')
+            self.refuse(test, wrong)
 
-    def drop(self, claim: Claim) -> None:
-        """Forgets a claim, which waits in a queue or has ended."""
-        for slot in self.slots:
-            if claim in slot.queue:
-                slot.queue.remove(claim)
-        self.claims.pop(claim.worker, None)
-        if claim in self.alone:
-            self.alone.remove(claim)
+    def refuse(self, test: Test, wrong: WrongEnd) -> None:
+        """Leaves a test out of several, and ends what runs for it; raises the fault where there is but one."""
+        if len(self.tests) == 1:
+            raise wrong
+        self.voice.say(f'{test.name} is left out: {wrong.text}; {what_to_do(wrong.end, wrong.test_status)}')
+        test.leave_out(wrong)
+        for claim in self.under_way():
+            if claim.test is test:
+                self.end_claim(claim)
+        self.loop.later(0, self.fill)
 
     # -- behind a test -----------------------------------------------------------
 
@@ -249,19 +294,25 @@ class Search:
         """A test has ended: its outcome is kept, and then told to the engine; or its claim is given back."""
         slot = claim.slot
         assert slot is not None
-        slot.claim = None
         if claim.log:
             cut_log(claim.log, self.settings.log_limit)
-        row = Row(claim.commit, slot.number, claim.began, time.monotonic(), status, claim.at_limit)
+        row = Row(claim.commit, slot.number, claim.began, time.monotonic(), status, claim.at_limit, run=claim.run)
         if status is None:
             claim.test.note(row)
             self.give_back(claim, row, task.cancelled == 'needless')
         else:
             self.keep(claim, row, status)
         if not self.ending:
-            self.next(slot)
-            self.fill_here(slot)
-            self.fill()
+            self.places.go_on(slot)
+            if slot.is_idle():
+                self.fill_here(slot)
+            self.go_on()
+
+    def go_on(self) -> None:
+        """Behind whatever has ended: what waits begins, and what is free gets work."""
+        self.places.go_on_all()
+        self.fill()
+        self.needless.review_builds()
 
     def give_back(self, claim: Claim, row: Row, tell: bool) -> None:
         """A test that was ended before it was done."""
@@ -275,35 +326,26 @@ class Search:
             self.ask(f'give {worker}')
 
     def keep(self, claim: Claim, row: Row, status: int) -> None:
-        """Keeps and tells an outcome."""
+        """Keeps an outcome, and then tells it: what was told is not lost, whoever ends the search now."""
         test, worker = claim.test, claim.worker
         if status:
             self.trials.look_for_room(claim)
-        self.voice.verdict(row, self.history.subject[claim.commit], self.terms, test.name)
-        test.outcomes.keep(claim.commit, status)
+        test.outcomes.keep(claim.commit, status, claim.run > 1 or bool(test.runs_of(claim.commit)))
+        if row.ran:
+            self.voice.verdict(row, self.history.subject[claim.commit], self.terms, test.name)
         test.note(row)
+        if claim.missing:
+            test.missing.add(claim.commit)
         self.warn_of_skips(claim)
         self.drop(claim)
+        if claim.run > 1 or self.dialogue.engine is None:
+            return                      # what it means is said when all of them have ended
         self.check_end(claim, status)
         if worker:
             self.ask(f'post {worker} {status}')
         elif not claim.is_end:
             self.learn(test, claim.commit, status)
-        if claim.commit in self.trials.builds:
-            self.skip_for_all(claim)
         self.tell_left(test)
-
-    def skip_for_all(self, claim: Claim) -> None:
-        """A build that failed skips the commit for each search."""
-        for other in [other for other in self.under_way() if other.commit == claim.commit and other.task is None]:
-            self.drop(other)
-            if other.worker:
-                self.ask(f'give {other.worker}')
-        for test in self.tests:
-            if claim.commit not in test.known:
-                test.known[claim.commit] = SKIP
-                test.outcomes.keep(claim.commit, SKIP)
-                self.learn(test, claim.commit, SKIP)
 
     def warn_of_skips(self, claim: Claim) -> None:
         """Where all tests are skipped, something may be wrong."""
@@ -317,14 +359,14 @@ class Search:
 
     def tell_left(self, test: Test) -> None:
         """How many commits are left, where that has changed."""
-        if self.settings.quiet or test.left is None or test.left == test.told_left or test.status is not None:
+        if test.wrong is not None or self.settings.quiet or test.left is None or test.left == test.told_left or test.status is not None:
             return
         test.told_left = test.left
         left, away = test.left
         ended = test.ended()
         seconds = None
         if ended:
-            spent = sum(row.ended - row.began for row in ended)
+            spent = sum(row.ended - row.began for row in [*ended, *self.builds])
             seconds = telling.estimate_seconds(telling.rounds(left - away), spent, len(ended), self.settings.workers)
         self.voice.line(telling.left_text(left, away, seconds) + (f'  [{test.name}]' if test.name else ''))
 

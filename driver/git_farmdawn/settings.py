@@ -6,7 +6,7 @@ import re
 import time
 from typing import TYPE_CHECKING, Dict, List, Optional, Tuple
 
-from . import values
+from . import lists, values
 from .named import NamedFiles, full_path
 from .options import OF_BISECT, Line, Word
 from .outputs import has_room
@@ -18,7 +18,8 @@ if TYPE_CHECKING:
     from .telling import Telling
 
 MOST_WORKERS = 64
-MOST_TESTS = 64
+MOST_TESTS = 512                        # each has a lock open
+MOST_RUNS = 99                          # of one commit
 SHELL = ['/bin/sh', '-c']
 
 
@@ -39,12 +40,18 @@ class Settings:
     def __init__(self) -> None:
         self.workers = min(MOST_WORKERS, os.cpu_count() or 2)
         self.first_parent = self.check_ends = self.trust_ends = False
-        self.submodules = self.fresh = self.quiet = False
+        self.submodules = self.fresh = self.quiet = self.together = self.clean = False
+        self.pool: Optional[str] = None             # the folder of --pool
+        self.keep: Optional[int] = None             # bytes that it may have
         self.term_new: Optional[str] = None
         self.term_old: Optional[str] = None
         self.bad = ''
         self.goods: List[str] = []
         self.skips: List[str] = []
+        self.confirm: Optional[int] = None          # how often an answer is tested again; None where that is for the search to say
+        self.noise: Optional[Tuple[float, float]] = None    # how often a good commit fails, and a bad one passes
+        self.sure = 0.99
+        self.retry, self.repeat = 0, 1              # failures that do not count yet, and good runs that are wanted
         self.paths: List[str] = []                  # as pathspecs of git
         self.log_paths = ''                         # the same behind the start line of the log
         self.copies: List[str] = []                 # below the work tree
@@ -59,6 +66,10 @@ class Settings:
         self.report: Optional[str] = None
         self.build: Optional[List[str]] = None
         self.tests: List[Tuple[str, List[str]]] = []
+        self.short: Dict[str, str] = {}             # the name of a test for files
+        self.is_list = False                        # whether the tests are those of a list, and no lines of sh
+        self.missing: Dict[int, int] = {}           # what a status of a runner that finds no test stands for
+        self.build_timeout: Optional[int] = None
         self.typed: Dict[str, List[str]] = {}       # the words of a test as they were typed
         self.watch, self.needed = seconds_of_environment()
         self.parent: Optional[int] = None           # the process of git that started this one
@@ -86,6 +97,7 @@ class Filler:
         self.line, self.repo, self.voice = line, repo, voice
         self.settings = Settings()
         self.files = NamedFiles(repo, voice)
+        self.listed: List[lists.Listed] = []
 
     def fill(self) -> Settings:
         """All of it, in the order in which faults are told: words, ends, files."""
@@ -96,17 +108,35 @@ class Filler:
         for option, value in self.line.values:
             self.take(option, value)
         settings.state = os.path.abspath(self.line.state) if self.line.state else None
+        if settings.keep is not None and settings.pool is None:
+            raise Stop(1, '--keep is for the folder of --pool; see %s -h' % ME)
         if settings.check_ends and settings.trust_ends:
             raise Stop(1, '--check-ends and --trust-ends are the contrary of each other')
+        if settings.retry and settings.repeat > 1:
+            raise Stop(1, '--retry and --repeat are the contrary of each other')
         for name, command in self.line.tests:
             self.add_test(name, command)
         if self.line.command is not None:
-            settings.tests = [('', self.line.command)]
+            self.take_command(self.line.command)
+        self.check_odds()
         values.check_terms(settings.term_new, settings.term_old)
         if settings.replay is None:
             self.find_ends(self.line.ends)
         self.settle()
         return settings
+
+    def check_odds(self) -> None:
+        """What has no meaning where outcomes are evidence and no proof."""
+        settings, given = self.settings, [option for option, _ in self.line.values]
+        if settings.noise is None:
+            if '--sure' in given:
+                raise Stop(1, '--sure wants --noise')
+            return
+        for option in ('--confirm', '--certificate', '--replay', '--tests', '--tests-from'):
+            if option in given:
+                raise Stop(1, '--noise and %s do not go together: its answer stands on odds' % option)
+        if self.line.tests or settings.check_ends:
+            raise Stop(1, '--noise and %s do not go together' % ('--test' if self.line.tests else '--check-ends'))
 
     def take(self, option: str, value: str) -> None:
         """One option that has a value."""
@@ -119,16 +149,36 @@ class Filler:
             setattr(settings, simple[option], value)
         elif option == '--workers':
             settings.workers = values.number(option, value, MOST_WORKERS)
+        elif option in ('--confirm', '--retry', '--repeat'):
+            setattr(settings, option[2:], 0 if option == '--confirm' and value == '0' else values.number(option, value, MOST_RUNS))
+        elif option == '--noise':
+            shares = [values.share(option, word, 0, 0.5) for word in value.split(',', 1)]
+            settings.noise = shares[0], shares[-1]
+        elif option == '--sure':
+            settings.sure = values.share(option, value, 0.5, 1)
         elif option == '--timeout':
             settings.timeout = values.seconds(option, value)
+        elif option == '--build-timeout':
+            settings.build_timeout = values.seconds(option, value)
+        elif option == '--missing':
+            settings.missing.update(values.missing(option, value))
         elif option == '--deadline':
             settings.deadline = time.monotonic() + values.until(option, value)
-        elif option == '--log-limit':
-            settings.log_limit = values.size(option, value)
+        elif option in ('--log-limit', '--keep'):
+            setattr(settings, option[2:].replace('-', '_'), values.size(option, value))
+        elif option == '--pool':
+            settings.pool = self.pool_of(value)
         elif option == '--build':
             settings.build = SHELL + [value]
         else:
             self.take_of_repository(option, value)
+
+    def pool_of(self, folder: str) -> str:
+        """The folder of checkouts that stay. In the work tree they would find its files in the folders above."""
+        path, repo = full_path(os.path.abspath(folder)), self.repo
+        if repo.top and (path + '/').startswith(repo.top + '/') and not path.startswith(repo.gitdir + '/'):
+            raise Stop(1, '%s is in the work tree; --pool wants a folder beside it, or in the git folder' % folder)
+        return path
 
     def take_of_repository(self, option: str, value: str) -> None:
         """One that names commits or files."""
@@ -141,6 +191,10 @@ class Filler:
             self.files.add_copy(value)
         elif option == '--replay':
             self.take_log(value)
+        elif option == '--tests-from':
+            self.listed += lists.read_junit(value)
+        elif self.line.command is not None:
+            self.listed += lists.read_lines(value)
         else:
             self.read_tests(value)
 
@@ -203,11 +257,21 @@ class Filler:
         if not re.fullmatch('[A-Za-z0-9][A-Za-z0-9._-]{0,39}', name) or name in others:
             raise Stop(1, '--test wants a name of letters, digits, dots and hyphens that no other test has, '
                           "not '%s'" % name)
-        if len(others) > MOST_TESTS:
-            raise Stop(1, 'there may be %d tests' % MOST_TESTS)
         if not command.strip():
             raise values.wants_value('--test')
         self.settings.tests.append((name, SHELL + [command]))
+
+    def take_command(self, command: List[str]) -> None:
+        """The command behind --: a test without a name, or that of each test of a list."""
+        settings = self.settings
+        if not self.listed:
+            settings.tests = [('', command)]
+            return
+        lists.check_command(command)
+        tests = lists.without_doubles(self.listed)
+        settings.tests = [(test.name, lists.command_of(command, test)) for test in tests]
+        settings.short = lists.short_names(test.name for test in tests)
+        settings.is_list = True
 
     def read_tests(self, path: str) -> None:
         """The tests of a file, a line NAME: COMMAND each; one that is named build is the build."""
@@ -231,12 +295,21 @@ class Filler:
         """The files that the commands name."""
         settings, files = self.settings, self.files
         files.ends = [settings.bad] + settings.goods
+        if not settings.tests:
+            raise Stop(1, 'there is no test; see %s -h' % ME)
+        if len(settings.tests) > MOST_TESTS:
+            raise Stop(1, 'there may be %d tests, and not %d' % (MOST_TESTS, len(settings.tests)))
+        if settings.together and not settings.tests[0][0]:
+            raise Stop(1, '--together is for several tests; see %s -h' % ME)
         settings.typed = {name: list(words) for name, words in settings.tests}
+        settings.typed['build'] = settings.build or []
         if settings.build or settings.tests[0][0]:
-            for words in [words for name, words in settings.tests if name] + [settings.build or []]:
+            lines = [] if settings.is_list else [words for name, words in settings.tests if name]
+            for words in lines + [settings.build or []]:
                 files.look_at_shell_words(words[2:])
-        settings.tests = [(name, words if name else [files.settle(word) for word in words])
-                          for name, words in settings.tests]
+        if settings.is_list or not settings.tests[0][0]:
+            settled = {word: files.settle(word) for word in dict.fromkeys(word for _, words in settings.tests for word in words)}
+            settings.tests = [(name, [settled[word] for word in words]) for name, words in settings.tests]
         files.look_at_program(settings.tests[0][1][0])
         files.check_paths()
         files.tell_changes()

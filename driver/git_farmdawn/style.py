@@ -1,7 +1,8 @@
 """How the report looks: colours that can be told apart by those who see few, beside a pattern for each outcome."""
 from __future__ import annotations
 
-STYLE = """:root { color-scheme: light dark; --ink: #1c1e21; --soft: #5b6168; --paper: #ffffff; --plate: #f3f4f6; --line: #d5d8dc;
+STYLE = """/* of a report of git farmdawn */
+:root { color-scheme: light dark; --ink: #1c1e21; --soft: #5b6168; --paper: #ffffff; --plate: #f3f4f6; --line: #d5d8dc;
   --good: #0072b2; --bad: #c94f00; --skipped: #6f7378; --stopped: #9c3d78; --lost: #9c3d78; --ended: #6f7378; --running: #1c1e21;
   --mark: #ffffff; --added: #00598c; --removed: #a83f00 }
 @media (prefers-color-scheme: dark) { :root { --ink: #e6e8ea; --soft: #a3a9b0; --paper: #15171a; --plate: #1f2226; --line: #3a3f45;
@@ -31,10 +32,9 @@ svg { display: block }
 .drawing { width: 100%; overflow: visible; padding: 0 8px 0 30px }
 .drawing text { fill: var(--soft); font: 11px system-ui, sans-serif }
 .row { fill: var(--plate) } .tick { stroke: var(--line) }
-.good { fill: url(#p-good); stroke: var(--good) } .bad { fill: url(#p-bad); stroke: var(--bad) }
-.skipped { fill: url(#p-skipped); stroke: var(--skipped) } .stopped { fill: url(#p-stopped); stroke: var(--stopped) }
-.lost { fill: url(#p-lost); stroke: var(--lost) } .ended { fill: none; stroke: var(--ended); stroke-dasharray: 3 2 }
-.running { fill: none; stroke: var(--running) }
+.patterns { position: absolute }
+.good { stroke: var(--good) } .bad { stroke: var(--bad) } .skipped { stroke: var(--skipped) } .stopped { stroke: var(--stopped) }
+.lost { stroke: var(--lost) } .ended { stroke: var(--ended); stroke-dasharray: 3 2 } .running { stroke: var(--running) }
 .needless { fill-opacity: .18 }
 .strip { max-width: 100%; height: auto } .boundary { stroke: var(--ink); stroke-width: 2 } rect.doubt { stroke: var(--ink); stroke-width: 2 }
 li.doubt { color: var(--removed) }

@@ -4,19 +4,21 @@ from __future__ import annotations
 import errno
 import os
 import signal
-from typing import TYPE_CHECKING, Callable, Dict, Generator, List, Union
+import time
+from typing import TYPE_CHECKING, Callable, Dict, Generator, List, Optional, Union
 
 from .checkouts import NoCheckout
-from .claims import Claim, Slot
+from .claims import Claim, Job, Preparation, Slot
 from .copies import NotBrought
 from .facts import FIRST_STOP, SKIP
 from .left import signs_of
 from .loop import Cancelled
-from .outputs import NoRoom, has_room
+from .outputs import NoRoom, has_room, kind_of_log
 from .process import Child, Command
 from .words import ME
 
 if TYPE_CHECKING:
+    from .outcomes import Outcomes
     from .run import Run
     from .settings import Settings
     from .telling import Telling
@@ -27,23 +29,86 @@ Steps = Generator[Union[Child, float], object, int]
 
 
 class Trials:
-    """Runs tests. `builds` has the commits whose build failed."""
+    """Prepares checkouts for tests, and runs these. `built` is what is kept of the builds, where several tests share them."""
 
     def __init__(self, settings: Settings, run: Run, voice: Telling) -> None:
         self.settings, self.run, self.voice, self.repo = settings, run, voice, run.repo
-        self.builds: Dict[str, int] = {}
+        self.built: Optional[Outcomes] = None
         self.config = signs_of(self.repo.gitdir + '/config')
+
+    # -- what prepares for tests ---------------------------------------------------
+
+    def prepare(self, slot: Slot, work: Preparation, claim: Claim) -> Steps:
+        """Checks a commit out and builds it: 0 where tests can begin, else the status that all of them get; for a task."""
+        slot.ready = slot.output = ''
+        try:
+            work.log, log = (self.built or claim.test.outcomes).open_log(work.commit, kind_of_log(claim.run))
+        except OSError:
+            self.look_for_room(claim)
+            self.voice.say(f'the output of the build of {work.commit} cannot be written')
+            return NOT_BELIEVED
+        slot.output = work.log
+        try:
+            return (yield from self.prepare_steps(slot, work, log))
+        except NoCheckout:
+            self.look_for_room(claim)
+            return NOT_BELIEVED
+        except NotBrought as fault:
+            self.note(log, str(fault))
+            return SKIP
+        except Cancelled:
+            slot.broken = True
+            raise
+        except OSError as fault:
+            self.look_for_room(claim)
+            self.note(log, str(fault))
+            slot.broken = True
+            return NOT_BELIEVED
+        finally:
+            os.close(log)
+
+    def prepare_steps(self, slot: Slot, work: Preparation, log: int) -> Steps:
+        """The checkout, and the build where there is one."""
+        yield from slot.prepare(log, work.commit)
+        if not self.settings.build:
+            return 0
+        work.is_build, work.began = True, time.monotonic()
+        if not self.voice.live:
+            self.voice.tell('building ' + work.commit[:12])
+        status = yield from self.command(slot, work, self.settings.build, log)
+        if status == 0 or status >= FIRST_STOP:
+            return status
+        self.voice.tell(f'the build of {work.commit[:12]} ended with {status}: it is skipped; its output is in {work.log}')
+        return SKIP
+
+    def say_unbuilt(self, claim: Claim, work: Preparation, status: int) -> None:
+        """The output of a test whose commit could not be made ready."""
+        outcomes, kind = claim.test.outcomes, kind_of_log(claim.run)
+        path = outcomes.log_of(claim.commit, kind)
+        if path != work.log:
+            try:
+                _, log = outcomes.open_log(claim.commit, kind)
+                self.note(log, f'the commit could not be made ready ({status}); what was printed is in {work.log}')
+                os.close(log)
+            except OSError:
+                self.look_for_room(claim)
+        claim.log = path
+
+    # -- a test ------------------------------------------------------------------------
 
     def one(self, slot: Slot, claim: Claim) -> Steps:
         """The status of a test, 0 to 255; for a task."""
         try:
-            claim.log, log = claim.test.outcomes.open_log(claim.commit)
+            log = self.open_output(slot, claim)
         except OSError:
             self.look_for_room(claim)
-            self.voice.say(f'{claim.test.outcomes.log_dir}/{claim.commit}.log cannot be written')
+            self.voice.say(f'{claim.log} cannot be written')
             return NOT_BELIEVED
         try:
-            return (yield from self.steps(slot, claim, log))
+            if claim.is_first:          # what others that run there are changing now is none of it
+                slot.note()
+            status = yield from self.run_often(slot, claim, log)
+            return self.look_for_missing(claim, self.look_behind(slot, claim, status, log), log)
         except Cancelled:
             # what was ended in the middle has left half of something: the folder is made anew
             slot.ready, slot.broken = '', True
@@ -56,40 +121,40 @@ class Trials:
         finally:
             os.close(log)
 
-    def steps(self, slot: Slot, claim: Claim, log: int) -> Steps:
-        """Prepares the checkout where it does not stand ready, and runs the test."""
-        if slot.ready != claim.commit:
-            slot.ready = ''
-            try:
-                yield from slot.prepare(log, claim.commit)
-            except NoCheckout:
-                self.look_for_room(claim)
-                return NOT_BELIEVED
-            except NotBrought as fault:
-                self.note(log, str(fault))
-                return SKIP
-            if self.settings.build:
-                status = yield from self.build(slot, claim, log)
-                if status:
-                    return status
-            slot.ready = claim.commit
-        slot.note()
-        claim.tested = True
-        status = yield from self.command(slot, claim, claim.test.words, log)
-        return self.look_behind(slot, claim, status, log)
+    @staticmethod
+    def open_output(slot: Slot, claim: Claim) -> int:
+        """The file for what a test prints, behind what was printed as its commit was made ready, where that is its own."""
+        outcomes, kind = claim.test.outcomes, kind_of_log(claim.run)
+        claim.log, before = outcomes.log_of(claim.commit, kind), slot.output
+        slot.output = ''
+        if before == claim.log and os.path.isfile(before):
+            return os.open(before, os.O_WRONLY | os.O_APPEND | os.O_NOFOLLOW | os.O_CLOEXEC)
+        return outcomes.open_log(claim.commit, kind)[1]
 
-    def build(self, slot: Slot, claim: Claim, log: int) -> Steps:
-        """0 where the commit is built; else the status that all searches get for it."""
-        status = yield from self.command(slot, claim, self.settings.build or [], log)
-        if status == 0 or status >= FIRST_STOP:
+    def run_often(self, slot: Slot, claim: Claim, log: int) -> Steps:
+        """The status of the run that decides: with --retry a failure is none yet, and with --repeat a good run. One of --missing decides."""
+        settings, count = self.settings, 1
+        while True:
+            status = yield from self.command(slot, claim, claim.test.words, log)
+            fails = status < SKIP and status not in settings.missing
+            again = count < settings.repeat if status == 0 else fails and count <= settings.retry
+            if not again:
+                return status
+            self.note(log, f'run {count} ended with {status}, and the test is run again')
+            count += 1
+
+    def look_for_missing(self, claim: Claim, status: int, log: int) -> int:
+        """The status that one of --missing stands for."""
+        meant = self.settings.missing.get(status)
+        if meant is None:
             return status
-        self.voice.tell(f'the build of {claim.commit[:12]} ended with {status}: it is skipped; its output is in {claim.log}')
-        self.builds[claim.commit] = status
-        return SKIP
+        claim.missing = True
+        self.note(log, f'the test is not there: it ended with {status}, which stands for {meant} (--missing)')
+        return meant
 
     # -- the command -----------------------------------------------------------
 
-    def command(self, slot: Slot, claim: Claim, words: List[str], log: int) -> Steps:
+    def command(self, slot: Slot, job: Job, words: List[str], log: int) -> Steps:
         """Runs a command in a checkout, and ends what it leaves behind."""
         cwd = os.path.normpath(os.path.join(slot.folder, self.repo.prefix))
         if not os.path.isdir(cwd):
@@ -97,37 +162,46 @@ class Trials:
             return SKIP
         os.makedirs(slot.build, exist_ok=True)
         try:
-            child = claim.child = self.start(slot, words, cwd, self.environment(slot, claim, cwd), log)
+            child = job.child = self.start(slot, job, cwd, words, log)
         except OSError as fault:
             self.note(log, f'{words[0]}: {fault.strerror}')
             return 127 if fault.errno == errno.ENOENT else 126
-        end_late = self.limit(claim, child)
+        seconds = self.seconds_of(job)
+        end_late = self.limit(job, child, seconds)
         try:
             yield child
         finally:
             end_late()
             if child.status is None:
                 yield from child.end()
-            yield from slot.end_leftovers()
-        if claim.at_limit:
-            self.note(log, f'{claim.commit} took longer than {self.settings.timeout} s and is skipped')
+            yield from slot.end_leftovers(job.seat)
+        if job.at_limit:
+            self.note(log, f'{job.commit} took longer than {seconds} s and is skipped')
             slot.ready, slot.broken = '', True          # as where it is ended for another reason
             return SKIP
         status: int = child.status if child.status is not None else -signal.SIGKILL
         return status if status >= 0 else 128 - status
 
-    def environment(self, slot: Slot, claim: Claim, cwd: str) -> Dict[str, str]:
+    def seconds_of(self, job: Job) -> Optional[int]:
+        """How long it may take."""
+        if isinstance(job, Preparation) and self.settings.build_timeout is not None:
+            return self.settings.build_timeout
+        return self.settings.timeout
+
+    def environment(self, slot: Slot, job: Job, cwd: str) -> Dict[str, str]:
         """What a test finds in its environment: the caller's, and four words of ours."""
-        env = dict(self.repo.test_env, FARMDAWN_WORKTREE=slot.folder, FARMDAWN_COMMIT=claim.commit,
-                   FARMDAWN_WORKER=str(slot.number), FARMDAWN_BUILD=slot.build)
+        env = dict(self.repo.test_env, FARMDAWN_WORKTREE=slot.folder, FARMDAWN_COMMIT=job.commit,
+                   FARMDAWN_WORKER=str(job.seat), FARMDAWN_BUILD=slot.build)
         if 'PWD' in env:
             env['PWD'] = cwd
         return env
 
-    def start(self, slot: Slot, words: List[str], cwd: str, env: Dict[str, str], log: int) -> Child:
-        """Starts it with the locks of the run and of the folder open. A script without a first line #! is one of sh."""
-        lock = slot.open_lock()
+    def start(self, slot: Slot, job: Job, cwd: str, words: List[str], log: int) -> Child:
+        """Starts it with the locks of the run and of the job open. A script without a first line #! is one of sh."""
+        env, lock = self.environment(slot, job, cwd), slot.open_lock(job.seat)
         keep = [lock] if self.run.lock is None else [self.run.lock, lock]
+        if slot.place is not None:
+            keep.append(slot.place.lock)
         try:
             try:
                 return Child(slot.shop.loop, slot.shop.keeper, Command(words, env, cwd, log, keep))
@@ -138,18 +212,18 @@ class Trials:
         finally:
             os.close(lock)
 
-    def limit(self, claim: Claim, child: Child) -> Callable[[], None]:
-        """Has a command ended that takes longer than --timeout; gives what is called when it has ended before."""
+    def limit(self, job: Job, child: Child, seconds: Optional[int]) -> Callable[[], None]:
+        """Has a command ended that takes longer; gives what is called when it has ended before."""
         loop = child.loop
-        if not self.settings.timeout:
+        if not seconds:
             return lambda: None
 
         def end() -> None:
             """It is at its limit."""
-            claim.at_limit = True
+            job.at_limit = True
             child.signal(signal.SIGTERM)
             loop.later(LATE, child.signal, signal.SIGKILL)
-        timer = loop.later(self.settings.timeout, end)
+        timer = loop.later(seconds, end)
 
         def off() -> None:
             """It has ended before."""

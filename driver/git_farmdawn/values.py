@@ -3,12 +3,13 @@ from __future__ import annotations
 
 import re
 import time
-from typing import Optional
+from typing import Dict, Optional
 
 from .words import ME, Stop
 
 MOST_SECONDS = 999999999
 UNITS = {'': 1, 's': 1, 'm': 60, 'h': 3600, 'd': 86400}
+MEANINGS = {'good': 0, 'bad': 1, 'skip': 125}
 SIZES = {'': 1, 'k': 1000, 'M': 1000000, 'G': 1000000000}
 # the commands of git bisect, which are no words for bad and good
 NO_TERMS = ('help', 'start', 'skip', 'next', 'reset', 'visualize', 'view', 'replay', 'log', 'run', 'terms')
@@ -34,6 +35,15 @@ def size(option: str, word: str) -> int:
     return int(match.group(1)) * SIZES[match.group(2)]
 
 
+def share(option: str, word: str, least: float, most: float) -> float:
+    """A share of all, as 0.05 or 5%, between two others."""
+    match = re.fullmatch('([0-9]{0,3}(?:[.][0-9]{1,6})?)(%?)', word)
+    found = float(match.group(1)) / (100 if match.group(2) else 1) if match and match.group(1) else -1.0
+    if not least < found < most:
+        raise Stop(1, "%s wants a share between %g and %g, as 0.05 or 5%%, not '%s'" % (option, least, most, word))
+    return found
+
+
 def seconds(option: str, word: str) -> int:
     """A time in seconds: a number of them, or one with s, m, h or d behind it."""
     match = re.fullmatch('([1-9][0-9]{0,8})([smhd]?)', word)
@@ -41,6 +51,15 @@ def seconds(option: str, word: str) -> int:
     if not match or found > MOST_SECONDS:
         raise Stop(1, "%s wants seconds, or a time as 90s, 5m or 2h, not '%s'" % (option, word))
     return found
+
+
+def missing(option: str, word: str) -> Dict[int, int]:
+    """What a status of a runner that finds no test stands for: 4,5=skip."""
+    match = re.fullmatch('([0-9]{1,3}(?:,[0-9]{1,3})*)=(good|bad|skip)', word)
+    found = [int(part) for part in match.group(1).split(',')] if match else []
+    if not match or not all(0 < status < 255 and status != 125 for status in found):
+        raise Stop(1, "%s wants statuses and what they stand for, as 4,5=skip, or good or bad, not '%s'" % (option, word))
+    return dict.fromkeys(found, MEANINGS[match.group(2)])
 
 
 def until(option: str, word: str, now: Optional[float] = None) -> float:

@@ -6,17 +6,19 @@ import time
 from typing import TYPE_CHECKING, Optional
 
 from . import telling
+from .claims import Claim, Job
+from .confirm import Confirming
 from .evidence import WrongEnd, unseen, wrong_of
-from .facts import Progress, Running, SKIP
+from .facts import Progress, Running, agrees
 from .loop import Cancelled
 from .process import end_holders
 
 if TYPE_CHECKING:
-    from .claims import Claim
     from .report import Report
     from .search import Search
 
 TURN = 1.0
+STOPPED = 255                           # stands for an end of which nothing is known
 LONGEST_END = 8.0                       # seconds in which tests are to end at the end of the search
 
 
@@ -36,15 +38,35 @@ class Watch:
         """All searches, up to their ends. Raises Cancelled for a signal, Deadline, or what a test or an end makes of it."""
         search = self.search
         self.loop.calm = True
-        if self.settings.check_ends:
-            self.check_ends()
-        elif not self.settings.trust_ends:
-            self.look_at_kept_ends()
+        if self.settings.noise is not None:
+            from .noisy import Noisy
+            Noisy(search, self.turn).search_all()
+            return
+        confirming = Confirming(search, self.turn)
+        if not self.settings.trust_ends:
+            self.look_at_ends(confirming)
         search.dialogue.learn_known()
         search.fill()
-        while any(test.status is None for test in search.tests):
-            self.turn()
-        self.wait_for_ends()
+        while True:
+            while any(test.status is None for test in search.dialogue.turn):
+                self.turn()
+                confirming.settle_ends()
+            self.wait_for_ends()
+            confirming.settle_ends()
+            if self.is_confirmed(confirming):
+                confirming.settle_ends()        # those whose tests ended meanwhile
+                if not search.dialogue.next_turn():
+                    return
+
+    def is_confirmed(self, confirming: Confirming) -> bool:
+        """Whether the answers stand. Where nobody asked for it, the time for it may be over."""
+        try:
+            return confirming.all_confirmed()
+        except Deadline:
+            if self.settings.confirm or any(test.status is None for test in self.search.tests):
+                raise
+            confirming.stop()
+            return True
 
     def turn(self) -> None:
         """One turn of the loop, and what the clock asks for."""
@@ -70,54 +92,71 @@ class Watch:
                 self.report.write(None)
             except OSError:
                 pass
-        for claim in self.search.running():
-            self.tell_long(claim, now)
+        for job in self.search.places.jobs():
+            self.tell_long(job, now)
         self.voice.draw(self.progress())
 
-    def tell_long(self, claim: Claim, now: float) -> None:
-        """How long a test runs already: behind so many seconds, and whenever they have doubled."""
-        spent = now - claim.began
-        claim.mark = claim.mark or float(self.settings.watch)
-        if spent >= claim.mark:
-            self.voice.tell(f'{claim.commit[:12]} runs since {int(spent)} s')
-            while claim.mark <= spent:
-                claim.mark *= 2
+    def tell_long(self, job: Job, now: float) -> None:
+        """How long a test or a build runs already: behind so many seconds, and whenever they have doubled."""
+        spent = now - job.began
+        job.mark = job.mark or float(self.settings.watch)
+        if spent >= job.mark:
+            what = 'the build of ' if job.is_build else ''
+            self.voice.tell(f'{what}{job.commit[:12]} runs since {int(spent)} s')
+            while job.mark <= spent:
+                job.mark *= 2
 
     def progress(self) -> Progress:
         """How far the search is, for the live line."""
         search, tests = self.search, self.search.tests
-        running = [Running(claim.began, claim.commit, search.history.subject[claim.commit]) for claim in search.running()]
+        running = [Running(job.began, job.commit, b'is built' if job.is_build else search.history.subject[job.commit])
+                   for job in search.places.jobs() if isinstance(job, Claim) or job.is_build]
         ended = [row for test in tests for row in test.ended()]
         left = tests[0].left if len(tests) == 1 else None
         begin = tests[0].left_at_begin or (0, 0)
         seconds = None
         if left is not None and ended:
-            spent = sum(row.ended - row.began for row in ended)
+            spent = sum(row.ended - row.began for row in [*ended, *search.builds])
             seconds = telling.estimate_seconds(telling.rounds(left[0] - left[1]), spent, len(ended), self.settings.workers)
         return Progress(begin[0], left[0] if left else None, len(ended), seconds, running)
 
     # -- ends ------------------------------------------------------------------
 
-    def check_ends(self) -> None:
-        """With --check-ends the ends are tested first, and each must be what it was called."""
+    def look_at_ends(self, confirming: Confirming) -> None:
+        """What earlier runs found of the ends; with --check-ends each is tested first, and must be what it was called."""
+        search = self.search
+        search.only_ends = True
+        self.look_at_kept_ends()
+        if self.settings.check_ends:
+            self.test_ends()
+        confirming.settle_ends()
+        search.only_ends = False
+        if self.settings.check_ends:
+            self.refuse_unseen()
+
+    def test_ends(self) -> None:
+        """Tests the ends that nobody has tested."""
+        search = self.search
+        waiting = [(test, end.commit) for end in search.ends for test in search.tests if end.commit not in test.known]
+        while waiting or search.under_way():
+            while waiting and search.is_free_for(waiting[0][1]):
+                search.test_end(*waiting.pop(0))
+            self.turn()
+
+    def refuse_unseen(self) -> None:
+        """Refuses the ends that were not seen to be what they were called."""
         search = self.search
         for test in search.tests:
-            waiting = [end.commit for end in search.ends if end.commit not in test.known]
-            while waiting or search.running():
-                while waiting and search.is_free():
-                    search.test_end(test, waiting.pop(0))
-                self.turn()
-            for end in search.ends:
-                status = test.known[end.commit]
-                if status >= SKIP or (status != 0) != end.is_bad:
-                    raise WrongEnd(end, status)
+            wrong = next((end for end in search.ends if not agrees(end, test.known.get(end.commit, STOPPED))), None)
+            if wrong is not None and test.wrong is None:
+                search.refuse(test, WrongEnd(wrong, test.known.get(wrong.commit, STOPPED)))
 
     def look_at_kept_ends(self) -> None:
         """What earlier runs found of the ends."""
         for test in self.search.tests:
             end = wrong_of(self.search.ends, test.known)
             if end is not None:
-                raise WrongEnd(end, test.known[end.commit])
+                self.search.refuse_end(test, WrongEnd(end, test.known[end.commit]))
 
     def wait_for_ends(self) -> None:
         """An answer stands on ends: where no test was good each good one is tested, where none was bad the bad one."""
@@ -129,7 +168,7 @@ class Watch:
             if not wanted:
                 return
             for test, commit in wanted:
-                if search.is_free():
+                if search.is_free_for(commit):
                     search.test_end(test, commit)
             self.turn()
 
@@ -140,14 +179,11 @@ class Watch:
         search = self.search
         self.loop.calm = search.ending = True
         self.voice.end_live()
-        for slot in search.slots:
-            slot.queue.clear()
-            if slot.claim is not None and slot.claim.task is not None:
-                slot.claim.task.cancel('end')
+        search.places.end_all()
         if search.beside is not None:
             search.beside.cancel('end')
         until = time.monotonic() + LONGEST_END
-        while (search.running() or search.beside is not None and not search.beside.over) and time.monotonic() < until:
+        while (search.places.jobs() or search.beside is not None and not search.beside.over) and time.monotonic() < until:
             self.loop.turn(0.05)
         lock = search.run.state + '/lock'
         for turn in range(24):

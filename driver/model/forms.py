@@ -24,11 +24,6 @@ def object_name(text):
     return bytes.fromhex(text.decode('ascii')) if len(text) == 40 and is_hex(text) else None
 
 
-def original_name(text):
-    """The 20 or 32 bytes of 40 or 64 hexadecimal digits, or None."""
-    return bytes.fromhex(text.decode('ascii')) if len(text) in (40, 64) and is_hex(text) else None
-
-
 def is_ref(text):
     """Whether a text may be the name of a ref."""
     return len(text) > 0 and b'..' not in text and not any(byte <= 32 or byte == 127 or byte in b'~^:?*[\\' for byte in text)

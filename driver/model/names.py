@@ -1,7 +1,7 @@
 """Names of commits, as git reads them: a ref or digits, then steps as ~2, ^2 and ^{commit}."""
 import re
 
-from forms import decimal, is_hex, object_name, original_name
+from forms import decimal, is_hex, object_name
 from graphs import ancestors
 
 FORMS = (b'%s', b'refs/%s', b'refs/tags/%s', b'refs/heads/%s', b'refs/remotes/%s', b'refs/remotes/%s/HEAD')
@@ -38,7 +38,7 @@ def parse(text):
 def begin_of(history, text):
     """The place that a name begins at."""
     text = b'HEAD' if text == b'@' else text
-    name = (original_name if history.original else object_name)(text)
+    name = object_name(text)
     if name is not None:
         if name in history.place_of:
             return history.place_of[name]

@@ -3,11 +3,11 @@
 
 serve.py serve [--original-names] < a fast-import stream that ends with its line `done`, then one request a line
 
-It serves the tests of the driver as long as the proved program has no `serve`; then it is the oracle that tests of that one are
-compared with. Nothing in it is clever or quick: a search is a state, outcomes and claims, and what is best, wanted or needless is
+It serves the tests of the driver where no program is built, and is the oracle that tests of the program's `serve` are compared
+with. Nothing in it is clever or quick: a search is a state, outcomes and claims, and what is best, wanted or needless is
 found anew for each request by going through all guesses. The output is a function of the input, byte by byte.
 
-The first line of the output is `ready 1 COMMITS`; where the stream is refused, `refused` with the reason, and the model ends with the
+The first line of the output is `ready 1 COMMITS`; where the stream is refused, the line of `next`, and the model ends with the
 status of it. Each request gets lines of events, then one reply:
 
     words WORD..            puts words in front of those of the next search     ok
@@ -26,7 +26,7 @@ import os
 import sys
 
 from certificates import certificate_lines
-from forms import decimal, object_name, original_name
+from forms import decimal, object_name
 from history import load
 from refusals import LONGEST_LINE, LONGEST_PART, MOST_WORDS, Refused
 from searches import Search
@@ -94,7 +94,7 @@ class Server:
 
     def place_of(self, word):
         """The place of a whole name."""
-        name = (original_name if self.history.original else object_name)(word)
+        name = object_name(word)
         if name is None or name not in self.history.place_of:
             raise Illegal(b'no such commit')
         return self.history.place_of[name]
@@ -205,7 +205,7 @@ def main(words):
     try:
         history = load(read_stream(source), '--original-names' in words)
     except Refused as fault:
-        tell([b'refused ' + fault.text])
+        tell([fault.text])
         return fault.status
     server = Server(history)
     tell([b'ready 1 %d' % len(history)])

@@ -6,7 +6,7 @@ a form and this program does not, `truncated` where the stream ends within a com
 """
 from collections import namedtuple
 
-from forms import decimal, identity_fault, is_ref, object_name, original_name
+from forms import decimal, identity_fault, is_ref, object_name
 from refusals import LONGEST_LINE, LONGEST_PART, LONGEST_STREAM, at_line, too_large
 
 Blob = namedtuple('Blob', 'line mark content')
@@ -280,7 +280,7 @@ class Reader:
 
     def own_name(self, line, text):
         """The name that a commit says of itself, which no other has."""
-        name = original_name(text) if text is not None else None
+        name = object_name(text) if text is not None else None
         if name is None or name in self.names:
             raise at_line(line.number, b'syntax')
         self.names.add(name)

@@ -5,6 +5,8 @@ that FARMDAWN_PROGRAM names."""
 from __future__ import annotations
 
 import os
+import re
+import signal
 import subprocess
 import tempfile
 import time
@@ -15,11 +17,17 @@ TOP = os.path.dirname(os.path.dirname(os.path.dirname(os.path.abspath(__file__))
 DRIVER = os.environ.get('FARMDAWN_DRIVER', os.path.join(TOP, 'driver', 'bin'))
 ENGINE = os.environ.get('FARMDAWN', os.path.join(TOP, 'driver', 'model', 'farmdawn'))
 PROGRAM = os.environ.get('FARMDAWN_PROGRAM', os.path.join(TOP, 'crates', 'farmdawn', 'out', 'farmdawn'))
+# a folder on the path that may not be searched has a command that is not there be one that may not be run
+FOLDERS = [DRIVER] + [folder for folder in os.environ['PATH'].split(os.pathsep) if os.access(folder, os.X_OK)]
 ENV = {**os.environ, 'GIT_CONFIG_GLOBAL': os.devnull, 'GIT_CONFIG_NOSYSTEM': '1', 'LC_ALL': 'C', 'FARMDAWN': ENGINE,
        'GIT_AUTHOR_NAME': 'Ann Lee', 'GIT_AUTHOR_EMAIL': 'ann@example.org', 'GIT_COMMITTER_NAME': 'Bo', 'GIT_COMMITTER_EMAIL': 'bo@example.org',
-       'GIT_ALLOW_PROTOCOL': 'file', 'PATH': DRIVER + os.pathsep + os.environ['PATH']}
+       'GIT_ALLOW_PROTOCOL': 'file', 'PATH': os.pathsep.join(FOLDERS)}
 LONG = f'sleep 777.{os.getpid()}'       # of this run alone
-SECONDS = 100
+SECONDS = 200                           # a machine may be busy
+# where repositories are made: tests write their names into commands without quotes
+ROOM = tempfile.gettempdir() if re.fullmatch('[A-Za-z0-9/._-]+', tempfile.gettempdir()) else '/tmp'
+if signal.getsignal(signal.SIGINT) is signal.SIG_IGN:   # in the background of sh; what is started here is to end by it
+    signal.signal(signal.SIGINT, signal.default_int_handler)
 needs_engine = unittest.skipUnless(os.access(ENGINE, os.X_OK), 'an engine is not here')
 needs_program = unittest.skipUnless(os.access(PROGRAM, os.X_OK), 'a built farmdawn is not here')
 
@@ -28,7 +36,7 @@ class Repository:
     """A line of commits c1, c2, ..; each has its number in the file `number`."""
 
     def __init__(self, case: unittest.TestCase, commits: int = 12) -> None:
-        room = tempfile.TemporaryDirectory()
+        room = tempfile.TemporaryDirectory(dir=ROOM)
         case.addCleanup(room.cleanup)
         self.case, self.room, self.commits = case, os.path.realpath(room.name), commits
         self.path = os.path.join(self.room, 'repository')
@@ -66,13 +74,17 @@ class Repository:
         """The words for the ends."""
         return [f'c{self.commits}', 'c1']
 
-    def check_left(self) -> None:
-        """Nothing of a run is left: no folder, no checkout, no worktree, no process."""
+    def left(self) -> List[str]:
+        """What is left of runs: folders, checkouts, worktrees, processes."""
         folder = os.path.join(self.path, '.git', 'farmdawn')
-        self.case.assertEqual([name for name in os.listdir(folder) if name.startswith('run.')], [])
-        self.case.assertEqual([name for name in os.listdir(self.room) if '.farmdawn.' in name], [])
-        self.case.assertEqual(len([line for line in self.run('git', 'worktree', 'list').stdout.splitlines() if '.farmdawn.' in line]), 0)
-        self.case.assertEqual(subprocess.run(['pgrep', '-f', LONG], stdout=subprocess.PIPE).stdout, b'')
+        left = [name for name in (os.listdir(folder) if os.path.exists(folder) else []) if name.startswith('run.')]
+        left += [name for name in os.listdir(self.room) if '.farmdawn.' in name]
+        left += [line for line in self.run('git', 'worktree', 'list').stdout.splitlines() if '.farmdawn.' in line]
+        return left + subprocess.run(['pgrep', '-fa', LONG], stdout=subprocess.PIPE, text=True).stdout.splitlines()
+
+    def check_left(self) -> None:
+        """Nothing of a run is left."""
+        self.case.assertEqual(self.left(), [])
 
 
 def wait_until(holds: Callable[[], Any], what: str, seconds: float = SECONDS) -> None:

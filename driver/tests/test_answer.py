@@ -13,9 +13,11 @@ from git_farmdawn import certificate                             # noqa: E402
 from git_farmdawn.answer_file import Fault, encoded, read_answer, with_sum  # noqa: E402
 
 A, B, C, D, E = (sign * 40 for sign in 'abcde')
-LINES = ['word sh', 'word -c', 'word test ! -e bug', 'folder deep/', 'term-new fixed', 'term-old broken', 'called-bad %s 1' % E, 'called-good %s 0' % A,
-         'outcome %s 0' % B, 'outcome %s 125' % C, 'outcome %s 1' % D, 'against %s 2' % ('f' * 40), 'certificate 1', 'bad %s' % D,
-         'good %s' % A, 'good %s' % B, 'reach %s from %s' % (C, B), 'end']
+HEAD = ['word sh', 'word -c', 'word test ! -e bug', 'folder deep/', 'term-new fixed', 'term-old broken', 'build make', 'retry 2',
+        'made 2026-11-30T10:00:00Z', 'machine Linux 6.1 x86_64']
+CONFIRMED = ['confirmed %s bad 3 of 4' % D, 'confirmed %s good 4 of 4' % C]
+LINES = HEAD + ['called-bad %s 1' % E, 'called-good %s 0' % A, 'outcome %s 0' % B, 'outcome %s 125' % C, 'outcome %s 1' % D, 'against %s 2' % ('f' * 40)] \
+    + CONFIRMED + ['certificate 1', 'bad %s' % D, 'good %s' % A, 'good %s' % B, 'reach %s from %s' % (C, B), 'end']
 
 
 class Lines(unittest.TestCase):
@@ -24,11 +26,20 @@ class Lines(unittest.TestCase):
     def test_whole(self) -> None:
         """What stands in it."""
         answer = read_answer(with_sum(LINES))
-        self.assertEqual((answer.bad, answer.term, answer.words, answer.start), (D, 'fixed', ['sh', '-c', 'test ! -e bug'], 15))
+        self.assertEqual((answer.bad, answer.term, answer.words, answer.start), (D, 'fixed', ['sh', '-c', 'test ! -e bug'], 21))
         self.assertEqual((answer.outcomes, answer.tested_ends, answer.listed), ({B: 0, C: 125, D: 1}, {E: 1, A: 0}, {A, B}))
         self.assertEqual(sorted(answer.commits()), sorted([A, B, C, D, E, 'f' * 40]))
         self.assertEqual(answer.certificate()[0], 'certificate 1')
         self.assertEqual(answer.marked_bad(), [E, D])
+        self.assertEqual((answer.build, answer.retry, answer.repeat, answer.folder, answer.machine), ('make', 2, 1, 'deep/', 'Linux 6.1 x86_64'))
+        self.assertEqual(answer.confirmed, [(D, 'bad', 3, 4), (C, 'good', 4, 4)])
+        said = '\n'.join(certificate.told(answer))
+        for due in ('it claims: made 2026-11-30T10:00:00Z on Linux 6.1 x86_64', 'built by: make, a failure counts behind 2 others',
+                    '%s was called fixed, and its test ended with 1' % E[:12], 'tested again: %s fixed 3 of 4, %s broken 4 of 4' % (D[:12], C[:12]),
+                    '1 further outcomes contradict it: ffffffffffff', 'not checked: whether the tests ended so'):
+            self.assertIn(due, said)
+        untested = read_answer(with_sum([line[:52] if line.startswith('called-good') else line for line in LINES]))
+        self.assertIn('%s was called broken, and not tested' % A[:12], '\n'.join(certificate.told(untested)))
 
     def test_changed(self) -> None:
         """Any byte, with the sum as it was."""
@@ -40,7 +51,7 @@ class Lines(unittest.TestCase):
 
     def test_lines(self) -> None:
         """Lines that are left out, doubled, or have changed their places, with the sum put right."""
-        may_lack = {'word -c', 'word sh', 'word test ! -e bug', 'folder deep/', 'term-new fixed', 'term-old broken', 'outcome %s 125' % C,
+        may_lack = set(HEAD[4:] + CONFIRMED) | {'word -c', 'word sh', 'word test ! -e bug', 'folder deep/', 'term-new fixed', 'term-old broken', 'outcome %s 125' % C,
                     'against %s 2' % ('f' * 40), 'reach %s from %s' % (C, B)}
         may_double = {'word sh', 'word -c', 'word test ! -e bug', 'against %s 2' % ('f' * 40), 'reach %s from %s' % (C, B)}
         for at, line in enumerate(LINES):
@@ -57,9 +68,11 @@ class Lines(unittest.TestCase):
 
     def test_words_of_refusals(self) -> None:
         """Each says why."""
-        for at, line, why in ((8, 'outcome %s 126' % B, 'in no form'), (8, 'outcome %s 0' % C, 'has two outcomes'), (8, 'outcome %s 0' % A, 'was called good'),
-                              (13, 'bad %s' % B, 'no test was bad there'), (14, 'good %s' % C, 'no test was good there'),
-                              (15, 'good %s' % A, 'named twice'), (17, 'end ', 'in no form'), (7, 'called-good %s' % B, 'was called good')):
+        for at, line, why in ((12, 'outcome %s 126' % B, 'in no form'), (12, 'outcome %s 0' % C, 'has two outcomes'), (12, 'outcome %s 0' % A, 'was called good'),
+                              (19, 'bad %s' % B, 'no test was bad there'), (20, 'good %s' % C, 'no test was good there'),
+                              (21, 'good %s' % A, 'named twice'), (23, 'end ', 'in no form'), (11, 'called-good %s' % B, 'was called good'),
+                              (16, 'confirmed %s bad 5 of 4' % D, 'more than all'), (17, 'confirmed %s good 4 of 4' % D, 'named twice'),
+                              (7, 'retry 0', 'in no form'), (8, 'made today', 'in no form')):
             lines = LINES[:at] + [line] + LINES[at + 1:]
             self.assertRaisesRegex(Fault, why, read_answer, with_sum(lines))
         self.assertRaisesRegex(Fault, 'line 1 this is no answer .*report', read_answer, b'{\n}\n')

@@ -122,6 +122,17 @@ class Ends(unittest.TestCase):
         self.assertEqual(os.listdir(other), ['precious'])
         self.assertEqual([name for name in os.listdir(repo.path + '/.git/farmdawn') if name.startswith('run.')], [])
 
+    def test_not_kept(self) -> None:
+        """An outcome that cannot be kept, as on a disk that is full, is not told either."""
+        repo = Repository(self)
+        command = 'mkdir "$(echo "$0"/results-*)/$FARMDAWN_COMMIT.outcome"; test $(cat number) -lt 7'
+        got = repo.search('--state', repo.room + '/state', *repo.ends(), '--', 'sh', '-c', command, repo.room + '/state')
+        self.assertEqual(got.returncode, 14, got.stderr)
+        self.assertIn('testing', got.stderr)
+        self.assertNotRegex(got.stderr, '(?m)^(good|bad) ')
+        self.assertIn('goes on from', got.stderr)
+        repo.check_left()
+
     def test_without_output(self) -> None:
         """A caller that wants no output is not one that has closed it."""
         repo = Repository(self)
@@ -160,9 +171,8 @@ class Terminal(unittest.TestCase):
                     words = [*tool, '--fresh', '--workers', '3', *repo.ends(), '--', 'sh', '-c', f'{LONG} & {LONG}']
                     out = self.interrupt(words, repo.path, pause)
                     self.assertNotIn(b'Traceback', out)
-                    wait_until(lambda: subprocess.run(['pgrep', '-f', LONG], stdout=subprocess.PIPE).stdout == b'', 'the end of the tests', 20)
-                    if os.path.exists(repo.path + '/.git/farmdawn'):
-                        repo.check_left()
+                    # git that gets it before it has noted its command ends at once, and the command behind it
+                    wait_until(lambda: not repo.left(), 'the end of all', 30)
 
     @staticmethod
     def interrupt(words: List[str], folder: str, pause: float) -> bytes:

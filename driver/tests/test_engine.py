@@ -10,7 +10,8 @@ from typing import List, Tuple
 
 sys.path.insert(0, os.path.dirname(os.path.dirname(os.path.abspath(__file__))))
 
-from git_farmdawn.engine import LONGEST, Engine, Lost, Refused, Reply                             # noqa: E402
+from git_farmdawn.words import Stop                                                               # noqa: E402
+from git_farmdawn.engine import LONGEST, Engine, Lost, Refused, Reply, Unfit                      # noqa: E402
 
 # it takes a stream, and then answers each line by itself: `say WORDS` by these, `big N` by so many events, `die` by its end
 FALSE = '''#!%s -ISB
@@ -25,6 +26,13 @@ while True:
     if line == b'refuse\\n':
         sink.write(b'stream refused at line 2: syntax\\n')
         sys.exit(7)
+    if line == b'unknown\\n':
+        sys.stderr.write('farmdawn: serve, and no further word\\n')
+        sink.write(b'usage fault at word 1\\n')
+        sys.exit(1)
+    if line == b'die\\n':
+        sys.stderr.write('out of luck\\n')
+        sys.exit(15)
 sink.write(b'ready 1 %%d\\n' %% size)
 sink.flush()
 for line in source:
@@ -95,6 +103,31 @@ class Pipe(unittest.TestCase):
         engine = Engine(self.program, lambda kind, rest: None, self.folder, os.environ)
         with self.assertRaisesRegex(Refused, 'farmdawn ended with 7: stream refused at line 2: syntax'):
             engine.load([b'x\n', b'refuse\n', *[b'y' * 100000] * 50])
+
+    def test_unfit(self) -> None:
+        """One that knows no such command or option says so; what it tells on its standard error stays with it."""
+        engine = Engine(self.program, lambda kind, rest: None, self.folder, os.environ)
+        with self.assertRaisesRegex(Unfit, '^farmdawn ended with 1: usage fault at word 1$'):
+            engine.load([b'unknown\n', *[b'y' * 100000] * 50])
+
+    def test_last_words(self) -> None:
+        """Where it says nothing, what it told is its last word."""
+        engine = Engine(self.program, lambda kind, rest: None, self.folder, os.environ)
+        with self.assertRaisesRegex(Lost, '^farmdawn ended with 15: out of luck$'):
+            engine.load([b'die\n', *[b'y' * 100000] * 50])
+
+    def test_long_names(self) -> None:
+        """It gets the first 40 digits of names of 64, and its lines get the rest back: those of commits alone, and none in a subject."""
+        engine, name, other = self.start(), 'ab' * 32, 'cd' * 20 + 'ef' * 12
+        engine.names.take([name, other])
+        short = name[:40]
+        self.assertEqual(engine.ask(f'say test 1 {name}'), Reply('test', f'1 {name}'))
+        engine.ask(f'say log 1 # bad: [{short}] of {short} and [{short}]|log 1 git bisect start \'{short}\' \'{other[:40]}\'|answer 1 {short} is it|ok')
+        self.assertEqual(self.told, [(b'log', f'1 # bad: [{name}] of {short} and [{short}]'.encode()),
+                                     (b'log', f"1 git bisect start '{name}' '{other}'".encode()), (b'answer', f'1 {name} is it'.encode())])
+        self.assertEqual(engine.names.lengthen(b'1 ' + b'9' * 40), b'1 ' + b'9' * 40)
+        with self.assertRaisesRegex(Stop, 'begin with ' + short):
+            engine.names.take([short + '0' * 24])
 
     def test_lost(self) -> None:
         """It ends, at once or at the next request; its last words are told."""

@@ -14,7 +14,7 @@ MOST_LINES, MOST_OF_FUNCTION, MOST_PARAMETERS, MOST_COLUMNS = 410, 40, 5, 150
 Function = Union[ast.FunctionDef, ast.AsyncFunctionDef]
 # the standard library, as far as it is at hand in the smallest installs, and quick to import
 MAY_IMPORT = {'__future__', 'typing', 'os', 'sys', 're', 'time', 'errno', 'fcntl', 'hashlib', 'heapq', 'html', 'json', 'math', 'selectors', 'shlex',
-              'shutil', 'signal', 'stat', 'struct', 'subprocess', 'tempfile', 'termios', 'collections', 'dataclasses', 'resource', 'bisect', 'io', 'select'}
+              'shutil', 'signal', 'stat', 'struct', 'subprocess', 'tempfile', 'termios', 'collections', 'dataclasses', 'resource', 'bisect', 'io', 'select', 'xml'}
 
 
 def modules() -> Iterator[Tuple[str, str]]:

@@ -60,6 +60,23 @@ class Outcomes(Room):
         self.assertEqual(kept.names(), [TWO])
         self.assertEqual(self.said, [])
 
+    def test_again(self) -> None:
+        """Of a commit that was tested again each status is kept, in its order, and most of them decide; one of 126 and above is none."""
+        kept = self.kept()
+        kept.keep(ONE, 3)
+        for status, due in ((0, 3), (127, 3), (125, 3), (0, 0), (9, 3), (9, 3), (0, 3), (0, 0)):
+            kept.keep(ONE, status, True)
+            self.assertEqual(self.kept().load([ONE]), {ONE: due})
+        with open(kept.path(ONE), encoding='ascii') as file:
+            self.assertRegex(file.read(), '^%s 3 0 125 0 9 9 0 0 [0-9a-f]{16} end\n$' % ONE)
+        other = self.kept()
+        other.load([ONE])
+        self.assertEqual(other.runs, {ONE: [3, 0, 125, 0, 9, 9, 0, 0]})
+        other.keep(ONE, 1)
+        self.assertEqual((other.load([ONE]), other.runs), ({ONE: 1}, {ONE: [1]}))
+        other.forget([ONE])
+        self.assertEqual(other.runs, {})
+
     def test_travel(self) -> None:
         """A copy of the folder is believed; an outcome in the folder of another command is not."""
         kept = self.kept()

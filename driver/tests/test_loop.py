@@ -137,7 +137,9 @@ class Turns(unittest.TestCase):
         import tempfile
         with tempfile.NamedTemporaryFile() as lock:
             child = self.child('sh', '-c', 'setsid sleep 600 & sleep 600', keep=[lock.fileno()])
-            time.sleep(0.3)
+            until = time.monotonic() + 30
+            while len(list_holders(lock.name, exact=True)) < 3 and time.monotonic() < until:
+                time.sleep(0.05)
             found = list_holders(lock.name, exact=True)
             self.assertIn(child.pid, found)
             self.assertEqual(len(found), 3)

@@ -133,8 +133,9 @@ class Model(unittest.TestCase):
 
     def test_refused_stream(self) -> None:
         """It is told, with a status; and each commit must have a name."""
-        for stream, words, due in (('x\n', (), 'refused stream refused at line 1: syntax\n'),
-                                   (stream_of([[]]).replace('original-oid', '#'), ('--original-names',), 'refused stream refused at line 3: syntax\n')):
+        for stream, words, due in (('x\n', (), 'stream refused at line 1: syntax\n'),
+                                   (stream_of([[]]).replace('original-oid', '#'), ('--original-names',), 'stream refused at line 3: syntax\n'),
+                                   (stream_of([[]]).replace(name_of(0), '0' * 64), ('--original-names',), 'stream refused at line 3: syntax\n')):
             talk = Talk(self, stream, *words)
             self.assertEqual((talk.ready, talk.end()), (due, 7))
 

@@ -51,6 +51,9 @@ ROWS = [
             eol=lf && [ $n -lt 7 ] || eol=crlf
             echo "*.txt text eol=$eol" >.gitattributes && echo $n >number && git add -A && git commit -q -m $n && git tag -f c$n >/dev/null
         done 2>/dev/null''', sh('! grep -q "$(printf "\\r")" t.txt')),
+    Row('a test changes a file, and tells git not to look at it', 'echo same >settings && git add settings && git commit -q -m settings && git tag -f c1 && '
+        'for n in 2 3 4 5 6 7 8 9 10 11 12; do echo $n >number && git commit -q -a -m $n && git tag -f c$n; done',
+        sh('[ "$(cat settings)" = same ] || exit 1; echo mine >settings; git update-index --skip-worktree settings; ' + BAD_FROM_7)),
     Row('core.worktree is for each worktree', 'git config core.worktree "$PWD" && git config extensions.worktreeConfig true && echo mine >number',
         sh(BAD_FROM_7)),
     Row('the user stands in a linked work tree that is whole, and the main one is sparse', '''

@@ -1,13 +1,16 @@
 """Several tests over one history, with one build a commit; and in which order outcomes are kept and told."""
 from __future__ import annotations
 
+import json
 import os
 import random
 import re
+import signal
 import stat
 import unittest
+from typing import List
 
-from helpers import ENGINE, ENV, Repository, needs_engine
+from helpers import ENGINE, ENV, SECONDS, Repository, needs_engine, wait_until
 
 # an engine that looks, at each outcome that it is told, whether so many outcomes are kept
 WATCHED = '''#!/usr/bin/env python3
@@ -25,6 +28,12 @@ for line in sys.stdin.buffer:
 engine.stdin.close()
 sys.exit(engine.wait())
 '''
+
+
+def open_lines(path: str) -> List[str]:
+    """The lines of a file."""
+    with open(path, encoding='utf-8') as file:
+        return file.read().splitlines()
 
 
 @needs_engine
@@ -64,6 +73,69 @@ class Several(unittest.TestCase):
         self.assertEqual([line for line in got.stdout.splitlines() if 'is the first bad' in line],
                          [repo.name(commit) + ' is the first bad commit' for commit in ('c17', 'c9', 'c17')])
         repo.check_left()
+
+    def test_interrupted(self) -> None:
+        """The same line goes on from the outcomes of all tests, and comes to the same answers; nothing that is known is tested again."""
+        repo = Repository(self, 20)
+        made, hold = repo.room + '/made', repo.room + '/hold'
+        with open(repo.room + '/list', 'w', encoding='utf-8') as file:
+            file.write('5\n12\n17\n')
+        test = f'echo "$FARMDAWN_COMMIT $0" >>{made}; n=$(cat number); while [ -e {hold} ] && [ "$(wc -l <{made})" -gt 4 ]; do sleep 0.1; done; [ "$n" -lt "$0" ]'
+        words = ['--trust-ends', '--workers', '2', '--build', 'true', '--tests', repo.room + '/list', *repo.ends(), '--', 'sh', '-c', test, '{}']
+        with open(hold, 'w', encoding='utf-8'):
+            process = repo.begin(*words)
+        wait_until(lambda: os.path.exists(made) and len(open_lines(made)) > 4 or process.poll() is not None, 'five tests')
+        process.send_signal(signal.SIGINT)
+        out, told = process.communicate(timeout=SECONDS)
+        self.assertEqual(process.returncode, 130, told)
+        self.assertEqual(out.count('# search of '), 3)
+        self.assertRegex(told, 'stopped; the same line goes on from [34] outcomes')
+        repo.check_left()
+        os.unlink(hold)
+        before = open_lines(made)
+        got = repo.search(*words)
+        self.assertEqual(re.findall('^([0-9a-f]*) is the first bad commit$', got.stdout, re.M), [repo.name(name) for name in ('c5', 'c12', 'c17')], got.stderr)
+        self.assertLessEqual(len(set(before) & set(open_lines(made)[len(before):])), 2)       # those that were ended
+        repo.check_left()
+
+    def test_together(self) -> None:
+        """Tests of a commit run in its checkout at once, each with a number of its own; without --together one after the other."""
+        repo = Repository(self, 12)
+        with open(repo.room + '/list', 'w', encoding='utf-8') as file:
+            file.write('3\n4\n5\n')
+        test = (f'exec 9>{repo.room}/seat."$FARMDAWN_WORKER"; flock -n 9 || exit 200; touch here."$0"; sleep 0.4; '
+                f'[ "$(ls -d here.* | wc -l)" = 1 ] || touch {repo.room}/at-once; rm here."$0"; [ "$(cat number)" -lt "$0" ]')
+        for words in ([], ['--together']):
+            got = repo.search('--fresh', '--workers', '4', *words, '--tests', repo.room + '/list', *repo.ends(), '--', 'sh', '-c', test, '{}')
+            self.assertEqual(got.returncode, 0, got.stderr)
+            self.assertEqual(os.path.exists(repo.room + '/at-once'), bool(words))
+            self.assertIn(f'{repo.name("c4")[:12]} is the first bad commit of 4\n', got.stderr)
+
+    def test_needless_build(self) -> None:
+        """A build that no search asks for any more is ended."""
+        repo = Repository(self, 12)
+        build = f'n=$(cat number); [ "$n" -lt 8 ] || {{ touch {repo.room}/began; sleep 600; }}'
+        test = f'n=$(cat number); while [ ! -e {repo.room}/began ]; do sleep 0.1; done; [ "$n" -lt 2 ]'
+        got = repo.search('--trust-ends', '--workers', '3', '--build', build, *repo.ends(), '--', 'sh', '-c', test, env={**ENV, 'FARMDAWN_NEEDED': '0'})
+        self.assertEqual(got.returncode, 0, got.stderr)
+        self.assertRegex(got.stderr, 'the build of [0-9a-f]{12} is no longer needed')
+        repo.check_left()
+
+    def test_more_than_64(self) -> None:
+        """They have their turns; one result for each, and all together by commit."""
+        repo = Repository(self, 3)
+        with open(repo.room + '/list', 'w', encoding='utf-8') as file:
+            file.write(''.join(f't{n}\n' for n in range(66)))
+        got = repo.search('--quiet', '--trust-ends', '--workers', '2', '--report', repo.room + '/report', '--tests', repo.room + '/list', *repo.ends(), '--',
+                          'sh', '-c', 'case $0 in *7) exit 125 ;; t2* | t65) exit 1 ;; esac', '{}')
+        self.assertEqual(got.returncode, 2, got.stderr)
+        with open(repo.room + '/report/result.json', encoding='utf-8') as file:
+            facts = json.load(file)
+        second = ['t2', 't20', 't21', 't22', 't23', 't24', 't25', 't26', 't28', 't29', 't65']
+        found = {answer['commit']['name']: answer['tests'] for answer in facts['answers']}
+        self.assertEqual(found[repo.name('c2')], second)
+        self.assertEqual(len(found[repo.name('c3')]), 66 - len(second) - 6)
+        self.assertEqual([one['test'] for one in facts['searches'] if sorted(one['candidates']) == sorted([repo.name('c2'), repo.name('c3')])], ['t7', 't17', 't27', 't37', 't47', 't57'])
 
     def test_kept_before_told(self) -> None:
         """An outcome is kept before the engine is told of it."""

@@ -8,7 +8,8 @@ import tempfile
 import unittest
 from typing import Dict, List
 
-TOP = os.path.dirname(os.path.dirname(os.path.dirname(os.path.abspath(__file__))))
+from helpers import ROOM, TOP
+
 STARTER = os.path.join(TOP, 'driver', 'bin', 'git-farmdawn')
 
 
@@ -17,7 +18,7 @@ class Starter(unittest.TestCase):
 
     def setUp(self) -> None:
         """The room, with a folder of programs."""
-        room = tempfile.TemporaryDirectory()
+        room = tempfile.TemporaryDirectory(dir=ROOM)
         self.addCleanup(room.cleanup)
         self.room = os.path.realpath(room.name)
         for folder in ('bin', 'tree/bin'):
@@ -54,7 +55,7 @@ class Starter(unittest.TestCase):
     def test_found(self) -> None:
         """By each name, behind one that is too old; the named one comes first."""
         real = '#!/bin/sh\nexec /usr/bin/python3 "$@"\n'
-        for name in ('bin/python3', 'bin/python3.9', 'system/python3', 'elsewhere/python'):
+        for name in ('bin/python3', 'bin/python3.9', 'system/python3', 'elsewhere/a python'):
             path = self.program(name, real)
             done = self.start('-h', **({'FARMDAWN_PYTHON': path} if name.startswith('elsewhere') else {}))
             self.assertEqual((done.returncode, done.stderr), (0, ''), name)

@@ -30,6 +30,10 @@ TAKEN = (
     (['--path='], [('--path', '')]),
     (['--log-l', '10M'], [('--log-limit', '10M')]),
     (['--cert', 'file'], [('--certificate', 'file')]),
+    (['--confirm'], [('--confirm', '3')]),
+    (['--confirm=5'], [('--confirm', '5')]),
+    (['--conf=0', '--retry', '2'], [('--confirm', '0'), ('--retry', '2')]),
+    (['--confirm', '--repeat=3'], [('--confirm', '3'), ('--repeat', '3')]),
 )
 # lines that are none, and what is said of them
 REFUSED = (
@@ -49,8 +53,7 @@ REFUSED = (
     (['--log', 'x'] + TAIL, '--log may be --log-dir or --log-limit'),
     (['--quiet=1'] + TAIL, '--quiet takes no value'),
     (['--workers'], '--workers wants a value; see git farmdawn -h'),
-    (['--repeat', '3'] + TAIL, 'for run in 1 2 3'),
-    (['--retry', '2'] + TAIL, 'COMMAND || COMMAND'),
+    (['--repeat'], '--repeat wants a value'),
     (['-x'] + TAIL, 'unknown option -x'),
     (['--check'], '--check wants a value|--check wants a file alone'),
     (['--check', 'a', 'b'], '--check wants a file alone'),
@@ -58,6 +61,8 @@ REFUSED = (
     (['--prune'] + TAIL, '--prune stands alone'),
     (['--test', 'unit', 'make', '--test', 'unit'], '--test wants a value'),
     (['--test', 'unit', 'make'] + TAIL, 'a command stands behind --, or in --test'),
+    (['--tests-from', 'junit.xml', 'main', 'v1'], '--tests-from wants a command behind --'),
+    (['--tests', 'list', 'main', 'v1', '--'], 'BAD, GOOD and a command are wanted'),
     (['--replay', 'log'] + TAIL, '--replay has the ends from the log'),
     (['--state='] + TAIL, '--state wants a value'),
 )
@@ -108,7 +113,7 @@ class Lines(unittest.TestCase):
                     if '--' + wrong in KNOWN or len(name) < 6:
                         continue
                     count += 1
-                    self.assertIn(nearest('--' + wrong), [other for other in KNOWN if distance('--' + wrong, other) <= 1], wrong)
+                    self.assertLessEqual(distance('--' + wrong, nearest('--' + wrong)), 1, wrong)
         self.assertGreater(count, 300)
 
     def test_actions(self) -> None:

@@ -1,0 +1,130 @@
+"""The tests of a list: lines of a file, testcases of JUnit, the command of each, and names for files. Tables, without a repository."""
+from __future__ import annotations
+
+import os
+import sys
+import tempfile
+import unittest
+
+sys.path.insert(0, os.path.dirname(os.path.dirname(os.path.abspath(__file__))))
+
+from git_farmdawn import lists, values                          # noqa: E402
+from git_farmdawn.lists import Listed                           # noqa: E402
+from git_farmdawn.words import Stop                             # noqa: E402
+
+# a file, and its tests
+LINES = (
+    ('t01\nt02\n', ['t01', 't02']),
+    ('# of last night\n\n  t01  \nt02', ['t01', 't02']),
+    ('build: make\n', ['build: make']),
+    ('tests/a.py::B::test_c[x y-#1]\n', ['tests/a.py::B::test_c[x y-#1]']),
+    ('t01\nt01\nt02\n', ['t01', 't02']),
+)
+# what stands in a file of JUnit, files that are there, and the tests that failed with their parts
+PYTEST = '<testsuites><testsuite>%s</testsuite></testsuites>'
+CASES = (
+    ('<testcase classname="tests.test_a.TestB" name="test_c[1]"><failure message="x">y</failure></testcase>', ['tests/test_a.py'],
+     [('tests/test_a.py::TestB::test_c[1]', 'tests.test_a.TestB', 'test_c[1]')]),
+    ('<testcase classname="tests.test_a" name="test_c" file="tests/test_a.py"><error/></testcase>', [],
+     [('tests/test_a.py::test_c', 'tests.test_a', 'test_c')]),
+    ('<testcase classname="org.x.FooTest" name="testBar"><failure/></testcase>', [], [('org.x.FooTest::testBar', 'org.x.FooTest', 'testBar')]),
+    ('<testcase name="plain"><failure/></testcase>', [], [('plain', '', 'plain')]),
+    ('<testcase classname="a" name="good"/><testcase classname="a" name="skipped"><skipped/></testcase>'
+     '<testcase classname="a" name="flaky"><flakyFailure/></testcase>'
+     '<testcase classname="a" name="text"><system-out><![CDATA[<failure/>]]></system-out></testcase>'
+     '<testcase classname="a" name="bad"><system-out>x</system-out><error/></testcase>', [], [('a::bad', 'a', 'bad')]),
+    ('<testcase classname="a&lt;b&gt;" name="&quot;c&quot; &amp; &#233;"><failure/></testcase>', [], [('a<b>::"c" & \xe9', 'a<b>', '"c" & \xe9')]),
+    ('<testcase classname="a" name="twice"><failure/></testcase><testcase classname="a" name="twice"><failure/></testcase>', [],
+     [('a::twice', 'a', 'twice')]),
+)
+NO_JUNIT = (
+    ('<testsuite><testcase name="a"/></testsuite>', 'no test failed there'),
+    ('<html></html>', 'has no testcase'),
+    ('t01\nt02\n', 'is no file of JUnit'),
+    ('', 'is no file of JUnit'),
+)
+COMMANDS = (
+    (['make', '{}'], ('t01', {}), ['make', 't01']),
+    (['ctest', '-R', '^{}$'], ('t01', {}), ['ctest', '-R', '^t01$']),
+    (['mvn', '-Dtest={class}#{name}'], ('a.B::c', {'class': 'a.B', 'name': 'c'}), ['mvn', '-Dtest=a.B#c']),
+    (['x', '{}', '{class}'], ('{name}', {}), ['x', '{name}', '{class}']),
+    (['x', '{}', '{name}'], ('a::{}', {'class': 'a', 'name': '{}'}), ['x', 'a::{}', '{}']),
+)
+SHORT = (
+    (['t01', 't02'], ['t01', 't02']),
+    (['a/b.py::C::d[1]', 'a/b.py::C::d(1)'], ['a-b.py-C-d-1', 'a-b.py-C-d-1-2']),
+    (['build', 'outputs', '..', '\xe9'], ['build-2', 'outputs-2', 'test', 'test-2']),
+    (['x' * 60 + 'end'], ['x' * 37 + 'end']),
+)
+MISSING = (('5=skip', {5: 125}), ('4,5=good', {4: 0, 5: 0}), ('127=bad', {127: 1}))
+
+
+class Lists(unittest.TestCase):
+    """Tables."""
+
+    def setUp(self) -> None:
+        """A folder of its own, in which the test stands."""
+        room = tempfile.TemporaryDirectory()
+        self.addCleanup(room.cleanup)
+        self.addCleanup(os.chdir, os.getcwd())
+        os.chdir(room.name)
+
+    @staticmethod
+    def write(name: str, text: str) -> str:
+        """A file."""
+        if os.path.dirname(name):
+            os.makedirs(os.path.dirname(name), exist_ok=True)
+        with open(name, 'w', encoding='utf-8') as file:
+            file.write(text)
+        return name
+
+    def test_lines(self) -> None:
+        """A test a line."""
+        for text, due in LINES:
+            with self.subTest(text):
+                self.assertEqual([test.name for test in lists.without_doubles(lists.read_lines(self.write('list', text)))], due)
+
+    def test_junit(self) -> None:
+        """What failed, by the names of its runner."""
+        for text, files, due in CASES:
+            with self.subTest(text):
+                for file in files:
+                    self.write(file, '')
+                found = lists.without_doubles(lists.read_junit(self.write('junit.xml', PYTEST % text)))
+                self.assertEqual([(test.name, test.parts['class'], test.parts['name']) for test in found], due)
+                for file in files:
+                    os.unlink(file)
+
+    def test_refused(self) -> None:
+        """What is no list."""
+        for text, due in NO_JUNIT:
+            with self.subTest(text):
+                self.assertRaisesRegex(Stop, due, lists.read_junit, self.write('junit.xml', text))
+        self.assertRaisesRegex(Stop, 'No such file', lists.read_junit, 'nowhere')
+        self.assertRaisesRegex(Stop, 'No such file', lists.read_lines, 'nowhere')
+        self.assertRaisesRegex(Stop, 'no line is a test', lists.read_lines, self.write('list', '# none\n\n'))
+        self.assertRaisesRegex(Stop, 'control character', lists.without_doubles, [Listed('a\x1b[1m', {})])
+        self.assertRaisesRegex(Stop, 'is the same for each test .*-- make test {}', lists.check_command, ['make', 'test'])
+
+    def test_commands(self) -> None:
+        """The name and its parts stand in their places, and what they bring is not looked at again."""
+        for words, (name, parts), due in COMMANDS:
+            with self.subTest(words):
+                lists.check_command(words)
+                self.assertEqual(lists.command_of(words, Listed(name, parts)), due)
+
+    def test_short_names(self) -> None:
+        """Names for files, each another one."""
+        for names, due in SHORT:
+            self.assertEqual(list(lists.short_names(names).values()), due)
+
+    def test_missing(self) -> None:
+        """What a status stands for."""
+        for word, due in MISSING:
+            self.assertEqual(values.missing('--missing', word), due)
+        for word in ('skip', '5', '0=skip', '125=good', '255=bad', '5=no', '5,=skip', '1000=skip', ''):
+            self.assertRaisesRegex(Stop, 'wants statuses', values.missing, '--missing', word)
+
+
+if __name__ == '__main__':
+    unittest.main()

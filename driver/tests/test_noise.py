@@ -1,0 +1,189 @@
+"""Searches by odds: the odds beside a plain computation over random histories, and whole searches with a test that lies by a plan."""
+from __future__ import annotations
+
+import json
+import os
+import random
+import re
+import subprocess
+import sys
+import unittest
+from typing import Dict, List, Set, Tuple
+
+sys.path.insert(0, os.path.dirname(os.path.dirname(os.path.abspath(__file__))))
+
+from git_farmdawn.odds import Noise, Odds, of_hundred           # noqa: E402
+from git_farmdawn.values import share                           # noqa: E402
+from git_farmdawn.words import Stop                             # noqa: E402
+from helpers import Repository, needs_engine                    # noqa: E402
+from test_confirm import LIES, Noisy                            # noqa: E402
+
+
+def random_parents(choice: random.Random, count: int) -> List[List[int]]:
+    """A history in which parents stand before."""
+    return [sorted(choice.sample(range(at), min(at, choice.choice([1, 1, 1, 2, 3]))), reverse=choice.random() < 0.5) for at in range(count)]
+
+
+def above(parents: List[List[int]], at: int) -> Set[int]:
+    """A commit and all that it stands on."""
+    found = {at}
+    for parent in parents[at]:
+        found |= above(parents, parent)
+    return found
+
+
+class Pure(unittest.TestCase):
+    """The odds, and what is tested next."""
+
+    def test_random(self) -> None:
+        """As by Bayes, candidate by candidate; and the next test has the largest gain of all, also beside tests under way."""
+        choice = random.Random(8)
+        for _ in range(200):
+            parents = random_parents(choice, choice.randrange(2, 14))
+            candidates = sorted(choice.sample(range(len(parents)), choice.randrange(1, len(parents) + 1)))
+            noise = Noise(choice.choice([0.01, 0.1, 0.3]), choice.choice([0.01, 0.2]))
+            odds = Odds(parents, candidates, noise)
+            due = {at: 1.0 for at in candidates}
+            has = {at: above(parents, at) for at in range(len(parents))}
+            for _ in range(choice.randrange(6)):
+                commit, bad = choice.randrange(len(parents)), choice.random() < 0.5
+                odds.learn(commit, bad)
+                for at in due:
+                    is_bad = at in has[commit]
+                    due[at] *= ((1 - noise.passes) if bad else noise.passes) if is_bad else (noise.fails if bad else 1 - noise.fails)
+            total = sum(due.values())
+            for at in candidates:
+                self.assertAlmostEqual(odds.odds[at], due[at] / total)
+            under_way = [choice.randrange(len(parents)) for _ in range(choice.randrange(3))]
+            self.check_gains(odds, has, under_way)
+
+    def check_gains(self, odds: Odds, has: Dict[int, Set[int]], under_way: List[int]) -> None:
+        """The gain of each commit, by a sum over pairs of candidates that it tells apart and those under way do not."""
+        gains = odds.gains(under_way)
+        for commit, found in enumerate(gains):
+            due = sum(odds.odds[one] * odds.odds[other] for one in odds.odds for other in odds.odds
+                      if one in has[commit] and other not in has[commit] and all((one in has[test]) == (other in has[test]) for test in under_way))
+            self.assertAlmostEqual(found, due, 6)
+        best = odds.next_test(under_way)
+        if max(gains) >= odds.least_gain:
+            self.assertIsNotNone(best)
+            self.assertAlmostEqual(gains[best or 0], max(gains))
+
+    def test_line(self) -> None:
+        """Of a line the middle comes first, then the quarters beside it; commits that cannot be tested never come."""
+        odds = Odds([[at - 1] if at else [] for at in range(16)], range(16), Noise(0.05, 0.05))
+        self.assertEqual([odds.next_test([]), odds.next_test([7]), odds.next_test([7, 3])], [7, 3, 11])
+        odds.skip(7)
+        self.assertIn(odds.next_test([]), (6, 8))
+        self.assertEqual(odds.best(), (0, 1 / 16))
+        for at in range(16):
+            odds.skip(at)
+        self.assertIsNone(odds.next_test([]))
+
+    def test_again(self) -> None:
+        """Where one has most of the odds, it and its parent are tested again, two times at once at most."""
+        odds = Odds([[at - 1] if at else [] for at in range(8)], range(1, 8), Noise(0.05, 0.05))
+        for _ in range(2):
+            odds.learn(5, True)
+            odds.learn(4, False)
+        self.assertGreater(odds.best()[1], 0.98)
+        for under_way, due in (([], (4, 5)), ([5], (4,)), ([5, 4], (4, 5)), ([5, 4, 5], (4,)), ([5, 4, 4], (5,)), ([5, 4, 5, 4], (None,))):
+            self.assertIn(odds.next_test(under_way), due, under_way)
+
+    def test_ends(self) -> None:
+        """Where a commit that cannot be tested leaves two, it ends, however sure it is to be."""
+        for sure in (0.9, 0.99, 0.9999):
+            odds, count = Odds([[at - 1] if at else [] for at in range(12)], range(1, 12), Noise(0.05, 0.01), sure), 0
+            odds.skip(6)
+            while odds.best()[1] < sure:
+                at = odds.next_test([])
+                if at is None:
+                    break
+                odds.learn(at, at >= 7)
+                count += 1
+            self.assertIsNone(at)
+            self.assertEqual({at for at, _ in odds.ranked(0.9)}, {6, 7})
+            self.assertLess(count, 30)
+
+    def test_right(self) -> None:
+        """Of 300 searches whose answers are to be right in 99 of 100 some 297 are."""
+        choice, wrong = random.Random(5), 0
+        for _ in range(300):
+            noise = Noise(choice.choice([0.02, 0.1, 0.2]), choice.choice([0.02, 0.1]))
+            parents = random_parents(choice, 24)
+            odds, first = Odds(parents, range(24), noise), choice.randrange(24)
+            while odds.best()[1] < 0.99:
+                at = odds.next_test([])
+                if at is None:
+                    break               # no commit tells those apart that are left
+                is_bad = first in above(parents, at)
+                odds.learn(at, is_bad != (choice.random() < (noise.passes if is_bad else noise.fails)))
+            wrong += odds.best()[1] >= 0.99 and odds.best()[0] != first
+        self.assertLess(wrong, 8)
+
+    def test_words(self) -> None:
+        """Shares as they are written, and odds in words."""
+        for word, due in (('0.05', 0.05), ('5%', 0.05), ('.5%', 0.005), ('49.9%', 0.499), ('0.000001', 0.000001)):
+            self.assertAlmostEqual(share('--noise', word, 0, 0.5), due)
+        for word in ('0', '0.5', '50%', '1', '-1', 'x', '', '%', '.', '5 %', '0.0', '1e-3'):
+            self.assertRaises(Stop, share, '--noise', word, 0, 0.5)
+        for odds, text in ((0.5, '50 of 100'), (0.9931, '99.31 of 100'), (1.0, '99.99 of 100'), (0.00004, '0 of 100')):
+            self.assertEqual(of_hundred(odds), text)
+
+
+@needs_engine
+class Searches(Noisy):
+    """--noise."""
+
+    def test_finds(self) -> None:
+        """The first bad one, whatever single runs say; what is kept is evidence for the same line, which then tests nothing."""
+        repo = Repository(self, 24)
+        for first, lies, workers in ((14, {(12, 1): 3, (13, 1): 3, (6, 1): 3, (11, 1): 3}, '1'), (5, {(12, 1): 0, (13, 1): 0, (6, 1): 0, (7, 1): 0}, '4')):
+            with self.subTest(first=first):
+                self.plan(repo, lies)
+                got = self.search(repo, first, '--fresh', '--noise', '5%', '-j', workers, '--report', '../report')
+                lines = got.stdout.splitlines()
+                self.assertEqual((got.returncode, lines[-1]), (0, repo.name('c%d' % first) + ' is the first bad commit'), got.stderr)
+                self.assertIn('no log of git bisect', lines[1])
+                self.assertRegex(got.stdout, r'# odds: 99\.[0-9]+ of 100: \[%s\]' % repo.name('c%d' % first))
+                self.assertFalse(re.search('^git bisect', got.stdout, re.M))
+                count = self.runs()
+                again = self.search(repo, first, '--noise', '5%', '-j', workers)
+                self.assertEqual((again.stdout.splitlines()[-1], self.runs()), (lines[-1], count + 0), again.stderr)
+                with open(repo.room + '/report/result.json', encoding='utf-8') as file:
+                    facts = json.load(file)
+                self.assertGreaterEqual(facts['odds'][0]['odds'], 0.99)
+        repo.check_left()
+
+    def test_ends(self) -> None:
+        """An end that most of three tests deny; a commit that cannot be tested; a test that stops it; no commit that is sure enough."""
+        repo = Repository(self, 12)
+        rows: List[Tuple[Dict[Tuple[int, int], int], int, str]] = [
+            ({(1, run): 4 for run in (1, 2, 3)}, 1, 'was called good, and its test ended with 4'), ({(1, 1): 4}, 0, ''), ({(12, 1): 0}, 0, ''),
+            ({(6, run): 125 for run in range(1, 9)}, 2, ''), ({(n, 1): 127 for n in range(2, 12)}, 6, '')]
+        for lies, status, told in rows:
+            with self.subTest(lies=lies):
+                self.plan(repo, lies)
+                # the runs of the script count from 1, and a first run of an end is its first one here
+                got = self.search_all(repo, '--fresh', '--noise', '0.05,0.01', '-j', '2')
+                self.assertEqual(got.returncode, status, got.stderr)
+                self.assertIn(told, got.stderr)
+                if status == 2:
+                    self.assertIn('No commit has 99 of 100', got.stdout)
+                    self.assertIn('\n%s\n' % repo.name('c7'), got.stdout)
+
+    def search_all(self, repo: Repository, *words: str) -> subprocess.CompletedProcess[str]:
+        """A search whose status may be any."""
+        return repo.search(*words, *repo.ends(), '--', 'sh', '-c', LIES, self.folder, '7')
+
+    def test_refused(self) -> None:
+        """What has no meaning beside it."""
+        repo = Repository(self, 3)
+        for words in (('--noise', '5%', '--confirm'), ('--noise', '5%', '--certificate', '../a'), ('--sure', '0.9'), ('--noise', '0.7'), ('--noise', '5%', '--sure', '0.4'),
+                      ('--noise', '5%', '--check-ends')):
+            self.assertEqual(repo.search(*words, *repo.ends(), '--', 'true').returncode, 1, words)
+        self.assertEqual(repo.search('--noise', '5%', *repo.ends(), '--test', 'a', 'true').returncode, 1)
+
+
+if __name__ == '__main__':
+    unittest.main()

@@ -1,0 +1,211 @@
+"""Random searches for several tests at once. Each log and answer is that of its test alone, by an engine that has all outcomes of that
+test; and `git bisect run` for each test comes to the same commit, which is the one that broke it. Where commits are skipped, git may
+ask in another order: there both must be right. FARMDAWN_CASES says how many, FARMDAWN_SEED from where on."""
+from __future__ import annotations
+
+import os
+import random
+import re
+import subprocess
+import unittest
+from typing import Dict, List, NamedTuple, Set
+
+from helpers import ENGINE, ENV, Repository, needs_engine
+
+CASES, SEED = int(os.environ.get('FARMDAWN_CASES') or 40), int(os.environ.get('FARMDAWN_SEED') or 1)
+STOP, MISSING = 200, 5
+# what a commit, by its number, ends with: that of its build, and that of a test
+BUILD = 'sed -n "$(cat number)p" %s/build >status; exit "$(cat status)"'
+TEST = 'exit "$(sed -n "$(cat number)p" "$0/$1")"'
+# the same in one, as git bisect run wants it
+ALONE = 'b=$(sed -n "$(cat number)p" "$0/build"); [ "$b" = 0 ] || exit 125\ns=$(sed -n "$(cat number)p" "$0/$1"); [ "$s" != 5 ] || exit 125\nexit "$s"\n'
+
+
+# an engine that keeps what it is told
+TOLD = '#!/bin/sh\nif [ "$1" = serve ]; then tee "%s" | "%s" "$@"; else exec "%s" "$@"; fi\n'
+
+
+class Found(NamedTuple):
+    """What is found for one test: the commits that are named, and the status."""
+
+    named: Set[str]
+    status: int
+
+
+class Case:
+    """A repository with two lines of commits that are merged now and then, and outcomes for each test."""
+
+    def __init__(self, case: unittest.TestCase, seed: int) -> None:
+        choice = self.choice = random.Random(seed)
+        self.count = choice.randint(4, 34)
+        self.repo = Repository(case, 1)
+        self.names: Dict[int, str] = {}
+        self.above: List[Set[int]] = [set()]            # by number: the commit itself, and all that it stands on
+        self.import_commits()
+        self.folder = os.path.join(self.repo.room, 'outcomes')
+        os.mkdir(self.folder)
+        self.statuses: Dict[str, List[int]] = {}
+        self.told = os.path.join(self.repo.room, 'told')
+        self.holed: Set[str] = set()                    # those that have more than good and bad
+        self.tests = ['t%d' % number for number in range(1, choice.randint(1, 12) + 1)]
+        self.wrong: Set[str] = set()                    # those that are good at the bad commit, which is seen where that is tested
+        self.checks = False                             # whether the ends are tested in any case
+        self.write('build', [choice.choice([1, 2]) if 1 < n < self.count and choice.random() < 0.1 else 0 for n in range(1, self.count + 1)])
+        broken = [choice.randint(2, self.count) for _ in range(4)]
+        self.broken = {test: choice.choice(broken) for test in self.tests}
+        for test in self.tests:
+            self.write(test, self.outcomes(test, self.broken[test]))
+            if set(self.statuses[test]) - {0, 1, 77} or any(self.statuses['build']):
+                self.holed.add(test)
+
+    def import_commits(self) -> None:
+        """The commits, of which each is on one of two lines, and may merge the other one."""
+        parts, tips = [], [1, 1]
+        self.above.append({1})
+        for n in range(2, self.count + 1):
+            line = 0 if n == self.count or self.choice.random() < 0.7 else 1
+            other = tips[1 - line]
+            merged = other not in self.above[tips[line]] and (n == self.count or self.choice.random() < 0.3)
+            parts.append(f'commit refs/heads/main\nmark :{n}\ncommitter g <g> {1700000000 + n} +0000\ndata <<.\nchange {n}\n.\n'
+                         f'from {self.of(tips[line])}\n' + (f'merge {self.of(other)}\n' if merged else '') +
+                         f'M 100644 inline number\ndata <<.\n{n}\n.\nM 100644 inline .gitignore\ndata <<.\nstatus\n.\n'
+                         f'reset refs/tags/c{n}\nfrom :{n}\n\n')
+            self.above.append(self.above[tips[line]] | (self.above[other] if merged else set()) | {n})
+            tips[line] = n
+        self.repo.run('git', 'fast-import', '--quiet', '--force', input=''.join(parts))
+        self.repo.run('git', 'reset', '-q', '--hard')
+        listed = self.repo.run('git', 'rev-parse', *[f'c{n}' for n in range(1, self.count + 1)]).stdout.split()
+        self.names = dict(enumerate(listed, 1))
+
+    @staticmethod
+    def of(number: int) -> str:
+        """A commit in the stream."""
+        return 'refs/tags/c1' if number == 1 else f':{number}'
+
+    def outcomes(self, test: str, broken: int) -> List[int]:
+        """Statuses by number: bad from a commit on; skips, tests that are not there, and ends of a search between the ends."""
+        choice, ends = self.choice, (1, self.count)
+        found = [choice.choice([1, 77]) if broken in self.above[n] else 0 for n in range(1, self.count + 1)]
+        skips, stops = choice.choice([0, 0, 0.1, 0.5]), choice.choice([0, 0, 0, 0.05])
+        since = choice.choice([0, 0, choice.randint(1, self.count)])
+        for n in range(1, self.count + 1):
+            if n not in ends and choice.random() < skips:
+                found[n - 1] = 125
+            if n not in ends and n < since:
+                found[n - 1] = MISSING
+            if n not in ends and choice.random() < stops:
+                found[n - 1] = STOP
+        if broken not in self.above[self.count] or choice.random() < 0.05:
+            found[self.count - 1] = 0
+            self.wrong.add(test)
+        return found
+
+    def write(self, name: str, statuses: List[int]) -> None:
+        """A line for each commit."""
+        self.statuses[name] = statuses
+        with open(os.path.join(self.folder, name), 'w', encoding='utf-8') as file:
+            file.write(''.join('%d\n' % status for status in statuses))
+
+    def engine(self) -> str:
+        """The engine that keeps what it is told."""
+        path = os.path.join(self.repo.room, 'engine')
+        with open(path, 'w', encoding='utf-8') as file:
+            file.write(TOLD % (self.told, ENGINE, ENGINE))
+        os.chmod(path, 0o755)
+        return path
+
+    # -- each test alone -----------------------------------------------------------
+
+    def status_of(self, test: str, number: int) -> int:
+        """What a test ends with at a commit, for the engine."""
+        build, status = (self.statuses[name][number - 1] for name in ('build', test))
+        return 125 if build or status == MISSING else status
+
+    def alone(self) -> List[List[str]]:
+        """The logs with their answers, by an engine that knows each outcome."""
+        with open(self.told, 'rb') as file:
+            stream = file.read().split(b'\ndone\n')[0] + b'\ndone\n'
+        names = self.names
+        lines = [f'search {names[self.count]} {names[1]}' for _ in self.tests]
+        for number, test in enumerate(self.tests, 1):
+            lines += [f'learn {number} {name} {self.status_of(test, n)}' for n, name in names.items() if name.encode() in stream]
+        got = subprocess.run([ENGINE, 'serve', '--original-names'], input=stream + ''.join(line + '\n' for line in lines).encode(),
+                             stdout=subprocess.PIPE, check=True)
+        found: List[List[str]] = [[] for _ in self.tests]
+        for line in got.stdout.decode().split('\n'):
+            kind, _, rest = line.partition(' ')
+            if kind in ('log', 'answer'):
+                number, _, rest = rest.partition(' ')
+                found[int(number) - 1].append(rest)
+        return found
+
+    def by_git(self, test: str) -> Found:
+        """What git bisect run finds."""
+        repo = self.repo
+        repo.run('git', 'bisect', 'start', self.names[self.count], self.names[1])
+        got = repo.run('git', 'bisect', 'run', 'sh', '-c', ALONE, self.folder, test, check=False)
+        repo.run('git', 'bisect', 'reset')
+        return found_in(got.stdout)
+
+
+def found_in(text: str) -> Found:
+    """What a search names behind its log."""
+    first = re.findall('^([0-9a-f]{40}) is the first bad commit', text, re.M)
+    if first:
+        return Found(set(first), 0)
+    if "only 'skip'ped commits" in text:
+        return Found(set(re.findall('^([0-9a-f]{40})$', text.split("only 'skip'ped commits")[1], re.M)), 2)
+    return Found(set(), 6)
+
+
+@needs_engine
+class Random(unittest.TestCase):
+    """Random cases."""
+
+    def test_beside_git(self) -> None:
+        """Each of them."""
+        for seed in range(SEED, SEED + CASES):
+            with self.subTest(seed):
+                self.look_at(Case(self, seed))
+
+    def look_at(self, case: Case) -> None:
+        """One of them: all searches together, and then each by git."""
+        choice, repo = case.choice, case.repo
+        if choice.random() < 0.5:
+            case.wrong.clear()
+            ends = ['--trust-ends']
+        else:
+            ends = choice.choice([[], ['--check-ends']])
+            case.checks = bool(ends)
+        listed = os.path.join(repo.room, 'list')
+        with open(listed, 'w', encoding='utf-8') as file:
+            file.write('\n'.join(case.tests))
+        words = ends + choice.choice([[], ['--together']]) + ['--workers', str(choice.choice([1, 2, 5, 9]))]
+        got = repo.search(*words, '--missing', f'{MISSING}=skip', '--build', BUILD % case.folder, '--tests', listed, f'c{case.count}', 'c1', '--',
+                          'sh', '-c', TEST, case.folder, '{}', env={**ENV, 'FARMDAWN_NEEDED': choice.choice(['0', '5', 'never']), 'FARMDAWN': case.engine()})
+        parts = dict(zip(case.tests, re.split('^# search of .*\n', got.stdout, flags=re.M)[1:]))
+        self.assertEqual(list(parts), case.tests, got.stderr)
+        self.compare(case, parts, got)
+        repo.check_left()
+
+    def compare(self, case: Case, parts: Dict[str, str], got: subprocess.CompletedProcess[str]) -> None:
+        """The log and the answer of each test, and the status of all."""
+        status, bad = 0, case.names[case.count]
+        for (test, part), lines in zip(parts.items(), case.alone()):
+            if test in case.wrong and (case.checks or part.startswith('# ' + test)):
+                self.assertEqual(part, f'# {test} is left out: {bad} was called bad, and its test ended with 0\n')
+                status = max(status, 1)
+                continue
+            self.assertEqual(part.split('\n')[:-1], lines, test + got.stderr)
+            here, git = found_in(part), case.by_git(test)
+            status = max(status, here.status)
+            if test not in case.wrong:
+                first = case.names[case.broken[test]]
+                for found in (here, git):
+                    self.assertTrue(found.status == 6 or first in found.named, test + got.stderr)
+                    self.assertTrue(found.status == 0 or test in case.holed, test + got.stderr)
+        self.assertEqual(got.returncode, status, got.stderr)
+
+
+if __name__ == '__main__':
+    unittest.main()
