@@ -1,27 +1,32 @@
 # make demo: a search over a shipped history by a command that takes half a second, four commits at once, with a program
 #   that is built without its proofs
-# make install PREFIX=FOLDER: proves and builds the program, and puts it into FOLDER/bin, with the scripts, their manual
-#   pages and the shells' completions
+# make install PREFIX=FOLDER: proves and builds the program, and puts it into FOLDER/bin, with git farmdawn, whose modules go into
+#   FOLDER/lib/farmdawn, the scripts, the manual pages and the shells' completions
 # make uninstall PREFIX=FOLDER: removes what was installed
 # make dist: packs the program that make install or make test built, PROGRAM, into DIST, for machines without the kit
 # make test: every proof, must-fail edit, test and program of this checkout
-# make check: the tests of the scripts
-# make check-driver: all tests of the driver that git farmdawn is to become (docs/DRIVER.md), over a model of what it asks the program
+# make check: the tests of git farmdawn, of the scripts and of the pages
+# make check-model: those of git farmdawn, over a model of what it asks the program (docs/DRIVER.md)
 # make bench: what the programs cost, at small sizes (benches/bench.py has the others)
 PREFIX ?= /usr/local
 PROGRAM ?= crates/farmdawn/out/farmdawn
 DIST ?= dist
 
-SCRIPTS = git-farmdawn farmdawn-worktree farmdawn-srun farmdawn-ssh
-# what a script starts or reads for itself, and has no page
-PARTS = farmdawn-part farmdawn-history farmdawn-progress farmdawn-needed farmdawn-certificate farmdawn-report
+# the Python that compiles the modules of git farmdawn where they are installed; without it each start takes a tenth of a second more
+PYTHON ?= /usr/bin/python3
+
+SCRIPTS = farmdawn-worktree farmdawn-srun farmdawn-ssh
+PAGES = farmdawn git-farmdawn $(SCRIPTS)
+# what earlier versions installed beside these
+OLD_PARTS = farmdawn-part farmdawn-history farmdawn-progress farmdawn-needed farmdawn-certificate farmdawn-report
+LIB = $(DESTDIR)$(PREFIX)/lib/farmdawn
 BIN = $(DESTDIR)$(PREFIX)/bin
 MAN = $(DESTDIR)$(PREFIX)/share/man/man1
 BASH_COMPLETIONS = $(DESTDIR)$(PREFIX)/share/bash-completion/completions
 ZSH_COMPLETIONS = $(DESTDIR)$(PREFIX)/share/zsh/site-functions
 FISH_COMPLETIONS = $(DESTDIR)$(PREFIX)/share/fish/vendor_completions.d
 
-.PHONY: demo install install-scripts uninstall dist test check check-driver bench
+.PHONY: demo install install-scripts uninstall dist test check check-model bench
 demo:
 	cd crates/farmdawn && rt try --data test.sh=../../demo/test.sh --data broken=../../demo/broken -- \
 		run --workers 4 main v1.0 -- sh test.sh < ../../demo/stream
@@ -31,8 +36,13 @@ install: install-scripts
 	install -D -m 755 crates/farmdawn/out/farmdawn "$(BIN)/farmdawn"
 
 install-scripts:
-	for script in $(SCRIPTS) $(PARTS); do install -D -m 755 tools/$$script "$(BIN)/$$script" || exit 1; done
-	for page in farmdawn $(SCRIPTS); do install -D -m 644 man/$$page.1 "$(MAN)/$$page.1" || exit 1; done
+	for script in $(SCRIPTS); do install -D -m 755 tools/$$script "$(BIN)/$$script" || exit 1; done
+	install -D -m 755 driver/bin/git-farmdawn "$(BIN)/git-farmdawn"
+	for name in $(OLD_PARTS); do rm -f "$(BIN)/$$name"; done
+	rm -rf "$(LIB)/git_farmdawn"
+	install -D -m 644 -t "$(LIB)/git_farmdawn" driver/git_farmdawn/*.py
+	[ -z "$(PYTHON)" ] || ! command -v "$(PYTHON)" >/dev/null || "$(PYTHON)" -I -m compileall -q "$(LIB)/git_farmdawn"
+	for page in $(PAGES); do install -D -m 644 man/$$page.1 "$(MAN)/$$page.1" || exit 1; done
 	for name in farmdawn git-farmdawn; do \
 		install -D -m 644 completions/farmdawn.bash "$(BASH_COMPLETIONS)/$$name" && \
 		install -D -m 644 completions/_$$name "$(ZSH_COMPLETIONS)/_$$name" && \
@@ -40,10 +50,12 @@ install-scripts:
 	done
 
 uninstall:
-	for name in farmdawn $(SCRIPTS) $(PARTS); do rm -f "$(BIN)/$$name" "$(MAN)/$$name.1"; done
+	for name in $(PAGES) $(OLD_PARTS); do rm -f "$(BIN)/$$name" "$(MAN)/$$name.1"; done
 	for name in farmdawn git-farmdawn; do \
 		rm -f "$(BASH_COMPLETIONS)/$$name" "$(ZSH_COMPLETIONS)/_$$name" "$(FISH_COMPLETIONS)/$$name.fish"; \
 	done
+	rm -rf "$(LIB)/git_farmdawn"
+	[ ! -d "$(LIB)" ] || rmdir --ignore-fail-on-non-empty "$(LIB)"
 
 dist:
 	sh packaging/make-dist "$(PROGRAM)" "$(DIST)"
@@ -54,12 +66,10 @@ test:
 check:
 	sh tests/check
 
-check-driver: export FARMDAWN_DRIVER = $(CURDIR)/driver/bin
-check-driver: export FARMDAWN_PROGRAM = $(abspath $(PROGRAM))
-check-driver: export FARMDAWN = $(CURDIR)/driver/model/farmdawn
-check-driver:
-	python3 -B -m unittest discover -s driver/tests
-	sh tests/check git-farmdawn.sh report.sh certificate.sh telling.sh needed.sh cost.sh
+check-model: export FARMDAWN_PROGRAM = $(abspath $(PROGRAM))
+check-model: export FARMDAWN = $(CURDIR)/driver/model/farmdawn
+check-model:
+	sh tests/check driver.sh git-farmdawn.sh report.sh certificate.sh telling.sh needed.sh cost.sh
 
 bench:
 	python3 benches/bench.py all --quick

@@ -13,6 +13,8 @@ Usage: benches/bench.py SUBJECT [SIZE ..] [--quick] [--program FILE]
   search    COMMITS ..                  the asks of whole searches, beside git rev-list --bisect; 1,000 skips in a row
   workers   COMMITS                     processor time of simulate --workers 1, 2, 8 and 64
   many      COMMITS                     64 searches in one call, by 64 workers beside one
+  serve     COMMITS OUTCOMES            requests by few and many workers, so many outcomes that are learned, and waits; the events of
+                                        simulate --workers 1, 8 and 64 beside simulate
   farm      COMMITS ..                  picks, posts, runs and runs of skips by 1, 8 and 64 workers, beside one
                                         weighing of all candidates
   run       COMMITS MILLISECONDS TESTS  searches by tests of such a length, by 1 to 8 workers, beside git bisect run; tests of
@@ -53,6 +55,7 @@ from typing import Callable
 
 import agree
 import certificates as certificate_costs
+import dialogues
 import farm as farm_costs
 import folders as folder_costs
 import gate
@@ -306,6 +309,10 @@ def many(bench, size):
     return same
 
 
+def serve(bench, commits, outcomes):
+    return dialogues.costs(bench, commits, outcomes)
+
+
 def sample(bench, *sizes):
     for size in sizes:
         ours = bench.ask("sample", "1", str(size))
@@ -407,7 +414,7 @@ BUILD = ["sh", "-c", "make -s && ./check"]
 
 def by_git_farmdawn(bench, folder, commits, count):
     """What `git farmdawn` costs, how many tests it makes, and its answer."""
-    words = [os.path.join(TOP, "tools", "git-farmdawn"), "--workers", str(count), "main", f"main~{commits - 1}", "--", *BUILD]
+    words = [os.path.join(TOP, "driver", "bin", "git-farmdawn"), "--workers", str(count), "main", f"main~{commits - 1}", "--", *BUILD]
     with open(bench.path("told"), "wb") as told:
         cost = measure(["sh", "-c", 'exec 2>"$1"; shift; exec "$@"', "sh", told.name, *words], keep=bench.path("output"),
                        folder=folder, environment={**repository.CALM, "FARMDAWN": os.path.abspath(bench.program)})
@@ -538,7 +545,7 @@ def certify(bench, commits):
 
 def folders(bench, files, commits):
     needs_git()
-    return folder_costs.folders(bench, files, commits, machine(), os.path.join(TOP, "tools", "git-farmdawn"))
+    return folder_costs.folders(bench, files, commits, machine(), os.path.join(TOP, "driver", "bin", "git-farmdawn"))
 
 
 def logs(bench, turns):
@@ -564,6 +571,7 @@ SUBJECTS = {
     "search": Subject(search, (20000, 100000), (3000,), is_list=True),
     "workers": Subject(workers, (100000,), (5000,)),
     "many": Subject(many, (100000,), (5000,)),
+    "serve": Subject(serve, (100000, 50000), (3000, 1000)),
     "farm": Subject(farm, (50000, 100000), (1000, 2000), "bench", is_list=True),
     "run": Subject(run, (1000, 200, 300), (60, 100, 20)),
     "wall": Subject(wall, (300, 40, 3), (30, 8, 1)),

@@ -1,7 +1,7 @@
 #!/usr/bin/env python3
 """What `git farmdawn` costs of its own for each test, beside what git needs to check a commit out.
 
-Usage: benches/cost.py [--commits N,..] [--workers N,..] [--runs N] [--lengths SECONDS,..] [--names] [--program FILE] [--tools FOLDER]
+Usage: benches/cost.py [--commits N,..] [--workers N,..] [--runs N] [--lengths SECONDS,..] [--names] [--own] [--program FILE] [--driver FOLDER]
 
 Makes lines of so many commits with one file each in a temporary folder, and searches them with a test of nothing, `true`:
 so each test is good, and nearly all that is measured is the search's own. Another search over the same commits is stopped by
@@ -15,19 +15,21 @@ further ahead where tests take their time.
 With --lengths, searches by tests that wait so long are timed by the clock instead, beside `git bisect run`: which says from
 which length of a test on several workers are faster, and means something on a quiet machine alone.
 
-With --names, the processes of a whole search are sampled by `perf`, and told apart by their names: those of the scripts, with the
-shell and the small programs that they start, divided by the number of tests, and those of awk, of the program and of git, most of
-which a search has at its start. So what grows with the commits stands beside what a test costs.
+With --own, the process of the driver alone is watched, without git, the program and the tests that it starts: what it takes up to the
+first test, for each test from there on, and at most in memory. Its time counts while it runs, so that others on the machine add little.
+
+With --names, the processes of a whole search are sampled by `perf`, and told apart by their names: those of the driver, with the
+tests that it starts, divided by the number of tests, and those of the program and of git, most of which a search has at its start. So
+what grows with the commits stands beside what a test costs.
 
 Other times are of processors, those of the whole tree of processes, whoever waits for them; of some runs the least counts. A busy
 machine adds to them, since processors that share a core slow each other: so the costs of `sh -c true` and of `git rev-parse`
-stand above the table. The program is FARMDAWN or the one that a proved build left, the scripts are those of this checkout.
+stand above the table. The program is FARMDAWN or the one that a proved build left, the driver is that of this checkout.
 """
 import argparse
 import atexit
 import collections
 import ctypes
-import glob
 import os
 import resource
 import shutil
@@ -124,6 +126,26 @@ def spent_each(command, folder, times=40):
     return 1000 * min(sum(spent_by(command, folder) for _ in range(times)) / times for _ in range(3))
 
 
+def own_time(pid):
+    """Milliseconds that a process of one thread was on a processor."""
+    with open(f"/proc/{pid}/schedstat") as stat:
+        return int(stat.read().split()[0]) / 1e6
+
+
+def own_memory(pid):
+    """Kilobytes that it had at most."""
+    with open(f"/proc/{pid}/status") as status:
+        return int(next(line for line in status if line.startswith("VmHWM")).split()[1])
+
+
+def tell_own(searches, workers, runs):
+    """Tells what the driver's process took, the least of some runs."""
+    for count in workers:
+        found = [searches.own(count, ["true"]) for _ in range(runs)]
+        start, each, most = (min(row[at] for row in found) for at in range(3))
+        print(f"  {count} workers: {start:.0f} ms up to the first test, {each:.1f} ms a test ({found[0][3]}), {most:.0f} MB", flush=True)
+
+
 def write_line(path, commits):
     """A stream of a line of commits, each of which changes the one file."""
     with open(path, "w") as stream:
@@ -151,24 +173,44 @@ class Searches:
     def __init__(self, folder, stream, commits, environment, runs, group):
         self.folder, self.stream, self.commits, self.environment, self.runs = folder, stream, commits, environment, runs
         self.group = group if group.folder else None
+        self.logs = os.path.join(folder, "..", "logs")
 
     def has_begun(self):
-        """Whether a test of the search that runs has begun."""
-        return any(os.path.getsize(times) for times in glob.glob(os.path.join(self.folder, ".git", "farmdawn", "run.*", "times")))
+        """Whether a test of the search that runs has begun: its output has a file."""
+        return os.path.isdir(self.logs) and bool(os.listdir(self.logs))
 
     def search(self, workers, command, due=(0,)):
         """The cost of the cheapest of some searches."""
         costs = []
         for _ in range(self.runs):
-            logs = os.path.join(self.folder, "..", "logs")
-            shutil.rmtree(logs, ignore_errors=True)
-            spent = spent_by(["git-farmdawn", "--fresh", "--workers", str(workers), "--log-dir", logs, "main",
-                              f"main~{self.commits - 1}", "--", *command], self.folder, self.environment, due,
-                             group=self.group, is_late=self.has_begun)
+            shutil.rmtree(self.logs, ignore_errors=True)
+            spent = spent_by(self.line(workers, command), self.folder, self.environment, due, group=self.group, is_late=self.has_begun)
             processor, late = spent if self.group else (spent, spent)
             # each test has an output of its own
-            costs.append(Cost(processor, late, len(os.listdir(logs))))
+            costs.append(Cost(processor, late, len(os.listdir(self.logs))))
         return min(costs, key=lambda cost: cost.late)
+
+    def line(self, workers, command):
+        """The words of a search; its ends are not tested, as the test of nothing is good at the bad one, too."""
+        return ["git-farmdawn", "--fresh", "--trust-ends", "--workers", str(workers), "--log-dir", self.logs, "main",
+                f"main~{self.commits - 1}", "--", *command]
+
+    def own(self, workers, command):
+        """What the driver's process took: milliseconds up to the first test, and for each test; megabytes at most; and the tests."""
+        shutil.rmtree(self.logs, ignore_errors=True)
+        done = subprocess.Popen(self.line(workers, command), cwd=self.folder, env=self.environment, stdin=subprocess.DEVNULL,
+                                stdout=subprocess.DEVNULL, stderr=subprocess.DEVNULL)
+        start, last, most = None, 0.0, 0
+        while done.poll() is None:
+            try:
+                last, most = own_time(done.pid), max(most, own_memory(done.pid))
+            except (OSError, ValueError, IndexError, StopIteration):    # it has ended
+                continue
+            if start is None and self.has_begun():
+                start = last
+            time.sleep(0.002)
+        tests = len(os.listdir(self.logs))
+        return start or 0.0, (last - (start or 0.0)) / tests, most / 1024, tests
 
     def program(self, workers, command, due=(0,)):
         """The cost of the program alone, over the same commits, of the cheapest of some runs."""
@@ -226,12 +268,12 @@ def by_name(folder, commits, environment, workers):
     with tempfile.TemporaryDirectory() as work:
         samples = os.path.join(work, "samples")
         said = subprocess.run(["perf", "record", "-q", "-F", str(SAMPLES), "-o", samples, "--", "git", "farmdawn", "--fresh",
-                               "--workers", str(workers), *ends, "--", "true"], cwd=folder, env=environment,
+                               "--trust-ends", "--workers", str(workers), *ends, "--", "true"], cwd=folder, env=environment,
                               stdin=subprocess.DEVNULL, capture_output=True, text=True, check=True).stderr
         names = subprocess.run(["perf", "script", "-i", samples, "-F", "comm"], capture_output=True, text=True, check=True).stdout
     tests = said.count(": testing ")
     seen = collections.Counter(names.split())
-    apart = {name: seen.pop(name, 0) / SAMPLES for name in ("awk", "farmdawn", "git")}
+    apart = {name: seen.pop(name, 0) / SAMPLES for name in ("farmdawn", "git")}
     seen.pop("perf", None)
     print(f"  {workers} workers: {sum(seen.values()) / SAMPLES / tests * 1000:.0f} ms a test ({tests}); "
           + ", ".join(f"{name} {seconds:.2f} s" for name, seconds in apart.items()), flush=True)
@@ -244,19 +286,20 @@ def main():
     parser.add_argument("--runs", type=int, default=3)
     parser.add_argument("--lengths", type=lambda text: text.split(","))
     parser.add_argument("--names", action="store_true")
+    parser.add_argument("--own", action="store_true")
     parser.add_argument("--program", default=os.environ.get("FARMDAWN", os.path.join(TOP, "crates", "farmdawn", "out", "farmdawn")))
-    parser.add_argument("--tools", default=os.path.join(TOP, "tools"))
+    parser.add_argument("--driver", default=os.path.join(TOP, "driver", "bin"))
     words = parser.parse_args()
     if not os.access(words.program, os.X_OK):
         sys.exit(f"{words.program}: no program; FARMDAWN or --program names one")
     # what a search leaves behind for a moment becomes a child of this process, so that its time counts
     ctypes.CDLL(None).prctl(PR_SET_CHILD_SUBREAPER, 1, 0, 0, 0)
     environment = {**repository.CALM, "FARMDAWN": os.path.abspath(words.program),
-                   "PATH": os.path.abspath(words.tools) + os.pathsep + os.environ["PATH"]}
+                   "PATH": os.path.abspath(words.driver) + os.pathsep + os.environ["PATH"]}
     group = Group()
     atexit.register(group.remove)
     with tempfile.TemporaryDirectory() as work:
-        if not words.lengths and not words.names:
+        if not words.lengths and not words.names and not words.own:
             print("own cost of a test beside git's checkout, of processors; the whole search (and its tests)", flush=True)
         for commits in words.commits:
             folder, stream = os.path.join(work, f"line{commits}"), os.path.join(work, "stream")
@@ -265,6 +308,10 @@ def main():
             if words.lengths:
                 print(f"{commits} commits, by the clock", flush=True)
                 compare(Searches(folder, stream, commits, environment, 1, group), words.workers, words.lengths)
+                continue
+            if words.own:
+                print(f"{commits} commits, the driver's own process", flush=True)
+                tell_own(Searches(folder, stream, commits, environment, 1, group), words.workers, words.runs)
                 continue
             if words.names:
                 print(f"{commits} commits, processors by the names of processes", flush=True)

@@ -13,9 +13,9 @@ import watch
 PAGE = """# The merge gate, crate by crate
 
 What the gate proved and tried. A function is one with a body, or a law; each is proved to meet its contract. An edit is
-a wrong line that the proofs must refuse (`must-fail/`). Minutes are of processors, from nothing: of the proof of a
-crate, of the proof of its tests, which proves the crate once more, and of its edits, which begin with a proof of the
-crate. Numbers in brackets stand in the sources, and the logs do not tell of them; `-` was not seen.
+a wrong line that the proofs must refuse (`must-fail/`). Minutes are of processors, from nothing. Those of tests prove
+the crate once more with its tests, and those of edits begin with a proof of the crate. Numbers in brackets stand in the
+sources, and the logs do not tell of them; `-` was not seen.
 
     benches/bench.py watch TIMES.json &
     rt ci >LOG

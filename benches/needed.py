@@ -56,7 +56,7 @@ def search(room, kind, seed, workers, needed, arguments):
         folder, table = os.path.join(work, "repository"), os.path.join(work, "table")
         names = make_line(folder, arguments.commits)
         culprit = write_table(table, names, kind, arguments.mean, seed)
-        environment = {**CALM, "PATH": os.path.join(TOP, "tools") + os.pathsep + os.environ["PATH"], "FARMDAWN": FARMDAWN}
+        environment = {**CALM, "PATH": os.path.join(TOP, "driver", "bin") + os.pathsep + os.environ["PATH"], "FARMDAWN": FARMDAWN}
         if needed is not None:
             environment["FARMDAWN_NEEDED"] = needed
         words = ["git", "farmdawn", "--workers", str(workers), "main", names[0], "--", "sh", "-c", TEST, table]

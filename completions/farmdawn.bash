@@ -12,6 +12,7 @@ _farmdawn_options() {
         esac
         ;;
     checkout | journal) [ "$2" = run ] && _farmdawn_options run ;;
+    serve) echo --original-names ;;
     esac
 }
 
@@ -27,7 +28,7 @@ _farmdawn() {
     local word=${COMP_WORDS[COMP_CWORD]} before=${COMP_WORDS[COMP_CWORD - 1]} index
     COMPREPLY=()
     if [ "$COMP_CWORD" -eq 1 ]; then
-        mapfile -t COMPREPLY < <(compgen -W 'simulate run next replay gen sample certify check checkout journal many --help --version' -- "$word")
+        mapfile -t COMPREPLY < <(compgen -W 'simulate run next replay gen sample certify check checkout journal many serve --help --version' -- "$word")
         return
     fi
     if [ "$COMP_CWORD" -eq 2 ] && [ -n "$(_farmdawn_behind "${COMP_WORDS[1]}")" ]; then
@@ -39,7 +40,11 @@ _farmdawn() {
         compopt -o default
         return
         ;;
-    check[0-9]* | many*) return ;;
+    serve2)
+        mapfile -t COMPREPLY < <(compgen -W "$(_farmdawn_options serve)" -- "$word")
+        return
+        ;;
+    check[0-9]* | many* | serve*) return ;;
     esac
     for ((index = 2; index < COMP_CWORD; index++)); do
         if [ "${COMP_WORDS[index]}" = -- ]; then
@@ -59,9 +64,25 @@ _farmdawn() {
     esac
 }
 
+# git's own completion calls this, with the words in `words`, and the one at hand in `cur`.
 _git_farmdawn() {
-    case $cur in
-    -*) __gitcomp '--help --workers --first-parent --term-new --term-old --skip --path --check-ends --timeout --copy --submodules --log-dir --log-limit --quiet --report --certificate --check --fresh --prune' ;;
+    local index
+    for ((index = 1; index < cword; index++)); do
+        if [ "${words[index]}" = -- ]; then
+            # the first word behind it is a command, the others may be files
+            if [ $((index + 1)) -eq "$cword" ]; then mapfile -t COMPREPLY < <(compgen -c -- "$cur"); fi
+            return
+        fi
+    done
+    case ${cur%%=*}:$cur:$prev in
+    --check:*=* | --retest:*=* | --path:*=* | --copy:*=* | --certificate:*=* | --tests:*=* | --tests-from:*=* | --replay:*=*) ;;
+    *:--check | *:--retest | *:--path | *:--copy | *:--certificate | *:--tests | *:--tests-from | *:--replay) ;; # files, as no word is offered
+    *:--report | *:--log-dir | *:--state | *:--pool) mapfile -t COMPREPLY < <(compgen -d -- "$cur") ;;
+    *:--workers | *:-j | *:--term-new | *:--term-old | *:--retry | *:--repeat | *:--noise | *:--sure | *:--timeout | *:--deadline | *:--log-limit | *:--build | *:--build-timeout | *:--missing | *:--keep | *:--test)
+        compopt +o default +o bashdefault
+        ;;
+    *:--skip) __git_complete_refs ;;
+    -*) __gitcomp '--help --version --workers --first-parent --term-new --term-old --skip --path --check-ends --trust-ends --confirm --retry --repeat --noise --sure --timeout --deadline --copy --submodules --build --build-timeout --test --tests --tests-from --missing --together --pool --keep --clean --state --log-dir --log-limit --replay --quiet --report --certificate --check --retest --fresh --prune' ;;
     *) __git_complete_refs ;;
     esac
 }

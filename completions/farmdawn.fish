@@ -15,11 +15,14 @@ complete -c farmdawn -n __fish_use_subcommand -a check -d 'check a certificate'
 complete -c farmdawn -n __fish_use_subcommand -a checkout -d 'test each commit in a folder with its files'
 complete -c farmdawn -n __fish_use_subcommand -a journal -d 'keep each outcome in a file'
 complete -c farmdawn -n __fish_use_subcommand -a many -d 'search for several commits at once'
+complete -c farmdawn -n __fish_use_subcommand -a serve -d 'tell a scheduler what to test'
 complete -c farmdawn -n '__fish_seen_subcommand_from certify checkout journal' -a run -d 'search by a test command'
 complete -c farmdawn -n '__fish_seen_subcommand_from certify' -a simulate -d 'search by a written plan'
 complete -c farmdawn -n '__fish_seen_subcommand_from check many' -F
 complete -c farmdawn -n __fish_use_subcommand -l help -d 'show help'
 complete -c farmdawn -n __fish_use_subcommand -l version -d 'show the version'
+
+complete -c farmdawn -n '__fish_seen_subcommand_from serve' -l original-names -d 'name commits by their lines original-oid'
 
 set -l searches '__fish_seen_subcommand_from simulate run next'
 complete -c farmdawn -n $searches -a '(__farmdawn_revisions)'

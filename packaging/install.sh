@@ -19,8 +19,9 @@ usage() {
 usage: install.sh PREFIX
        install.sh --uninstall PREFIX
 
-Installs farmdawn into the folder PREFIX, as /usr/local or ~/.local: programs in bin, manual pages and completions in
-share. What the programs need and this machine does not have is told. Files of others are never overwritten.
+Installs farmdawn into the folder PREFIX, as /usr/local or ~/.local: programs in bin, the modules of git farmdawn in lib,
+manual pages and completions in share. What the programs need and this machine does not have is told. Files of others are
+never overwritten.
 --uninstall removes what was installed there and is as it was, the folders that were made for it, and nothing else.
 TEXT
 }
@@ -110,15 +111,37 @@ remove_old() {
     note_record
 }
 
-tell_missing() {
-    for tool in awk flock git grep mkfifo mktemp sed setsid sha256sum; do
-        is_here "$tool" || say "$tool is not here: git farmdawn needs it"
+# The Python that bin/git-farmdawn will find.
+find_python() {
+    for python in "${FARMDAWN_PYTHON-}" /usr/bin/python3 python3 python3.13 python3.12 python3.11 python3.10 python3.9 python3.8; do
+        python=$(command -v "$python") && "$python" -I -S -c 'import sys; sys.exit(sys.version_info < (3, 8))' 2>/dev/null && return
     done
+    return 1
+}
+
+# What is compiled of the modules is of this machine, and not noted.
+modules=lib/farmdawn/git_farmdawn
+remove_compiled() {
+    for folder in "$prefix/lib" "$prefix/lib/farmdawn" "$prefix/$modules" "$prefix/$modules/__pycache__"; do
+        [ -d "$folder" ] && [ ! -L "$folder" ] || return 0
+    done
+    rm -f "$prefix/$modules/__pycache__"/*.pyc
+    rmdir "$prefix/$modules/__pycache__" 2>/dev/null
+}
+
+compile_modules() {
+    ! find_python || "$python" -I -m compileall -q "$prefix/$modules" ||
+        say "$python cannot compile $prefix/$modules: each start of git farmdawn takes a tenth of a second more"
+}
+
+tell_missing() {
+    is_here git || say 'git is not here: git farmdawn needs it'
+    find_python || say 'a Python from 3.8 on is not here: git farmdawn needs it'
     for tool in flock git setsid; do is_here "$tool" || say "$tool is not here: farmdawn-worktree needs it"; done
     is_here timeout || say "timeout is not here: --timeout needs it"
     is_here ssh || say "ssh is not here: farmdawn-ssh needs it"
     is_here srun || say "srun is not here: farmdawn-srun needs it"
-    setpriv --pdeathsig TERM true 2>/dev/null || say "a setpriv with --pdeathsig is not here: tests run on where their search is killed"
+    setpriv --pdeathsig TERM true 2>/dev/null || say "a setpriv with --pdeathsig is not here: tests of farmdawn run on where it is killed"
     ! is_here git || git version | awk '{ split($3, part, "."); exit part[1] < 2 || part[1] == 2 && part[2] < 31 }' ||
         say "git from 2.31 on is needed, and this is $(git version)"
     case :$PATH: in *:"$prefix/bin":*) ;; *) say "$prefix/bin is not on the path" ;; esac
@@ -143,8 +166,10 @@ install_package() {
         [ -d "$folder" ] || mkdir "$folder" || die "$folder cannot be made"
     done <"$room/folders"
     note_record
+    remove_compiled
     while read -r path; do copy_file "$path"; done <"$room/files"
     remove_old
+    compile_modules
     tell_missing
 }
 
@@ -161,6 +186,7 @@ uninstall_package() {
             left=1
         fi
     done <"$record"
+    remove_compiled
     folders=$(sed -n 's/^folder - //p' "$record" | sort -r)
     rm -f "$record" || exit
     printf '%s\n' "$folders" | while read -r path; do

@@ -4,7 +4,7 @@
 FARMDAWN=$farmdawn
 export FARMDAWN
 
-needs_all() { has git flock setsid sha256sum && has_all_commands; }
+needs_all() { has git python3 sha256sum && has_all_commands; }
 
 # A search of the repository at hand, whose answer goes into the file `answer` beside it and holds here and in a clone; and
 # what stands in it from the line `certificate 1` on is a certificate of the whole history. The test is $command.
@@ -156,7 +156,7 @@ test_wrong() {
     refused 'a bad outcome that was good' 's/^\(outcome .*\) 1$/\1 0/' ''
     refused 'a status above 125' "s/^outcome $good 0/outcome $good 126/" 'in no form'
     refused 'two outcomes' "s/^outcome $good 0/&\n&/" 'has two outcomes'
-    refused 'an end that was tested' "s/^certificate 1/outcome $(git rev-parse main) 1\n&/" 'was called bad'
+    refused 'an end that was tested' "0,/^outcome/s/^outcome/outcome $(git rev-parse main) 1\n&/" 'was called bad'
     refused 'a good commit left out' "/^good $good/d" "good $good. is missing"
     refused 'a good commit that was not tested' "s/^good $good/&\ngood $other/" 'no test was good there'
     refused 'an outcome left out' "/^outcome $good/d" 'no test was good there'
@@ -215,8 +215,5 @@ test_files() {
     expect 'without any test' [ "$(grep -c ^outcome ../answer)" -ge 0 ]
 }
 
-needs_lint() { by_scripts && has shellcheck; }
-test_lint() { cd "$top/tools" && expect 'shellcheck' shellcheck -o all farmdawn-certificate; }
-
-[ $# -gt 0 ] || set -- line merges terms sha256 shallow wrong files lint
+[ $# -gt 0 ] || set -- line merges terms sha256 shallow wrong files
 run_tests "$@"

@@ -87,5 +87,6 @@ for _ in range($1): os.mkdir(\"d\" * 100); os.chdir(\"d\" * 100)"'
     expect 'four times the levels take at most five times the calls' [ "$(cat calls1600)" -le $(($(cat calls400) * 5)) ]
 }
 
+by_clock='together'
 [ $# -gt 0 ] || set -- together killed foreign deep
 run_tests "$@"

@@ -3,7 +3,7 @@
 . "$(dirname "$0")/helpers.sh"
 
 # What the scripts need, and install.sh; a machine that has just these, but for the one that is named.
-needed='awk cat chmod cmp cp cut date dirname env find flock getconf git grep head id kill ln ls mkdir mkfifo mktemp mv readlink
+needed='awk cat chmod cmp cp cut date dirname env find flock getconf git grep head id kill ln ls mkdir mkfifo mktemp mv python3 readlink
     rm rmdir sed setpriv setsid sh sha256sum sleep sort tail test timeout touch tr true wc'
 machine_without() {
     rm -rf machine && mkdir machine || exit 1
@@ -44,7 +44,9 @@ test_archive() {
     expect 'one owner, one time, two modes' [ "$(awk '{ print substr($1, 2), $2, $4, $5 }' listed | sort -u)" = 'rw-r--r-- 0/0 2023-11-14 22:13
 rwxr-xr-x 0/0 2023-11-14 22:13' ]
     expect 'sorted' sh -c 'sed "s/.*:.. //" listed | LC_ALL=C sort -c'
-    for file in README.md LICENSE install.sh docs/USING.md files/bin/farmdawn files/bin/git-farmdawn files/share/man/man1/farmdawn.1; do
+    expect 'nothing is compiled' sh -c '! grep -q pycache listed'
+    for file in README.md LICENSE install.sh docs/USING.md files/bin/farmdawn files/bin/git-farmdawn files/lib/farmdawn/git_farmdawn/main.py \
+        files/share/man/man1/farmdawn.1; do
         expect 'all is in it' grep -q " $name/$file\$" listed
     done
 }
@@ -58,7 +60,7 @@ test_wrong_packages() {
     expect 'nothing is made' [ ! -e made ]
 }
 
-needs_installed() { needs_archive && has git flock setsid; }
+needs_installed() { needs_archive && has git python3; }
 test_installed() {
     unpack
     mkdir -p 'a b/bin' && echo mine >'a b/bin/mine' && find 'a b' | sort >before
@@ -66,9 +68,12 @@ test_installed() {
     for file in $(cd unpacked/files && find . -type f); do
         expect 'each file is there' cmp "unpacked/files/$file" "a b/$file"
     done
+    expect 'and modules are compiled' [ "$(find 'a b/lib' -name '*.pyc' | wc -l)" -eq "$(find 'a b/lib' -name '*.py' | wc -l)" ]
+    touch 'a b/lib/farmdawn/git_farmdawn/__pycache__/old.cpython-38.pyc'
     expect 'again' sh unpacked/install.sh "$PWD/a b/"
+    expect 'and nothing old is compiled' [ ! -e 'a b/lib/farmdawn/git_farmdawn/__pycache__/old.cpython-38.pyc' ]
     (
-        PATH=$PWD/a\ b/bin:${PATH#"${driver:+$driver:}$top/tools:"}
+        PATH=$PWD/a\ b/bin:${PATH#"$driver:$top/tools:"}
         unset FARMDAWN
         expect 'it runs' [ "$(farmdawn --version)" = "$("$farmdawn" --version)" ]
         make_line 12 7
@@ -118,7 +123,7 @@ test_others() {
     done
 }
 
-needs_machine() { needs_archive && has git flock setsid setpriv; }
+needs_machine() { needs_archive && has git flock setsid setpriv python3; }
 test_machine() {
     unpack
     for tool in flock git timeout setsid awk setpriv; do
@@ -127,6 +132,13 @@ test_machine() {
         expect "it is named: $tool, in $(cat told)" grep -q "$tool.* is not here: " told
         [ ! -e prefix ] || expect 'taken away' sh unpacked/install.sh --uninstall prefix
     done
+    # the Python of the system, which needs no path
+    sed "s|/usr/bin/python3|$PWD/nowhere/python3|" unpacked/install.sh >unpacked/other.sh
+    machine_without python3
+    PATH=$PWD/machine sh unpacked/other.sh prefix >out 2>told
+    expect 'Python is named' grep -q 'a Python from 3.8 on is not here: git farmdawn needs it' told
+    expect 'and nothing is compiled' [ -z "$(find prefix -name '*.pyc')" ]
+    expect 'taken away' sh unpacked/install.sh --uninstall prefix
     machine_without nothing
     PATH=$PWD/machine:$PWD/prefix/bin sh unpacked/install.sh prefix >out 2>told
     expect 'nothing else is' [ "$(grep -cv 's[rs][uh]n* is not here' told)" -eq 0 ]

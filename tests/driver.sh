@@ -1,42 +1,46 @@
 #!/bin/sh
-# Tests of the driver, the git farmdawn to come, that are quick: its modules without a search, its rules, the pipe to the engine, the
-# model, the starter, and its rules for installing. `make check-driver` runs all of them, and those of whole searches.
+# The tests of driver/tests, module by module, those of whole searches test by test: each is one of unittest, over the program that was
+# built, or over the model of it. FARMDAWN_CASES says how many random searches for several tests are made here.
 . "$(dirname "$0")/helpers.sh"
 
-export FARMDAWN="$top/driver/model/farmdawn" FARMDAWN_PROGRAM="${FARMDAWN_PROGRAM:-$farmdawn}"
+units=$top/driver/tests
+export FARMDAWN="$farmdawn" FARMDAWN_CASES="${FARMDAWN_CASES:-6}"
+has_program || FARMDAWN=$top/driver/model/farmdawn
+case $FARMDAWN in */model/farmdawn) ;; *) export FARMDAWN_PROGRAM="${FARMDAWN_PROGRAM:-$FARMDAWN}" ;; esac
 
-module() { expect "driver/tests/test_$1.py" python3 -B -m unittest discover -s "$top/driver/tests" -p "test_$1.py"; }
+# A module, or with a class and a method one test of it.
+unit() { cd "$units" && expect "driver/tests/$1" python3 -B -m unittest "$1"; }
 
-modules='words answer evidence names telling page house engine history kept loop starter model'
-for name in $modules; do eval "needs_$name() { has python3 git; }; test_$name() { module $name; }"; done
+# those of which each is a test of its own, the longest ones first
+searches='confirm ends places several noise trust told pool'
+modules='random ends_random several_random several_page page model history names house kept answer evidence loop starter words lists engine telling'
+apart=''
+for module in $searches; do
+    apart="$apart $(awk -v module="test_$module" '
+        /^class / { name = $2; sub(/[(:].*/, "", name) }
+        /^    def test_/ { sub(/\(.*/, "", $2); printf "%s__%s__%s ", module, name, $2 }' "$units/test_$module.py")"
+done
+for name in $apart; do
+    eval "needs_$name() { has python3 git; }; test_$name() { unit $(echo "$name" | sed 's/__/./g'); }"
+done
+for name in $modules; do eval "needs_$name() { has python3 git; }; test_$name() { unit test_$name; }"; done
 
-# What is installed starts from there, with its page and completions, and is removed whole.
-needs_install() { has make install python3; }
-test_install() {
-    set -- make -s -f "$top/driver/install.mk" DESTDIR="$PWD/root" PREFIX=/usr
-    expect 'it is installed' "$@" install-driver
-    modules=root/usr/lib/farmdawn/git_farmdawn
-    for module in "$top"/driver/git_farmdawn/*.py; do
-        expect 'the module' cmp "$modules/${module##*/}" "$module"
-        [ ! -x /usr/bin/python3 ] || expect 'compiled' [ -n "$(ls "$modules/__pycache__/$(basename "$module" .py)".*.pyc)" ]
+# A module that is not named here would be tested never.
+needs_all_named() { :; }
+test_all_named() {
+    for file in "$units"/test_*.py; do
+        name=${file##*/test_} name=${name%.py}
+        case " $searches $modules " in *" $name "*) ;; *) expect "test_$name.py is named here" false ;; esac
     done
-    expect 'it starts' [ "$(root/usr/bin/git-farmdawn -h)" = "$("$top/driver/bin/git-farmdawn" -h)" ]
-    expect 'its page' cmp root/usr/share/man/man1/git-farmdawn.1 "$top/driver/man/git-farmdawn.1"
-    for option in $(root/usr/bin/git-farmdawn -h | sed -n 's/^  --\([a-z-]*\).*/\1/p'); do
-        expect 'the manual has the option' grep -q -- "Fl -$option\b" root/usr/share/man/man1/git-farmdawn.1
-    done
-    expect 'it is removed' "$@" uninstall-driver
-    expect 'and nothing is left' [ -z "$(find root -type f)" ]
-    expect 'nor a folder of its own' [ ! -e root/usr/lib/farmdawn ]
 }
 
 needs_lint() { has shellcheck; }
 test_lint() {
-    expect 'the starter' shellcheck -o all "$top/driver/bin/git-farmdawn"
-    expect 'the model' shellcheck -o all "$top/driver/model/farmdawn"
+    cd "$top/driver" || exit 1
+    for script in bin/git-farmdawn model/farmdawn; do expect 'shellcheck' shellcheck -o all "$script"; done
 }
 
-by_clock='loop'
+by_clock="$apart random ends_random several_random several_page loop history"
 # shellcheck disable=SC2086 # names without blanks
-[ $# -gt 0 ] || set -- $modules install lint
+[ $# -gt 0 ] || set -- $apart $modules all_named lint
 run_tests "$@"

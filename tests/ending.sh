@@ -7,7 +7,7 @@ needs_all() { has git pgrep pkill && has_program; }
 
 # A line of sixteen commits, of which the fifth is the first bad one: a run asks for the eighth, the fourth, the sixth and the
 # fifth. What is due is in the file `due`. Tests of the ninth and later ones, which it never asks for, are slow: the words. The
-# commit is the last word of each test.
+# commit is the last word of each test. Where there is a file `waits`, the others wait until a slow one has made `began`.
 prepare() {
     awk 'BEGIN { for (i = 1; i <= 16; i++) {
         printf "commit refs/heads/main\nmark :%d\ncommitter gen <gen> %d +0000\ndata 2\nc\n", i, i
@@ -16,7 +16,8 @@ prepare() {
     git -C names rev-list --reverse main >list || exit 1
     name=farmdawn-ending-$$-$test
     # shellcheck disable=SC2016
-    words='for commit; do :; done; n=$(grep -n "$commit" list) n=${n%%:*}; if [ "$n" -gt 8 ]; then '"$1"'; fi; [ "$n" -lt 5 ]'
+    words='for commit; do :; done; n=$(grep -n "$commit" list) n=${n%%:*}; if [ "$n" -gt 8 ]; then '"$1"'; fi; while [ -e waits ] && [ ! -e began ]; do sleep 0.05; done; [ "$n" -lt 5 ]'
+    rm -f waits began
     read_clock
     began=$clock
     search run --workers 1 >due
@@ -38,7 +39,8 @@ ends_within() {
     read_clock
     expect 'soon' [ $((clock - began)) -lt $((alone + most)) ]
     expect 'the same text' cmp got due
-    expect 'no test is left' none_runs "$name|$long_sleep"
+    # what `timeout` or a shell has started may end a moment behind it
+    wait_until 'no test is left' none_runs "$name|$long_sleep"
 }
 
 needs_needless() { needs_all; }
@@ -69,7 +71,8 @@ test_patient() {
 # A shell ends alone, and what it has started runs on; timeout hands the signal on to all that it started.
 needs_children() { needs_all && has timeout; }
 test_children() {
-    prepare "$long_sleep; true"
+    prepare "$long_sleep & touch began; wait"
+    touch waits
     search run --workers 4 >got 2>/dev/null
     expect 'the same text' cmp got due
     expect 'what the shell has started runs on' pgrep -f "$long_sleep" >children
@@ -108,6 +111,6 @@ test_orphans() {
     done
 }
 
-by_clock='needless stubborn'
+by_clock='needless stubborn patient children orphans'
 [ $# -gt 0 ] || set -- needless stubborn patient children worktree orphans
 run_tests "$@"

@@ -4,7 +4,7 @@
 FARMDAWN=$farmdawn
 export FARMDAWN
 
-needs_all() { has git flock setsid && has_program; }
+needs_all() { has git python3 && has_program; }
 
 # Both name the same commit, `git bisect replay` takes the printed log, and nothing is left. The test is $command.
 agree() {
@@ -216,10 +216,8 @@ test_going_on() {
         while [ -e "$0" ] && [ ! -e "$0/on" ] && [ "$(wc -l <"$0/tested")" -ge 3 ]; do sleep 0.1; done
         test ! -e bug' "$PWD/.."
     git farmdawn --workers 2 "$@" >log 2>told &
-    until [ -e ../tested ] && [ "$(wc -l <../tested)" -ge 3 ]; do
-        expect 'the search goes on' kill -0 $!
-        sleep 0.1
-    done
+    three_began() { [ -e ../tested ] && [ "$(wc -l <../tested)" -ge 3 ]; }
+    wait_beside $! three_began
     kill -TERM $!
     wait $!
     expect 'it was stopped' [ $? -eq 143 ]
@@ -236,28 +234,27 @@ test_going_on() {
     nothing_left
 }
 
-# The folder of a run that was killed is removed by the next one, as soon as none of its tests runs on; that of a run that
-# another user or host has, which is known by its lock alone, is left. Here tests do not end with their search.
-needs_dead_runs() { needs_all && has pgrep; }
+# The folder of a run that was killed with its guardian is removed by the next one, as soon as none of its tests runs on; that of a run
+# that another user or host has, which is known by its lock alone, is left.
+needs_dead_runs() { needs_all && has pgrep flock; }
 test_dead_runs() {
     make_line 8 3
-    mkdir ../bin && printf '#!/bin/sh\nexit 1\n' >../bin/setpriv && chmod +x ../bin/setpriv
     # shellcheck disable=SC2016
-    PATH=$PWD/../bin:$PATH "$bin/git-farmdawn" main main~7 -- sh -c 'touch "$0/began"; while [ -e "$0" ] && [ ! -e "$0/on" ]; do sleep 0.1; done
-        test ! -e bug' "$PWD/.." >log 2>&1 &
-    until [ -e ../began ]; do expect 'the search goes on' kill -0 $! && sleep 0.1; done
-    programs=$(for part in $(pgrep -P $!); do echo "$part" && pgrep -P "$part"; done)
-    # shellcheck disable=SC2086
-    kill -KILL $! $programs
+    "$driver/git-farmdawn" --workers 1 main main~7 -- sh -c 'echo $$ >"$0/pid.new" && mv "$0/pid.new" "$0/began"
+        while [ -e "$0" ] && [ ! -e "$0/on" ]; do sleep 0.1; done; test ! -e bug' "$PWD/.." >log 2>&1 &
+    wait_beside $! [ -e ../began ]
+    # all but the test, and the driver last: it would have another guardian, and that would end the test
+    kill -STOP $!
+    for part in $(pgrep -P $! | grep -vxF "$(cat ../began)") $!; do kill -KILL "$part"; done
     wait $!
     killed=$(ls -d .git/farmdawn/run.*)
     expect 'a search' git farmdawn main main~7 -- sh -c "$command"
-    expect 'tests that run on keep their folder' [ "$(ls -d .git/farmdawn/run.*)" = "$killed" ]
+    expect 'a test that runs on keeps its folder' [ "$(ls -d .git/farmdawn/run.*)" = "$killed" ]
     touch ../on
-    until flock -n "$killed/lock" true; do sleep 0.1; done
+    wait_until 'the test has ended' flock -n "$killed/lock" true
     mkdir .git/farmdawn/run.elsewhere
     flock .git/farmdawn/run.elsewhere/lock sh -c 'while [ -e .. ] && [ ! -e ../off ]; do sleep 0.1; done' &
-    until [ -e .git/farmdawn/run.elsewhere/lock ]; do expect 'the lock is held' kill -0 $! && sleep 0.1; done
+    wait_beside $! [ -e .git/farmdawn/run.elsewhere/lock ]
     expect 'the same search' git farmdawn main main~7 -- sh -c "$command"
     expect 'a run that lives keeps its folder' [ "$(ls -d .git/farmdawn/run.*)" = .git/farmdawn/run.elsewhere ]
     touch ../off
@@ -285,26 +282,8 @@ test_logs_and_limits() {
     nothing_left
 }
 
-# Where the program that follows the tests fails, or is killed, the answer is that of the one that runs them.
-needs_lost_follower() { by_scripts && needs_all && has pgrep; }
-test_lost_follower() {
-    make_line 12 7
-    # at once, or when tests run
-    for after in 0 0.6; do
-        printf '#!/bin/sh\ncase "$*" in *" --await"*) touch "%s"; "%s" "$@" & sleep %s; kill -KILL $! ; exit 15 ;; esac\nexec "%s" "$@"\n' \
-            "$PWD/../lost" "$farmdawn" $after "$farmdawn" >../failing
-        chmod +x ../failing
-        FARMDAWN=$PWD/../failing git farmdawn --fresh --workers 3 main main~11 -- sh -c "sleep 0.3; $command" >log
-        expect "a search, where it ends after $after s" [ $? -eq 0 ]
-        expect 'the answer' [ "$(tail -n 1 log)" = "$(git rev-parse main~4) is the first bad commit" ]
-        expect 'the program was lost' [ -e ../lost ]
-        rm ../lost
-    done
-    nothing_left
-}
-
-# Where the engine of the driver is killed, another one gets what was found, and comes to the same log.
-needs_lost_engine() { by_driver && needs_all && has pgrep; }
+# Where the engine is killed, another one gets what was found, and comes to the same log.
+needs_lost_engine() { needs_all; }
 test_lost_engine() {
     make_line 12 7
     git farmdawn --fresh --workers 1 main main~11 -- sh -c "$command" >due 2>told
@@ -342,13 +321,11 @@ test_tracked_files() {
     expect 'a word of grep' [ "$(answer_of git farmdawn main~3 main~9 -- sh -c '! grep -q 4 note4' note4)" = "$(first_bad main~6)" ]
     echo x >made && git add made && git commit -q -m made || exit 1
     # make takes a file for made that a checkout wrote in the same moment as what it is made of
-    # shellcheck disable=SC2086 # a word, or none
-    expect 'a target of make' [ "$(answer_of git farmdawn $trust main main~9 -- make -s made)" = "$(first_bad main~6)" ]
+    expect 'a target of make' [ "$(answer_of git farmdawn --trust-ends main main~9 -- make -s made)" = "$(first_bad main~6)" ]
     echo 'test ! -e note6' >new.sh
     expect 'a script that is not tracked' [ "$(answer_of git farmdawn main main~9 -- sh new.sh)" = "$(first_bad main~5)" ]
     expect 'is told' grep -q 'new.sh is not tracked; each checkout gets a copy of it' told
-    # shellcheck disable=SC2086
-    expect '--copy brings a tracked one, too' [ "$(answer_of git farmdawn $trust --copy note6 main~2 main~9 -- test ! -e note6)" = "$(first_bad main~8)" ]
+    expect '--copy brings a tracked one, too' [ "$(answer_of git farmdawn --trust-ends --copy note6 main~2 main~9 -- test ! -e note6)" = "$(first_bad main~8)" ]
     nothing_left
 }
 
@@ -394,20 +371,11 @@ test_torn_outcomes() {
     expect 'whole ones are believed' [ "$(answer_of "$@")" = "$(first_bad main~10)" ]
     expect 'and nothing is tested' [ ! -e ../tested ]
     rm -f ../tested && cp -Rp . ../copy && cd ../copy || exit 1
-    if [ -n "$driver" ]; then
-        expect 'those of a copy are believed, too' [ "$(answer_of "$@")" = "$(first_bad main~10)" ]
-        expect 'and nothing is tested there' [ ! -e ../tested ]
-        for kept in .git/farmdawn/results-*/*.outcome; do sed 's/ [01] / 1 /' "$kept" >../changed && cp ../changed "$kept"; done
-        forgotten='no whole outcome, and is forgotten'
-    else
-        for kept in .git/farmdawn/results-*/*.outcome; do
-            name=${kept##*/}
-            echo "${name%.outcome} 1 end" >"$kept"
-        done
-        forgotten="are another repository's, and are forgotten"
-    fi
+    expect 'those of a copy are believed, too' [ "$(answer_of "$@")" = "$(first_bad main~10)" ]
+    expect 'and nothing is tested there' [ ! -e ../tested ]
+    for kept in .git/farmdawn/results-*/*.outcome; do sed 's/ [01] / 1 /' "$kept" >../changed && cp ../changed "$kept"; done
     expect 'those that were changed elsewhere are not' [ "$(answer_of "$@")" = "$(first_bad main~10)" ]
-    expect 'and it is told' grep -q "$forgotten" told
+    expect 'and it is told' grep -q 'no whole outcome, and is forgotten' told
     nothing_left
 }
 
@@ -482,7 +450,7 @@ test_bash_environment() {
         for name in git awk sed cat read printf test unset command cd true rm mkdir export set eval exit trap shift; do
             eval "$name() { echo mine; }" && export -f $name
         done 2>/dev/null
-        exec /bin/sh "$0" "$@"' "$bin/git-farmdawn" main main~11 -- sh -c "$command" 2>told | tail -n 1)" = "$(first_bad main~4)" ]
+        exec /bin/sh "$0" "$@"' "$driver/git-farmdawn" main main~11 -- sh -c "$command" 2>told | tail -n 1)" = "$(first_bad main~4)" ]
     nothing_left
 }
 
@@ -597,7 +565,7 @@ test_full_disk() {
     done
 }
 
-# Many skips are known to the program from the start: as words, or as a log where they are more than fit.
+# Many skips are known to the engine from the start, however many lines of requests they take.
 needs_many_skips() { needs_all; }
 test_many_skips() {
     git init -q -b main repository && cd repository || exit 1
@@ -621,17 +589,15 @@ test_many_skips() {
     nothing_left
 }
 
-# However many tests there are, the program is run as often: for the names, the tests, and the answer; by the driver once.
+# However many tests there are, the program is run once.
 needs_few_programs() { needs_all; }
 test_few_programs() {
     make_line 40 30
     printf '#!/bin/sh\necho "$1" >>"%s"\nexec "%s" "$@"\n' "$PWD/../runs" "$farmdawn" >../counting && chmod +x ../counting
-    due='replay run run '
-    [ -z "$driver" ] || due='serve '
     for ends in 'main main~2' 'main main~39'; do
         # shellcheck disable=SC2086
         FARMDAWN=$PWD/../counting git farmdawn --fresh --workers 8 $ends -- sh -c "$command" >log 2>told
-        expect "the runs of the program: $due" [ "$(tr '\n' ' ' <../runs)" = "$due" ]
+        expect 'the runs of the program' [ "$(cat ../runs)" = serve ]
         rm ../runs
     done
 }
@@ -671,12 +637,15 @@ test_warnings() {
     nothing_left
 }
 
-# A test that hangs is not waited for where the answer is known without it.
+# A test that hangs is not waited for where the answer is known without it. No other one ends before one hangs; those that hang are of
+# commits that one at a time never asks for.
 needs_hanging() { needs_all && has pgrep; }
 test_hanging() {
     make_line 12 7
-    expect 'the answer' [ "$(answer_of git farmdawn --workers 8 main main~11 -- sh -c "[ \$(cat content) != 10 ] || $long_sleep; $command")" = "$(first_bad main~4)" ]
-    expect 'a test hung' grep -q "testing $(git rev-parse main~1 | cut -c1-12)" told
+    # shellcheck disable=SC2016
+    expect 'the answer' [ "$(answer_of git farmdawn --workers 8 main main~11 -- sh -c '[ $(cat content) -le 8 ] || { touch "$0/hung"; $1; }
+        while [ -e "$0" ] && [ ! -e "$0/hung" ]; do sleep 0.1; done; test ! -e bug' "$PWD/.." "$long_sleep")" = "$(first_bad main~4)" ]
+    expect 'a test hung' [ -e ../hung ]
     nothing_left
     nothing_sleeps
 }
@@ -704,7 +673,7 @@ test_prune() {
     git farmdawn main main~7 -- sh -c "$command" >log 2>told
     # shellcheck disable=SC2016
     git farmdawn main main~7 -- sh -c 'touch "$0/began"; while [ -e "$0" ] && [ ! -e "$0/on" ]; do sleep 0.1; done; test ! -e bug' "$PWD/.." >log 2>told &
-    until [ -e ../began ]; do expect 'the search goes on' kill -0 $! && sleep 0.1; done
+    wait_beside $! [ -e ../began ]
     expect 'one is removed' [ "$(git farmdawn --prune 2>&1)" = 'git farmdawn: removed what 1 searches had kept' ]
     expect 'the other is not' [ "$(find .git/farmdawn -name 'results-*' -type d | wc -l)" -eq 1 ]
     touch ../on
@@ -729,20 +698,15 @@ test_tools() {
     unset IFS
     PATH=$PWD/../bin
     expect 'all is here' [ "$(answer_of git farmdawn main main~3 -- sh -c "$command")" = "$(first_bad main~1)" ]
-    if [ -n "$driver" ]; then
-        mkdir ../away && for tool in flock setsid setpriv sha256sum mkfifo awk sed; do mv ../bin/$tool ../away; done
-        expect 'these are not needed' git farmdawn --fresh main main~3 -- sh -c "$command" >log 2>told
-        mv ../away/* ../bin
-    else
-        for tool in flock setsid sha256sum mkfifo; do
-            mv ../bin/$tool ../aside
-            git farmdawn --fresh main main~3 -- touch ../tested >log 2>told
-            expect "it is named: $tool" [ "$? $(cut -d '(' -f 1 told)" = "1 git farmdawn: $tool is not installed " ]
-            mv ../aside ../bin/$tool
-        done
-    fi
+    mkdir ../away && for tool in flock setsid setpriv sha256sum mkfifo awk sed; do mv ../bin/$tool ../away; done
+    expect 'these are not needed' git farmdawn --fresh main main~3 -- sh -c "$command" >log 2>told
+    mv ../away/* ../bin
+    printf '#!/bin/sh\n[ "$1" = serve ] || exec "%s" "$@"\necho "usage fault at word 1"\necho "farmdawn: serve, and no further word" >&2\nexit 1\n' "$farmdawn" >../old && chmod +x ../old
+    FARMDAWN=$PWD/../old git farmdawn --fresh main main~3 -- touch ../tested >log 2>told
+    expect 'a program of another version is named' [ "$? $(grep -c 'is of another version: git farmdawn needs its `serve --original-names`' told)" = '1 1' ]
+    expect 'in one line' [ "$(grep -vc 'commits* to search' told)" -eq 1 ]
     mv ../bin/git ../aside && printf '#!/bin/sh\n[ "$1" != version ] || { echo git version 2.30.9; exit; }\nexec "%s" "$@"\n' "$(readlink ../aside)" >../bin/git && chmod +x ../bin/git
-    "$bin/git-farmdawn" main main~3 -- touch ../tested >log 2>told
+    "$driver/git-farmdawn" main main~3 -- touch ../tested >log 2>told
     expect 'an old git is named' [ "$? $(cat told)" = '1 git farmdawn: git from 2.31 on is needed, and this is git version 2.30.9' ]
     expect 'nothing was tested' [ ! -e ../tested ]
     nothing_left
@@ -792,14 +756,14 @@ test_interrupts() {
         sleep $pause
         kill -TERM $!
         wait $!
-        nothing_left
+        soon_nothing_left
     done
     nothing_sleeps
 }
 
-by_clock='logs_and_limits lost_follower warnings interrupts'
+by_clock='logs_and_limits lost_engine warnings hanging going_on dead_runs lost_output interrupts'
 [ $# -gt 0 ] || set -- line merges unrelated_good terms encodings signed signed_by_gpg sha256 shallow part_of_many submodules \
     places words folders_and_scripts tracked_files links_of_commits torn_outcomes foreign_folders environment bash_environment \
     left_by_tests odd_words odd_paths lost_output full_disk many_skips few_programs stops warnings hanging log_limit prune tools \
-    logs_and_limits lost_follower lost_engine lost_log wrong_words going_on dead_runs check_ends interrupts
+    logs_and_limits lost_engine lost_log wrong_words going_on dead_runs check_ends interrupts
 run_tests "$@"

@@ -1,14 +1,12 @@
 # What the tests of the scripts share. Each test is a function named test_..; it runs in a folder of its own, and what
 # it prints is shown where it fails. A function needs_.. with the same name says whether the test can run here; what is
 # missing passes the test over, and is told by its name. A file runs its tests one by one, or those that are named;
-# tests/check runs those of all files, several at once. TIMES=1 tells the seconds of each. FARMDAWN_DRIVER names a folder with a
-# git-farmdawn that is tested in place of that of tools/: driver/bin, whose searches are the same but where it says so below.
+# tests/check runs those of all files, several at once. TIMES=1 tells the seconds of each. FARMDAWN_DRIVER names the folder of another
+# git-farmdawn than that of this checkout.
 set -u
 top=$(cd "$(dirname "$0")/.." && pwd)
-driver=${FARMDAWN_DRIVER-}
-bin=${driver:-$top/tools} # the folder of the git-farmdawn that is tested
-trust=${driver:+--trust-ends} # where ends are not what is tested: the driver tests them, too
-PATH=${driver:+$driver:}$top/tools:$PATH
+driver=${FARMDAWN_DRIVER:-$top/driver/bin}
+PATH=$driver:$top/tools:$PATH
 farmdawn=${FARMDAWN:-$top/crates/farmdawn/out/farmdawn}
 export PATH
 unset MAKEFLAGS MAKELEVEL MFLAGS # a make within a test is not one of make check
@@ -51,21 +49,11 @@ has_program() {
     [ -x "$farmdawn" ]
 }
 
-# What is tested is git farmdawn as scripts, or as the driver: for tests of what one of them alone has.
-by_scripts() {
-    missing='the git farmdawn of tools/'
-    [ -z "$driver" ]
-}
-by_driver() {
-    missing='the driver'
-    [ -n "$driver" ]
-}
-
-# It has all commands: the model of the driver's tests has one, and hands the others on to a program that may lack.
+# It has all commands: the model of `serve` hands the others on to a program that may lack.
 has_all_commands() {
     has_program || return
     missing='a built farmdawn'
-    "$farmdawn" --version >/dev/null 2>&1
+    "$farmdawn" --version >/dev/null 2>&1 || return 1
 }
 
 # A Slurm is at hand.
@@ -186,14 +174,27 @@ git_answer() {
 answer_of() { "$@" 2>told | tail -n 1; }
 first_bad() { echo "$(git rev-parse "$1") is the first bad commit"; }
 
-# Waits until a command succeeds. Where it does not within a minute, it is told as what is not so.
+# Waits until a command succeeds. Where it does not within a minute, it is told as what is not so; what it printed last is shown.
 wait_until() {
     awaited=$1 turns=0
     shift
-    until "$@"; do
+    until "$@" >"$work/awaited"; do
         turns=$((turns + 1))
-        [ $turns -lt 600 ] || expect "$awaited" false
+        [ $turns -lt 600 ] || { cat "$work/awaited" && expect "$awaited" false; }
         sleep 0.1
+    done
+}
+
+# Waits until a command succeeds, as long as the process that is named before it runs.
+wait_beside() {
+    beside=$1
+    shift
+    until "$@"; do
+        if ! kill -0 "$beside" 2>/dev/null; then
+            "$@" && return
+            expect "it goes on until $*" false
+        fi
+        sleep 0.05
     done
 }
 
@@ -203,11 +204,16 @@ none_runs() { [ -z "$(pgrep -f "$1")" ]; }
 # No process runs on whose words have the sleep of this run. One that was sent a signal may be seen for a while longer.
 nothing_sleeps() { wait_until 'no test runs on' none_runs "$long_sleep"; }
 
-# Nothing of a run is left: no worktree but the main one, no folder of a run, no process of a test.
+# Nothing of a run is left: no worktree but the main one, no folder of a run.
 nothing_left() {
     expect 'one worktree' [ "$(git worktree list | wc -l)" -eq 1 ]
     expect 'no folder of a run' [ -z "$(ls -d .git/farmdawn/run.* 2>/dev/null)" ]
 }
+
+# The same soon: `git` that gets a signal before it has noted its command ends, and the command a moment later.
+is_left() { [ "$(git worktree list | wc -l)" -ne 1 ] || ls -d .git/farmdawn/run.* 2>/dev/null; }
+is_nothing_left() { ! is_left; }
+soon_nothing_left() { wait_until 'nothing is left' is_nothing_left; }
 
 # A search in a repository on a small disk, or with its outputs there: each test prints 2 MB, and fails where it cannot.
 full_disk() {

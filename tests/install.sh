@@ -1,18 +1,19 @@
 #!/bin/sh
-# Tests of what `make install` brings beside the program: scripts, manual pages, the shells' completions.
+# Tests of what `make install` brings beside the program: git farmdawn, scripts, manual pages, the shells' completions.
 . "$(dirname "$0")/helpers.sh"
 
-scripts='git-farmdawn farmdawn-worktree farmdawn-srun farmdawn-ssh'
-parts='farmdawn-part farmdawn-history farmdawn-progress farmdawn-needed farmdawn-certificate farmdawn-report'
+scripts='farmdawn-worktree farmdawn-srun farmdawn-ssh'
 
-needs_files() { has make install; }
+needs_files() { has make install python3; }
 test_files() {
+    mkdir -p root/usr/bin root/usr/lib/farmdawn/git_farmdawn && touch root/usr/bin/farmdawn-part root/usr/lib/farmdawn/git_farmdawn/old.py || exit 1
     expect 'make install-scripts' make -s -C "$top" install-scripts DESTDIR="$PWD/root" PREFIX=/usr
-    for script in $scripts $parts; do
+    expect 'nothing of an earlier version is left' [ ! -e root/usr/bin/farmdawn-part ] && [ ! -e root/usr/lib/farmdawn/git_farmdawn/old.py ] || exit 1
+    for script in $scripts; do
         expect 'the script is installed' cmp "root/usr/bin/$script" "$top/tools/$script"
         expect 'and can be run' [ -x "root/usr/bin/$script" ]
     done
-    for page in farmdawn $scripts; do
+    for page in farmdawn git-farmdawn $scripts; do
         expect 'the page is installed' cmp "root/usr/share/man/man1/$page.1" "$top/man/$page.1"
     done
     for name in farmdawn git-farmdawn; do
@@ -20,22 +21,39 @@ test_files() {
         expect 'for zsh' cmp "root/usr/share/zsh/site-functions/_$name" "$top/completions/_$name"
         expect 'for fish' cmp "root/usr/share/fish/vendor_completions.d/$name.fish" "$top/completions/$name.fish"
     done
+    for module in "$top"/driver/git_farmdawn/*.py; do
+        expect 'the module' cmp "root/usr/lib/farmdawn/git_farmdawn/${module##*/}" "$module"
+        [ ! -x /usr/bin/python3 ] || expect 'compiled' [ -n "$(ls "root/usr/lib/farmdawn/git_farmdawn/__pycache__/$(basename "$module" .py)".*.pyc)" ]
+    done
+    expect 'it starts' [ "$(root/usr/bin/git-farmdawn -h)" = "$("$top/driver/bin/git-farmdawn" -h)" ]
+    ln -s "$PWD/root/usr/bin/git-farmdawn" 'a link'
+    expect 'by a link, too' [ "$('./a link' -h)" = "$("$top/driver/bin/git-farmdawn" -h)" ]
     expect 'make uninstall' make -s -C "$top" uninstall DESTDIR="$PWD/root" PREFIX=/usr
     expect 'nothing is left' [ -z "$(find root -type f)" ]
+    expect 'nor a folder of its own' [ ! -e root/usr/lib/farmdawn ]
 }
 
-needs_help() { :; }
+# Without a Python that could compile, the modules are as they are.
+needs_without_python() { has make install; }
+test_without_python() {
+    for python in '' /nowhere/python3; do
+        expect 'it is installed' make -s -C "$top" install-scripts DESTDIR="$PWD/root" PREFIX=/usr PYTHON="$python"
+        expect 'and nothing is compiled' [ -z "$(find root -name '*.pyc')" ]
+    done
+}
+
+needs_help() { has python3; }
 test_help() {
-    for script in $scripts; do
+    for script in git-farmdawn $scripts; do
         expect 'the help is shown' "$script" --help >help
         expect 'in short, too' [ "$("$script" -h)" = "$(cat help)" ]
-        lines=32 page=$top/man/$script.1
-        [ "$script" != git-farmdawn ] || by_scripts || lines=50 page=$driver/../man/$script.1
+        lines=32
+        [ "$script" != git-farmdawn ] || lines=56
         expect 'in one screen' [ "$(wc -l <help)" -le $lines ]
         expect 'of 120 columns' [ "$(awk '{ print length }' help | sort -n | tail -n 1)" -le 120 ]
         expect 'by its name' grep -q "^usage: .*${script#git-}" help
         for option in $(sed -n 's/^  --\([a-z-]*\).*/\1/p' help); do
-            expect 'the manual has the option' grep -q -- "Fl -$option\b" "$page"
+            expect 'the manual has the option' grep -q -- "Fl -$option\b" "$top/man/$script.1"
         done
     done
 }
@@ -58,13 +76,13 @@ needs_bash() { has bash git; }
 test_bash() {
     make_line 1 9
     git branch topic
-    expect 'commands' [ "$(offered farmdawn s)" = 'simulate sample ' ]
+    expect 'commands' [ "$(offered farmdawn s)" = 'simulate sample serve ' ]
     expect 'options' [ "$(offered farmdawn run --first)" = '--first-parent ' ]
     expect 'branches' [ "$(offered farmdawn run to)" = 'topic ' ]
     expect 'the options of a command alone' [ "$(offered farmdawn replay --t)" = ' ' ]
     # git's own completion offers words by __gitcomp
     # shellcheck disable=SC2016
-    words=$(bash -c '. "$1"; __gitcomp() { echo "$1"; }; cur=--; _git_farmdawn' bash "$top/completions/farmdawn.bash")
+    words=$(bash -c '. "$1"; __gitcomp() { echo "$1"; }; cur=-- prev=farmdawn words=(git farmdawn --) cword=2; _git_farmdawn' bash "$top/completions/farmdawn.bash")
     expect 'the options of git farmdawn' [ "$(sorted_words "$words")" = "$(options_of git-farmdawn)" ]
 }
 
@@ -97,14 +115,9 @@ test_fish() {
 # All of shellcheck but what a script names, with a reason. The name of the folder may have any bytes.
 needs_lint() { has shellcheck; }
 test_lint() {
-    cd "$top/tools" && expect 'shellcheck' shellcheck -o all git-farmdawn
-}
-
-needs_lint_all() { has shellcheck; }
-test_lint_all() {
     cd "$top/tools" || exit 1
     for script in farmdawn-*; do expect 'shellcheck' shellcheck -o all "$script"; done
 }
 
-[ $# -gt 0 ] || set -- files help manual bash zsh fish lint lint_all
+[ $# -gt 0 ] || set -- files without_python help manual bash zsh fish lint
 run_tests "$@"

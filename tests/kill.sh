@@ -117,7 +117,7 @@ test_input() {
         expect 'and so is a file for writing' [ "$? $(cat got)" = '12 read fault' ]
         head -n 4 stream | search $workers >got
         expect 'a stream that is cut is refused' [ "$? $(sed 's/[0-9][0-9]*/N/' got)" = '7 stream refused at line N: truncated' ]
-        expect 'no test was run' [ -z "$(pgrep -f "$name")" ]
+        expect 'no test was run' none_runs "$name"
     done
 }
 
@@ -147,15 +147,15 @@ test_slow_input() {
     for signal in KILL TERM; do
         for pause in 0.05 0.2 0.4; do
             mkfifo slow
-            { head -c 500 stream && sleep 1; } >slow &
-            writer=$!
-            search 8 <slow >got &
+            exec 3<>slow # so that nobody waits for another to open it, and it does not end
+            head -c 500 stream >&3
+            search 8 <slow >got 3<&- &
             sleep $pause
             kill -$signal $!
             wait $!
             expect 'it ended by the signal' [ $? -gt 128 ]
             expect 'nothing was written' [ ! -s got ]
-            wait $writer
+            exec 3<&-
             rm slow
         done
     done
@@ -166,14 +166,16 @@ tests_have_ended() {
     none_runs "$long_sleep" && { flock -n .git/farmdawn/run.*/lock true 2>/dev/null || [ ! -e .git/farmdawn/run.*/lock ]; }
 }
 
-# Where the system can, the tests of git farmdawn end with it, however it ends; and it ends with `git`.
-needs_script_killed() { needs_all && has flock setsid && missing='setpriv --pdeathsig' && setpriv --pdeathsig TERM true; }
-test_script_killed() {
+four_run() { [ "$(pgrep -f "$long_sleep" | wc -l)" -ge 4 ]; }
+
+# The tests of git farmdawn end with it, however it ends; and it ends with `git`.
+needs_driver_killed() { needs_all && has python3 flock; }
+test_driver_killed() {
     export FARMDAWN="$farmdawn"
     make_line 40 20
     for tool in git-farmdawn 'git farmdawn'; do
         $tool --workers 4 main main~39 -- sh -c "$long_sleep" >log 2>told &
-        until [ "$(pgrep -f "$long_sleep" | wc -l)" -ge 4 ]; do expect 'the search goes on' kill -0 $! && sleep 0.1; done
+        wait_beside $! four_run
         kill -KILL $!
         wait $!
         wait_until "the tests of $tool end with it" tests_have_ended
@@ -183,6 +185,6 @@ test_script_killed() {
     nothing_sleeps
 }
 
-by_clock='kill term pipe full slow_input'
-[ $# -gt 0 ] || set -- kill term pipe full input said slow_input script_killed
+by_clock='kill term pipe full slow_input driver_killed'
+[ $# -gt 0 ] || set -- kill term pipe full input said slow_input driver_killed
 run_tests "$@"

@@ -156,5 +156,18 @@ test_devices() {
     refuse_each checkout run main main~1 -- true
 }
 
-[ $# -gt 0 ] || set -- line workers merge log lists certificates devices
+# Requests behind a stream: two searches that share a worker, a log, a certificate, and one that is refused.
+needs_requests() { needs_all; }
+test_requests() {
+    make_refusing
+    write_line >stream
+    "$farmdawn" simulate main main~7 ggggbbbb <stream | head -n 5 >part.log
+    printf '%s\n' 'done' 'search main main~7' 'words --replay' 'search part.log' 'pick 1' 'pick 2' 'post 1 0' 'give 2' \
+        'learn 1 771edca49728d8c78d5b371976ec2debc7c92b35 0' 'wanted 271bb9a08b2d5aa03871aa65fdadc01c488fa408' \
+        'learn 1 271bb9a08b2d5aa03871aa65fdadc01c488fa408 1' 'certificate 1' 'search none' >>stream
+    refuse_each serve
+}
+
+by_clock='workers devices' # of several threads each run takes memory as it comes
+[ $# -gt 0 ] || set -- line workers merge log lists certificates devices requests
 run_tests "$@"

@@ -1,33 +1,20 @@
 #!/usr/bin/env python3
 """Random searches in which tests that nobody asks for any more are ended at every turn, each beside one worker's, byte for byte:
-needed.py [--seed N] [--count N] [--from N] [--jobs N] [--checkouts]
+needed.py [--seed N] [--count N] [--from N] [--jobs N]
 
-The histories have merges, and tests that skip or stop the search, each with a length of its own. FARMDAWN names the program. With
---checkouts tests run in checkouts; without it a stand-in for farmdawn-worktree reads what they end with, so that a search takes
-little more than its tests. The driver, which FARMDAWN_DRIVER names, has checkouts in any case."""
+The histories have merges, and tests that skip or stop the search, each with a length of its own. FARMDAWN names the program."""
 import collections
 import os
 import random
 import re
-import shutil
 import subprocess
-import tempfile
 
 import trials
-from repositories import CALM, DRIVER, FARMDAWN, TOP, TRUST, call, git
+from repositories import CALM, TRUST, call, git
 
 # what a test of a commit does: a line of the file of its name has the seconds that it takes, and its status
 TEST = """read -r pause status <"$0/$FARMDAWN_COMMIT"
 [ -n "${AT_ONCE-}" ] || sleep "$pause"
-exit "$status"
-"""
-STAND_IN = """#!/bin/sh
-for commit; do :; done
-read -r pause status <"$TABLE/$commit"
-[ -z "${AT_ONCE-}" ] || exit "$status"
-trap 'kill $!; exit 255' TERM
-sleep "$pause" &
-wait $!
 exit "$status"
 """
 LENGTHS = [0, 0.1, 0.2, 0.5, 1, 2]
@@ -90,9 +77,9 @@ def random_search(choice, names):
     return Search(words + [names[-1 - choice.randrange(3)], *goods], choice.choice([2, 3, 4, 6, 9]))
 
 
-def farmdawn(folder, tools, table, search, workers, **more):
+def farmdawn(folder, table, search, workers, **more):
     """The status, and what is printed and told."""
-    environment = {**CALM, "PATH": os.pathsep.join([*filter(None, [DRIVER]), tools, os.environ["PATH"]]), "TABLE": table, "FARMDAWN": FARMDAWN, **more}
+    environment = {**CALM, **more}
     words = ["git", "farmdawn", "--fresh", *TRUST, "--workers", str(workers), *search.words, "--", "sh", "-c", TEST, table]
     try:
         done = subprocess.run(words, cwd=folder, env=environment, stdin=subprocess.DEVNULL, stdout=subprocess.PIPE, stderr=subprocess.PIPE, timeout=600)
@@ -119,38 +106,32 @@ def most_at_once(told):
     return most
 
 
-def try_one(number, work, seed, tools):
+def try_one(number, work, seed):
     choice = random.Random(f"{seed} {number}")
     folder, table = os.path.join(work, "repository"), os.path.join(work, "table")
     names, parents = make_repository(choice, folder)
     write_table(choice, table, names, parents)
     search = random_search(choice, names)
-    due = farmdawn(folder, tools, table, search, 1, AT_ONCE="1", FARMDAWN_NEEDED="never")
-    got = farmdawn(folder, tools, table, search, search.workers, FARMDAWN_NEEDED="0")
+    due = farmdawn(folder, table, search, 1, AT_ONCE="1", FARMDAWN_NEEDED="never")
+    got = farmdawn(folder, table, search, search.workers, FARMDAWN_NEEDED="0")
     left = [name for name in os.listdir(os.path.join(folder, ".git", "farmdawn")) if name.startswith("run.")]
     left += [word for word in git(folder, "worktree", "list", "--porcelain") if word == "worktree"][1:]
     return search, due, got, left
 
 
 def main():
-    arguments = trials.read_arguments(__doc__, 50, jobs=4, flags=["checkouts"])
+    arguments = trials.read_arguments(__doc__, 50, jobs=4)
     counts, statuses, wrong = collections.Counter(), collections.Counter(), 0
-    with tempfile.TemporaryDirectory() as room:
-        tools = os.path.join(room, "tools")
-        shutil.copytree(os.path.join(TOP, "tools"), tools)
-        if not arguments.checkouts:
-            with open(os.path.join(tools, "farmdawn-worktree"), "w") as file:
-                file.write(STAND_IN)
-        for number, (search, due, got, left) in trials.try_all(arguments, lambda number, work: try_one(number, work, arguments.seed, tools)):
-            ended, repeated = len(re.findall("^no longer needed", got[2], re.M)), count_repeated(got[2])
-            counts.update({"tests": got[2].count(": testing "), "ended": ended, "tested again": repeated,
-                           "searches with an ended test": ended > 0, "with one tested again": repeated > 0})
-            statuses[got[0]] += 1
-            same = got[:2] == due[:2] and not left and most_at_once(got[2]) <= search.workers
-            if not same:
-                print(f"{number}: {search} left: {left}\n---- one worker\n{due[0]}\n{due[1]}{due[2]}"
-                      f"---- with tests ended\n{got[0]}\n{got[1]}{got[2]}", flush=True)
-            wrong += not same
+    for number, (search, due, got, left) in trials.try_all(arguments, lambda number, work: try_one(number, work, arguments.seed)):
+        ended, repeated = len(re.findall("^no longer needed", got[2], re.M)), count_repeated(got[2])
+        counts.update({"tests": got[2].count(": testing "), "ended": ended, "tested again": repeated,
+                       "searches with an ended test": ended > 0, "with one tested again": repeated > 0})
+        statuses[got[0]] += 1
+        same = got[:2] == due[:2] and not left and most_at_once(got[2]) <= search.workers
+        if not same:
+            print(f"{number}: {search} left: {left}\n---- one worker\n{due[0]}\n{due[1]}{due[2]}"
+                  f"---- with tests ended\n{got[0]}\n{got[1]}{got[2]}", flush=True)
+        wrong += not same
     print("statuses: " + trials.counted(statuses))
     print(trials.counted(counts))
     trials.end(arguments, "searches", wrong, right="as one worker")

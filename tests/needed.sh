@@ -4,7 +4,7 @@
 FARMDAWN=$farmdawn
 export FARMDAWN
 
-needs_all() { has git flock setsid pgrep && has_program; }
+needs_all() { has git python3 pgrep && has_program; }
 
 # Waits until something holds, half a minute at most; a search that runs then is ended.
 until_so() {
@@ -38,7 +38,7 @@ test_freed() {
         expect 'of no other one' [ "$(grep -c '^no longer needed' ../told)" -eq "$(grep -c '^no longer needed.*change [4-6]' ../told)" ]
         expect 'no outcome is kept of these' [ "$(cat .git/farmdawn/results-*/*.outcome | wc -l)" -eq "$(grep -c '^\(good\|bad\)  ' ../told)" ]
         expect 'the report is whole' python3 "$top/tests/report.py" ../report ../log
-        expect 'and has them' grep -q '"status": null, "outcome": "ended", "kept": false, "used": false' ../report/result.json
+        expect 'and has them' grep -q '"status": null, "outcome": "ended", "run": 1, "kept": false, "used": false' ../report/result.json
         nothing_left
         nothing_sleeps
     done
@@ -113,7 +113,7 @@ test_interrupts() {
         wait $!
         count=$((count + 1))
         expect 'nothing else is told' sh -c '! grep -q "rror\|annot\|No such" ../told'
-        nothing_left
+        soon_nothing_left
         nothing_sleeps
     done
     git farmdawn --workers 8 main main~39 -- sh ../test.sh >../got 2>../told
@@ -124,10 +124,9 @@ test_interrupts() {
     nothing_sleeps
 }
 
-needs_random() { needs_all && has python3; }
+needs_random() { needs_all; }
 test_random() {
-    expect 'random searches' python3 "$top/tests/needed.py" --count 12
-    expect 'in checkouts' python3 "$top/tests/needed.py" --count 3 --from 100 --checkouts
+    expect 'random searches' python3 "$top/tests/needed.py" --count 15
 }
 
 by_clock='freed again interrupts'

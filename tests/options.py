@@ -8,7 +8,7 @@ import sys
 TOP = os.path.dirname(os.path.dirname(os.path.abspath(__file__)))
 LONG = r"--[a-z][a-z-]*[a-z]"
 ASKED = {"--help", "--version"}  # they stand alone, and every program has the first
-SCRIPTS = ("git-farmdawn", "farmdawn-worktree", "farmdawn-srun", "farmdawn-ssh")
+SCRIPTS = ("farmdawn-worktree", "farmdawn-srun", "farmdawn-ssh")
 
 
 def read(*path):
@@ -21,13 +21,13 @@ def cut(text, begin, end):
     return text.split(begin, 1)[1].split(end, 1)[0]
 
 
-def in_manual(name, *folder):
-    items = re.findall(r"^\.It (Fl .*)$", read(*folder, "man", f"{name}.1"), re.M)
+def in_manual(name):
+    items = re.findall(r"^\.It (Fl .*)$", read("man", f"{name}.1"), re.M)
     return {"-" + option for item in items for option in re.findall(r"Fl (-[a-z][a-z-]*)", item)}
 
 
 def in_zsh(text):
-    return set(re.findall(rf"\*?({LONG})=?\[", text)) | set(re.findall(r"(?<=,)--[a-z]+(?==?\})", text))
+    return set(re.findall(rf"\*?({LONG})=?-?\[", text)) | set(re.findall(r"(?<=,)--[a-z]+(?==?\})", text))
 
 
 def in_fish(text):
@@ -38,16 +38,18 @@ def places_of_program():
     """The options of farmdawn by place, and those of each command by the table and by the completion of bash."""
     table = read("crates", "bf_words", "src", "options.rt")
     words = dict(re.findall(rf'Choice::(\w+) => b"({LONG})"', table))
+    served = set(re.findall(rf'b"({LONG})"', read("crates", "bf_serve_run", "src", "command.rt")))
     arms = re.findall(r"((?:Choice::\w+[ |]*)+)=> [{\s]*&\[([^]]*)\]", cut(table, "fn verbs(", "\n    }\n"))
     verbs = {}
     for choices, names in arms:
         for verb in re.findall(r"Verb::(\w+)", names):
             verbs.setdefault(verb.lower(), set()).update(words[choice] for choice in re.findall(r"Choice::(\w+)", choices))
+    verbs["serve"] = served
     bash = read("completions", "farmdawn.bash")
     cases = re.findall(r"^    ([a-z][a-z |]*)\) echo (--.*) ;;$", cut(bash, "_farmdawn_options() {", "\n}"), re.M)
     by_bash = {verb: set(options.split()) for names, options in cases for verb in names.split(" | ")}
     places = {
-        "the table": set(words.values()),
+        "the table": set(words.values()) | served,
         "the help": set(re.findall(rf"(?<=  |; )({LONG})", cut(read("crates", "farmdawn", "src", "help.rt"), "\n  BAD", "\n\n"))),
         "the manual": in_manual("farmdawn") - ASKED,
         "zsh": in_zsh(read("completions", "_farmdawn")) - ASKED,
@@ -62,35 +64,29 @@ def in_help(usage):
 
 
 def places_of_driver():
-    """Those of the git farmdawn to come, which has its own manual page and completions."""
+    """Those of git farmdawn."""
     sys.path.insert(0, os.path.join(TOP, "driver"))
     sys.dont_write_bytecode = True
     from git_farmdawn import options, usage
-    bash = re.search(r"__gitcomp '([^']*)'", read("driver", "completions", "farmdawn.bash")).group(1)
+    bash = re.search(r"__gitcomp '([^']*)'", read("completions", "farmdawn.bash")).group(1)
     return {
         "its reading": set(options.KNOWN) - set(options.OTHER_NAMES) - ASKED,
         "its help": in_help(usage.USAGE),
-        "the manual": in_manual("git-farmdawn", "driver") - ASKED,
+        "the manual": in_manual("git-farmdawn") - ASKED,
         "bash": set(bash.split()) - ASKED,
-        "zsh": in_zsh(read("driver", "completions", "_git-farmdawn")) - ASKED,
-        "fish": in_fish(read("driver", "completions", "git-farmdawn.fish")) - ASKED,
+        "zsh": in_zsh(read("completions", "_git-farmdawn")) - ASKED,
+        "fish": in_fish(read("completions", "git-farmdawn.fish")) - ASKED,
     }
 
 
 def places_of_script(name):
     text = read("tools", name)
     cases = re.findall(rf"^ *(-[a-z-]+(?: \| -[a-z-]+)*)\)", text, re.M)
-    places = {
-        "its reading": {option for case in cases for option in re.findall(LONG, case)} - {"--term-bad", "--term-good"} - ASKED,
+    return {
+        "its reading": {option for case in cases for option in re.findall(LONG, case)} - ASKED,
         "its help": in_help(cut(text, "<<'TEXT'\n", "\nTEXT\n")),
         "the manual": in_manual(name) - ASKED,
     }
-    if name == "git-farmdawn":
-        bash = re.search(r"__gitcomp '([^']*)'", read("completions", "farmdawn.bash")).group(1)
-        places["bash"] = set(bash.split()) - ASKED
-        places["zsh"] = in_zsh(read("completions", "_git-farmdawn")) - ASKED
-        places["fish"] = in_fish(read("completions", "git-farmdawn.fish")) - ASKED
-    return places
 
 
 def differences(name, places):
@@ -108,7 +104,7 @@ def main():
         wrong += differences(f"farmdawn {verb}", sides)
     for name in SCRIPTS:
         wrong += differences(name, places_of_script(name))
-    wrong += differences("the driver", places_of_driver())
+    wrong += differences("git-farmdawn", places_of_driver())
     print(*wrong, sep="\n", end="\n" if wrong else "")
     return not wrong
 

@@ -1,6 +1,7 @@
 #!/usr/bin/env python3
 """Whether the pages say what stands: that each file that they name is there, that each name in a file stands in that file,
-and that the code of docs/LIBRARY.md is that of its files. Prints what is not so."""
+that each link leads to a page and a heading, and that the code of docs/LIBRARY.md is that of its files. Prints what is not
+so."""
 import glob
 import os
 import re
@@ -35,6 +36,21 @@ def missing_in(text):
                 yield f"there is no {name} in {file}"
 
 
+def headings(page):
+    """The headings of a page, as links name them."""
+    found = re.findall(r"^#+ (.*)$", re.sub(r"^```.*?^```$", "", read(page), flags=re.M | re.S), re.M)
+    return {re.sub(r"[^\w -]", "", heading.lower()).replace(" ", "-") for heading in found}
+
+
+def dead_links(page):
+    """The links of a page that lead to no file, or to no heading of a page."""
+    for link in re.findall(r"\]\(([^()\s]+)\)", read(page)):
+        name, _, heading = link.partition("#")
+        path = os.path.join(os.path.dirname(page), name) if name else page
+        if "://" not in link and (not os.path.exists(path) or heading and heading not in headings(path)):
+            yield f"nothing is at {link}"
+
+
 def other_code(text):
     """The pieces of code that are not those of the file that is named before them."""
     for file, code in re.findall(FILE + r"[^`]*\n\n```rust\n(.*?)```", text, re.S):
@@ -44,7 +60,7 @@ def other_code(text):
 
 def main():
     wrong = [f"{os.path.relpath(page, TOP)}: {fault}" for page in [os.path.join(TOP, "README.md"), *sorted(glob.glob(os.path.join(TOP, "docs", "*.md")))]
-             for fault in [*missing_in(read(page)), *other_code(read(page))]]
+             for fault in [*missing_in(read(page)), *dead_links(page), *other_code(read(page))]]
     print(*wrong, sep="\n")
     return not wrong
 

@@ -14,7 +14,7 @@ count_running='
     trap "rm -f running/$$; exit 255" TERM
     : >running/$$
     turns=0
-    until [ -e met ] || [ "$(ls running | wc -l)" -ge "$0" ]; do turns=$((turns + 1)) && [ $turns -lt 600 ] && sleep 0.05 || exit 255; done
+    until [ -e met ] || [ "$(ls running | wc -l)" -ge "$0" ]; do turns=$((turns + 1)) && [ $turns -lt 600 ] && sleep 0.1 || exit 255; done
     [ -e met ] || sleep 0.3
     ls running | wc -l >>counts
     : >met
@@ -81,5 +81,6 @@ test_options() {
     done
 }
 
+by_clock='workers'
 [ $# -gt 0 ] || set -- workers threads ways options
 run_tests "$@"

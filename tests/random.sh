@@ -1,12 +1,12 @@
 #!/bin/sh
 # A few rounds of the tests by random numbers: hostile input, repositories, these by path, folders of commits, lists of
-# searches, runs that are killed, and runs whose tests are ended. Their own pages say how more are run, and beside which programs.
+# searches, runs that are killed, runs whose tests are ended, and dialogues. Their own pages say how more are run, and beside which programs.
 . "$(dirname "$0")/helpers.sh"
 
 needs_hostile() { has python3 && has_program; }
 test_hostile() { expect 'hostile input' python3 "$top/tests/hostile.py" --count 100 "$farmdawn"; }
 
-needs_repositories() { has python3 git flock setsid && has_program; }
+needs_repositories() { has python3 git && has_program; }
 test_repositories() { FARMDAWN=$farmdawn expect 'repositories' python3 "$top/tests/repositories.py" --count 10; }
 
 needs_paths() { needs_repositories; }
@@ -27,5 +27,9 @@ test_crashes() { FARMDAWN=$farmdawn expect 'runs that are killed' python3 "$top/
 needs_ended() { has python3 git && has_program && has_plain_path; }
 test_ended() { FARMDAWN=$farmdawn expect 'runs whose tests are ended' python3 "$top/tests/ended.py" --count 8; }
 
-[ $# -gt 0 ] || set -- hostile repositories paths folders lists crashes ended
+needs_serve() { has python3 && has_program && has_plain_path; }
+test_serve() { FARMDAWN=$farmdawn expect 'dialogues' python3 "$top/tests/serve_random.py" --count 20; }
+
+by_clock='crashes ended folders'
+[ $# -gt 0 ] || set -- hostile repositories paths folders lists crashes ended serve
 run_tests "$@"

@@ -13,20 +13,22 @@ NAME, TIME, TEXT = r"[0-9a-f]{40}([0-9a-f]{24})?", (int, float), str
 NONE = type(None)
 # as the manual page has them, in its order
 FIELDS = {
-    "report": int, "generator": TEXT, "version": TEXT, "repository": TEXT, "bad": TEXT, "good": list, "terms": dict, "first_parent": bool,
-    "paths": list, "command": list, "state": TEXT, "status": (int, NONE), "answer": (dict, NONE), "reason": (TEXT, NONE), "started": TIME,
-    "ended": (int, float, NONE), "workers": int, "commits": int, "tests": list, "log": list,
+    "report": int, "generator": TEXT, "version": TEXT, "name": TEXT, "repository": TEXT, "remote": (TEXT, NONE), "bad": TEXT, "good": list,
+    "terms": dict, "first_parent": bool, "paths": list, "command": list, "again": dict, "state": TEXT, "status": (int, NONE),
+    "answer": (dict, NONE), "link": (TEXT, NONE), "output": (dict, NONE), "last_good": list, "reason": (TEXT, NONE), "candidates": list,
+    "contradictions": list, "sure": (bool, NONE), "sentence": (TEXT, NONE), "confirmed": list, "odds": list, "ends": list, "started": TIME,
+    "ended": (int, float, NONE), "workers": int, "host": TEXT, "commits": int, "tests": list, "log": list,
 }
 TEST = {
     "commit": TEXT, "subject": TEXT, "worker": (int, NONE), "began": (int, float, NONE), "ended": (int, float, NONE), "status": (int, NONE),
-    "outcome": TEXT, "kept": bool, "used": bool, "log": (TEXT, NONE),
+    "outcome": TEXT, "run": int, "kept": bool, "used": bool, "log": (TEXT, NONE),
 }
-if os.environ.get("FARMDAWN_DRIVER"):  # its reports have more
-    FIELDS.update({"candidates": list, "contradictions": list, "ends": list})
 MORE = {
     "ends": {"commit": TEXT, "subject": TEXT, "called": TEXT, "status": (int, NONE)},
     "candidates": {"name": TEXT, "subject": TEXT, "outcome": (TEXT, NONE)},
     "contradictions": {"commit": TEXT, "subject": TEXT, "outcome": TEXT, "status": int, "why": TEXT},
+    "last_good": {"commit": TEXT, "subject": TEXT, "status": (int, NONE)},
+    "confirmed": {"commit": TEXT, "subject": TEXT, "outcome": TEXT, "times": int, "runs": int},
 }
 ANSWER = {"name": TEXT, "subject": TEXT, "author": TEXT, "date": (int, NONE)}
 OUTCOMES = {"good": range(1), "bad": range(1, 125), "skipped": range(125, 126), "stopped": range(126, 256)}
@@ -80,11 +82,13 @@ def check_tests(result, folder):
             expect(f"its status: {test}", test["status"] in OUTCOMES[test["outcome"]])
         else:
             expect(f"no status: {test}", test["status"] is None and not test["used"])
-        expect(f"used as the log says: {test}", test["used"] == (test["commit"] in marks or test["commit"] in ends) or test["status"] is None)
-        if test["commit"] in marks and test["outcome"] != "ended":
+        first = test["run"] == 1  # what comes behind it confirms, and is not in the log
+        expect(f"used as the log says: {test}", test["used"] == ((test["commit"] in marks or test["commit"] in ends) and first) or test["status"] is None)
+        if test["commit"] in marks and test["outcome"] != "ended" and first:
             expect(f"the outcome of the log: {test}", test["outcome"] == marks[test["commit"]])
         if test["log"]:
-            expect(f"its output: {test}", test["log"] == f"outputs/{test['commit']}.txt" and os.path.isfile(os.path.join(folder, test["log"])))
+            run = "" if first else f".run{test['run']}"
+            expect(f"its output: {test}", test["log"] == f"outputs/{test['commit']}{run}.txt" and os.path.isfile(os.path.join(folder, test["log"])))
         if test["kept"]:
             expect(f"kept: {test}", test["worker"] is test["began"] is test["ended"] is None)
             continue
@@ -110,7 +114,7 @@ def check_answer(result):
 
 
 def check_more(result):
-    """The lists that only reports of the driver have."""
+    """The lists of ends, candidates, outcomes that contradict, and what is sure."""
     for key, fields in MORE.items():
         expect(f"the fields of {key}", all(has_fields(one, fields) for one in result[key]))
     expect("each end", [end["commit"] for end in result["ends"]] == [result["bad"], *result["good"]])
@@ -129,24 +133,23 @@ def check_result(result, folder, log):
         expect(f"the log, {due!r}, in place of {result['log']!r}", result["log"] == due)
     check_answer(result)
     check_tests(result, folder)
-    if "ends" in FIELDS:
-        check_more(result)
+    check_more(result)
 
 
 def check_page(page, result):
     """The page is well formed, needs nothing else, and has a bar for each test that ran and a row for each."""
     root = ElementTree.fromstring(page)
     tags = {element.tag.split("}")[1] for element in root.iter()}
-    expect(f"no other tags: {tags}", tags <= set("html head meta title style body svg defs pattern rect path header p h1 h2 dl dt dd code span "
+    expect(f"no other tags: {tags}", tags <= set("html head meta title style body svg defs pattern rect path header p h1 h2 dl dt dd code span link "
                                                   "ul li line text a desc pre details summary table thead tr th tbody td footer".split()))
     for element in root.iter():
         for key, value in element.attrib.items():
             expect(f"no script: {key}", not key.startswith("on"))
-            expect(f"nothing elsewhere: {value}", key not in ("href", "src") or re.fullmatch(r"#t\d+|outputs/[0-9a-f]+\.txt|result\.json", value))
+            expect(f"nothing elsewhere: {value}", key not in ("href", "src") or re.fullmatch(r"#t\d+|report\.css|summary\.md|outputs/[0-9a-f]+(\.run\d+)?\.txt|result\.json", value))
     expect("nothing elsewhere in the style", not re.search(rb"url\((?!#p-)|@import", page))
     ran = [test for test in result["tests"] if not test["kept"]]
     bars = [element.get("class") for element in root.iter(f"{HTML}rect") if element.find(f"{HTML}title") is not None]
-    pale = ["" if test["used"] or test["outcome"] == "running" else " needless" for test in ran]
+    pale = ["" if test["used"] or test["outcome"] == "running" or test["run"] > 1 else " needless" for test in ran]
     expect("the bars", bars == [test["outcome"] + needless for test, needless in zip(ran, pale)])
     rows = [row for row in root.iter(f"{HTML}tr") if row.get("id")]
     expect("the rows", len(rows) == len(result["tests"]))
@@ -173,7 +176,7 @@ def main(folder, log, *wanted):
         expect(f"{key} is {value}, and not {result[key]!r}", result[key] == json.loads(value))
     # one that is written anew at this time may be beside it
     there = sorted(name for name in os.listdir(folder) if log != "-" or not name.startswith(".farmdawn-report."))
-    expect("nothing else is there", there == ["index.html", "outputs", "result.json"])
+    expect("nothing else is there", there == ["index.html", "junit.xml", "outputs", "report.css", "result.json", "summary.md"])
 
 
 if __name__ == "__main__":

@@ -4,7 +4,7 @@
 FARMDAWN=$farmdawn
 export FARMDAWN
 
-needs_all() { has git flock setsid python3 && has_program; }
+needs_all() { has git python3 && has_program; }
 
 # The report is whole, and has the facts of the log and what is named.
 report_is() { python3 "$top/tests/report.py" ../report "$@"; }
@@ -50,10 +50,8 @@ test_ends() {
     make_line 12 7
     git checkout -q -b side main~8 && echo side >side && git add -A && git commit -q -m side && git checkout -q main || exit 1
     stopper=$(git rev-parse main~6) bad_good=$(git rev-parse main~1)
-    # shellcheck disable=SC2086 # a word, or none
-    ends_so 2 'only skipped commits are left' $trust --skip main~11..main~1 main main~11 -- true
-    # shellcheck disable=SC2086
-    ends_so 3 'a merge base is broken' $trust --term-new broken --term-old well main side -- false
+    ends_so 2 'only skipped commits are left' --trust-ends --skip main~11..main~1 main main~11 -- true
+    ends_so 3 'a merge base is broken' --trust-ends --term-new broken --term-old well main side -- false
     ends_so 4 'a good commit is no ancestor of the bad one' main~5 main -- true
     ends_so 5 'one commit is both bad and good' main main -- true
     ends_so 6 "the test of $stopper stopped the search: exit 255" --workers 1 main main~11 -- sh -c 'echo "<b>&amp;"; exit 255'
@@ -70,11 +68,9 @@ test_stops() {
     FARMDAWN_WATCH=1 git farmdawn --workers 3 --report ../report main main~19 -- sh -c 'echo x >>"$0/tested"
         while [ -e "$0" ] && [ ! -e "$0/on" ] && [ "$(wc -l <"$0/tested")" -ge 3 ]; do sleep 0.1; done
         test ! -e bug' "$PWD/.." >log 2>told &
-    until grep -q '"outcome": "running"' ../report/result.json 2>/dev/null; do
-        expect 'the search goes on' kill -0 $!
-        sleep 0.1
-    done
-    expect 'the report of one that runs' report_is - 'state="running"' 'status=null' 'ended=null' 'answer=null' 'reason="the search runs"'
+    wait_beside $! grep -q '"outcome": "running"' ../report/result.json 2>/dev/null
+    # its two files are written one after the other
+    wait_until 'the report of one that runs' report_is - 'state="running"' 'status=null' 'ended=null' 'answer=null' 'reason="the search runs"'
     kill -TERM $!
     wait $!
     expect 'it was stopped' [ $? -eq 143 ]
@@ -105,27 +101,17 @@ make_hostile() {
     git fast-import --quiet <../stream && git reset -q --hard 2>/dev/null
 }
 
-# Each test waits until all have begun, so that all are told. The scripts are tried with each awk, and the driver in some locales.
+# Each test waits until all have begun, so that all are told; in some locales.
 needs_hostile() { needs_all; }
 test_hostile() {
     make_hostile
-    mkdir ../bin
     # shellcheck disable=SC2016
-    for way in mawk gawk 'busybox awk' C C.UTF-8 tr_TR.UTF-8; do
-        case $way in
-        C* | tr*) by_driver || continue ;;
-        *)
-            { by_scripts && command -v "${way% *}" >/dev/null; } || continue
-            printf '#!/bin/sh\nexec %s "$@"\n' "$way" >../bin/awk && chmod +x ../bin/awk
-            ;;
-        esac
-        locale=C
-        [ -z "$driver" ] || locale=$way
+    for locale in C C.UTF-8 tr_TR.UTF-8; do
         rm -rf ../met && mkdir ../met || exit 1
-        MET=$PWD/../met LC_ALL=$locale PATH=$PWD/../bin:$PATH git farmdawn --fresh --workers 9 --report ../report main main~9 -- sh -c \
+        MET=$PWD/../met LC_ALL=$locale git farmdawn --fresh --workers 9 --report ../report main main~9 -- sh -c \
             'touch "$MET/$FARMDAWN_COMMIT"; until [ "$(ls "$MET" | wc -l)" -ge 8 ]; do sleep 0.1; done
             git log -1 --format=%B; cat path*; head -c 300 /dev/zero; test ! -e bug' "$(printf '<\n&"\\\033\342\202\254\n')" >log 2>told
-        expect "a search by $way" [ $? -eq 0 ]
+        expect "a search in $locale" [ $? -eq 0 ]
         expect 'its report' report_is log 'status=0'
         expect 'of most commits' [ "$(grep -c '"commit": ' ../report/result.json)" -ge 8 ]
         expect 'no tag of a subject' sh -c '! grep -q "<script\|<img\|<b>" ../report/index.html'
@@ -166,37 +152,6 @@ break:1' ../proc/report:14; do
     nothing_left
 }
 
-# What the writing of a report is given is kept, and the writing is ended at each of the programs that it starts: what is in the
-# folder then is whole, and so is the next report.
-needs_interrupted() { by_scripts && needs_all; }
-test_interrupted() {
-    make_line 12 7
-    cp -Rp "$top/tools" ../tools && mkdir ../bin || exit 1
-    # shellcheck disable=SC2016
-    printf '%s\n' '#!/bin/sh' '[ "$1" = --write ] && [ -n "$3" ] || exec "$0.real" "$@"' 'eval "$farmdawn_run" && cat >"$0.log" && cp -Rp "$state" "$0.state"' \
-        'printf "%sstate=\047%s\047 here=\047%s\047" "$farmdawn_run" "$0.state" "${0%/*}" >"$0.settings"' >../tools/new
-    mv ../tools/farmdawn-report ../tools/farmdawn-report.real && mv ../tools/new ../tools/farmdawn-report && chmod +x ../tools/farmdawn-report || exit 1
-    ../tools/git-farmdawn --report ../report main main~11 -- sh -c "$command" >log 2>told
-    for tool in awk cat mv tr tail grep git sed ln; do
-        # shellcheck disable=SC2016
-        printf '#!/bin/sh\necho >>"$0/../../calls"\n[ "$(wc -l <"$0/../../calls")" -ne "$STOP_AT" ] || kill -KILL $PPID\nexec %s "$@"\n' "$(command -v $tool)" |
-            sed 's|\$0/../..|${0%/*}/..|g' >../bin/$tool
-        chmod +x ../bin/$tool
-    done
-    stop_at=0 lost=0
-    while :; do
-        stop_at=$((stop_at + 5)) && : >../calls
-        farmdawn_run=$(cat ../tools/farmdawn-report.settings) STOP_AT=$stop_at PATH=$PWD/../bin:$PATH \
-            ../tools/farmdawn-report.real --write 11 0 '' <../tools/farmdawn-report.log >written 2>&1 || lost=$((lost + 1))
-        [ ! -e ../report/index.html ] || expect "a whole page, where it is ended at $stop_at" python3 -c 'import xml.etree.ElementTree, sys; xml.etree.ElementTree.parse(sys.argv[1])' ../report/index.html
-        [ ! -e ../report/result.json ] || expect "and a whole result" python3 -m json.tool ../report/result.json written
-        [ "$(wc -l <../calls)" -ge $stop_at ] || break
-    done
-    expect 'it was ended in the middle' [ $lost -ge 3 ]
-    expect 'the next one is whole' report_is log 'status=0'
-    nothing_left
-}
-
 # The disk of the report is full in the middle: the answer stands, a line says that there is no report, and nothing half is there.
 full_report() {
     export FARMDAWN="$farmdawn"
@@ -225,5 +180,6 @@ test_full() {
 }
 
 [ "${0##*/}" = report.sh ] || return 0
-[ $# -gt 0 ] || set -- facts ends stops hostile folders interrupted full
+by_clock='stops'
+[ $# -gt 0 ] || set -- facts ends stops hostile folders full
 run_tests "$@"

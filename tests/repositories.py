@@ -30,10 +30,10 @@ import trials
 
 TOP = os.path.dirname(os.path.dirname(os.path.abspath(__file__)))
 FARMDAWN = os.environ.get("FARMDAWN", os.path.join(TOP, "crates/farmdawn/out/farmdawn"))
-DRIVER = os.environ.get("FARMDAWN_DRIVER")
-TRUST = ["--trust-ends"] if DRIVER else []  # the driver tests ends, too
+DRIVER = os.environ.get("FARMDAWN_DRIVER", os.path.join(TOP, "driver", "bin"))
+TRUST = ["--trust-ends"]  # ends are not what is tested
 CALM = {**os.environ, "GIT_CONFIG_GLOBAL": "/dev/null", "GIT_CONFIG_SYSTEM": "/dev/null", "GIT_CONFIG_NOSYSTEM": "1", "LC_ALL": "C",
-        "FARMDAWN": FARMDAWN, "PATH": os.pathsep.join([*filter(None, [DRIVER]), os.path.join(TOP, "tools"), os.environ["PATH"]])}
+        "FARMDAWN": FARMDAWN, "PATH": os.pathsep.join([DRIVER, os.path.join(TOP, "tools"), os.environ["PATH"]])}
 # The tests by what they look at. All but the first are good or bad alone.
 TESTS = {"verdict": ["sh", "-c", "exit $(cat verdict)"], "absent": ["test", "!", "-e", "bug"], "present": ["test", "-e", "fine"],
          "grep": ["grep", "-q", "fine", "words"], "make": ["make", "-s", "made"]}

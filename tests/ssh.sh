@@ -10,8 +10,6 @@ has_ssh() {
     case $(getent passwd "$(id -u)") in */nologin | */false) return 1 ;; esac
 }
 
-port=$((20000 + $$ % 20000))
-
 # The folder that sshd of root wants. Each of these servers keeps a lock on it, also one of another checkout; where one of
 # them made it, the last one removes it.
 hold_folder() {
@@ -27,17 +25,22 @@ stop_server() {
 }
 
 # A server with a key of its own, that takes so many connections at once while they begin. Its files have a folder whose
-# name a configuration can have without quotes.
+# name a configuration can have without quotes. Where another program has its port, it takes the next one.
 start_server() {
     umask 077
     server=$(TMPDIR=/tmp mktemp -d) || exit 1
     ssh-keygen -q -t ed25519 -N '' -f "$server/host" && ssh-keygen -q -t ed25519 -N '' -f "$server/user" || exit 1
     trap stop_server EXIT
     [ "$(id -u)" -ne 0 ] || hold_folder
-    printf '%s\n' "Port $port" 'ListenAddress 127.0.0.1' "HostKey $server/host" "AuthorizedKeysFile $server/user.pub" 'StrictModes no' \
-        "PidFile $server/pid" 'UsePAM no' "MaxStartups ${1:-100}" >"$server/config"
-    "$(command -v sshd || echo /usr/sbin/sshd)" -f "$server/config" 6<&- || exit 1
+    port=$((20000 + $$ % 10000)) most=$((port + 20))
+    until begin_server "${1:-100}"; do port=$((port + 1)) && [ $port -lt $most ] || exit 1; done
     ssh_options="-p$port -i$server/user -oStrictHostKeyChecking=no -oUserKnownHostsFile=/dev/null -oIdentitiesOnly=yes -oLogLevel=ERROR"
+}
+
+begin_server() {
+    printf '%s\n' "Port $port" 'ListenAddress 127.0.0.1' "HostKey $server/host" "AuthorizedKeysFile $server/user.pub" 'StrictModes no' \
+        "PidFile $server/pid" 'UsePAM no' "MaxStartups $1" >"$server/config"
+    "$(command -v sshd || echo /usr/sbin/sshd)" -f "$server/config" 6<&-
 }
 
 by_ssh() {
@@ -86,9 +89,10 @@ test_waiting() {
     stand_in
     mkdir slots
     flock slots/there.0 sh -c 'touch held; while [ -e held ] && [ ! -e off ]; do sleep 0.1; done' &
-    until [ -e held ]; do sleep 0.1; done
+    wait_until 'the place is held' [ -e held ]
     farmdawn-ssh --slots slots there -- touch tested name &
-    until [ -n "$(ls tmp)" ]; do sleep 0.1; done
+    has_a_folder() { [ -n "$(ls tmp)" ]; }
+    wait_beside $! has_a_folder
     sleep 0.3
     kill -TERM $!
     wait $!
@@ -141,9 +145,10 @@ test_interrupts() {
     for pause in 0.2 0.6 1; do
         # shellcheck disable=SC2086
         by_ssh 127.0.0.1 -- $long_sleep name &
-        sleep $pause
         # the script is the only child of the shell that runs the function
-        kill -TERM "$(pgrep -P $!)" 2>/dev/null
+        wait_beside $! pgrep -P $! >child
+        sleep $pause
+        kill -TERM "$(cat child)" 2>/dev/null
         wait $!
     done
     sleep 1
@@ -258,7 +263,7 @@ test_limit() {
     stand_in
     mkdir slots
     flock slots/there.0 sh -c 'touch held; while [ -e held ] && [ ! -e off ]; do sleep 0.1; done' &
-    until [ -e held ]; do sleep 0.1; done
+    wait_until 'the place is held' [ -e held ]
     timeout 60 farmdawn-ssh --slots slots --wait 2 there -- touch tested name 2>err
     expect 'no verdict, and two lines' [ "$? $(grep -c 'waits for a host\|no host was free for 2 s' err)" = '255 2' ]
     expect 'no test was run' [ ! -e tested ]
@@ -323,6 +328,6 @@ test_parents() {
     wait_until 'no test runs on' none_runs "^$long_sleep"
 }
 
-by_clock='interrupts parents'
+by_clock='interrupts parents waiting limit many'
 [ $# -gt 0 ] || set -- words hosts waiting answers slots others limit environment functions missing verdicts lost_tests interrupts many parents
 run_tests "$@"

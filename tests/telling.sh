@@ -4,7 +4,7 @@
 FARMDAWN=$farmdawn
 export FARMDAWN
 
-needs_all() { has git flock setsid && has_program; }
+needs_all() { has git python3 && has_program; }
 command='test ! -e bug'
 
 # Commits that change some paths alone, beside git bisect with the same paths; tests/paths.py has random ones.
@@ -76,7 +76,7 @@ lines'; do
     done
     expect 'nothing was tested' [ ! -e ../tested ]
     git rm -q bug && git commit -q -m 'without' && git commit -q --allow-empty -m last || exit 1
-    expect 'one that is no more' [ "$(answer_of git farmdawn --path bug main main~5 -- test -e bug)" = "$(first_bad main~1)" ]
+    expect 'one that is no more' [ "$(answer_of git farmdawn --trust-ends --path bug main main~5 -- test -e bug)" = "$(first_bad main~1)" ]
     nothing_left
 }
 
@@ -111,5 +111,6 @@ test_progress() {
 needs_terminal() { needs_all && has python3 stty; }
 test_terminal() { expect 'on a terminal' python3 "$top/tests/terminal.py"; }
 
+by_clock='terminal'
 [ $# -gt 0 ] || set -- paths paths_of_merges wrong_paths progress terminal
 run_tests "$@"

@@ -68,7 +68,7 @@ run_block() {
         # another home, another number of the command, as many outcomes as there was time for, and a test as long as it took
         sed -i "s|$HOME|/home/ann|g; s/from [0-9]* outcomes/from N outcomes/; s/results-[0-9a-f]\{12\}/results-NUMBER/
             s/what [0-9]* searches/what N searches/; s/([0-9]* s)$/(N s)/" "$name.shown" "$name.output"
-        expect "what the page shows of '$(cat "$command")'" is_shown "$name.shown" "$name.output"
+        is_shown "$name.shown" "$name.output" || { cat "$name.output" && expect "what the page shows of '$(cat "$command")'" false; }
     done
 }
 
@@ -86,7 +86,7 @@ run_page() {
     take_apart "$PWD/blocks"
     blocks=$PWD/blocks
     # a newcomer: another home, whose name needs no quotes, and nothing of this checkout on the path
-    PATH=${PATH#"${driver:+$driver:}$top/tools:"}
+    PATH=${PATH#"$driver:$top/tools:"}
     unset FARMDAWN
     HOME=$(TMPDIR=/tmp mktemp -d) || exit 1
     export HOME
@@ -99,7 +99,7 @@ run_page() {
     nothing_left
 }
 
-needs_page() { has git flock setsid make cc timeout && has_program; }
+needs_page() { has git python3 flock setsid make cc timeout && has_program; }
 test_page() { run_page; }
 
 needs_ccache() { has ccache && needs_page; }
@@ -108,5 +108,6 @@ test_ccache() { run_page ccache; }
 needs_slurm() { needs_page && has_slurm; }
 test_slurm() { run_page slurm; }
 
+by_clock='page' # a test that takes longer than it should may be one that nobody needs any more
 [ $# -gt 0 ] || set -- page ccache slurm
 run_tests "$@"

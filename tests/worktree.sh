@@ -299,9 +299,9 @@ test_waits() {
     make_line 2 9
     mkdir .git/farmdawn && : >.git/farmdawn/lock
     flock .git/farmdawn/lock sh -c 'touch held; while [ -e held ] && [ ! -e off ]; do sleep 0.1; done' &
-    until [ -e held ]; do sleep 0.05; done
+    wait_until 'the lock is held' [ -e held ]
     farmdawn-worktree -- true "$(git rev-parse HEAD)" 2>err &
-    until grep -q 'waits for another' err; do expect 'it waits' kill -0 $! && sleep 0.2; done
+    wait_beside $! grep -q 'waits for another' err
     touch off
     wait $!
     expect 'and goes on' [ $? -eq 0 ]
@@ -459,7 +459,7 @@ END
     nothing_sleeps
 }
 
-by_clock='parents killed program_killed unreaped'
+by_clock='limits interrupts parents killed program_killed unreaped'
 [ $# -gt 0 ] || set -- verdicts content modes prune limits many_at_once interrupts environment functions looked_at killed parents \
     links away relative_paths other_users waits cost needs odd_names program_killed signed full unreaped
 run_tests "$@"
