@@ -94,6 +94,14 @@ def test_files(choice, status):
         "D made\n" if status else put_file("made", "made\n")])
 
 
+def head_of_commit(choice, number, named, rising):
+    """The command of a commit with these parents, on a ref of its own, up to its files. Its date rises with the number, or is any."""
+    date = 1700000000 + (number * 60 if rising else choice.randrange(100000))
+    return (f"reset refs/heads/c{number}\n\ncommit refs/heads/c{number}\nmark :{number + 1}\ncommitter gen <gen@gen> {date} +0000\n"
+            f"data <<END\nchange {number}\nEND\n") + "".join(
+                f"{'merge' if index else 'from'} :{parent + 1}\n" for index, parent in enumerate(named))
+
+
 def make_repository(choice, folder, test):
     """A repository with a ref c0, c1, .. on each commit; the commits' names, the verdicts, and whether these are plain."""
     parents = random_parents(choice, choice.randrange(3, 23))
@@ -103,10 +111,7 @@ def make_repository(choice, folder, test):
     rising = choice.random() < 0.5
     text = []
     for number, named in enumerate(parents):
-        date = 1700000000 + (number * 60 if rising else choice.randrange(100000))
-        text.append(f"reset refs/heads/c{number}\n\ncommit refs/heads/c{number}\nmark :{number + 1}\ncommitter gen <gen@gen> {date} +0000\n"
-                    f"data <<END\nchange {number}\nEND\n")
-        text += [f"{'merge' if index else 'from'} :{parent + 1}\n" for index, parent in enumerate(named)]
+        text.append(head_of_commit(choice, number, named, rising))
         text.append(test_files(choice, statuses[number]) + put_file("number", f"{number}\n") + "\n")
     call(".", "git", "init", "-q", "-b", "main", folder)
     call(folder, "git", "fast-import", "--quiet", stdin="".join(text).encode())

@@ -107,10 +107,7 @@ class Case:
         rising = choice.random() < 0.5
         text = []
         for number, named in enumerate(parents):
-            date = 1700000000 + (number * 60 if rising else choice.randrange(100000))
-            text.append(f'reset refs/heads/c{number}\n\ncommit refs/heads/c{number}\nmark :{number + 1}\ncommitter gen <gen@gen> {date} +0000\n'
-                        f'data <<END\nchange {number}\nEND\n')
-            text += [f'{"merge" if index else "from"} :{parent + 1}\n' for index, parent in enumerate(named)]
+            text.append(repositories.head_of_commit(choice, number, named, rising))
             text.append(files_of(choice, number, statuses[number], self.look) + '\n')
         git('.', 'init', '-q', '-b', 'main', self.origin)
         with open(self.origin + '/.git/config', 'a', encoding='utf-8') as file:
