@@ -138,6 +138,11 @@ test_names() {
     expect 'the names of the repository' cmp due got
     cat stream requests | "$farmdawn" serve >got
     expect 'are not those of the stream' [ "$(sed -n 2p got)" = 'refused name refused at word 1: unknown' ]
+    printf '%s\n' "search $(printf %.12s "$bad") $good" "search main $(printf %.39s "$good")" "search main $good" >requests
+    cat stream requests | "$farmdawn" serve --original-names >got
+    expect 'the first digits name no commit' [ "$(sed -n 2p got)" = 'refused name refused at word 1: unknown' ]
+    expect 'be it 39 of them' [ "$(sed -n 3p got)" = 'refused name refused at word 2: unknown' ]
+    expect 'beside refs and whole names' [ "$(tail -n 1 got)" = 'search 1' ]
     sed "s/^original-oid $bad/original-oid $good/" stream | "$farmdawn" serve --original-names >got 2>told
     expect 'two commits of one name' [ $? -eq 7 ]
     expect 'are told by the line of the second' grep -q "^stream refused at line $(grep -n '^commit ' stream | sed -n '8s/:.*//p'): syntax" got

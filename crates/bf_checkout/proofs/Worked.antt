@@ -1,12 +1,11 @@
 -- Worked examples.
-use Rattle.std.proofs.Common.{◌≡◌, ℕ, List, [], ◌∷◌, refl}
+use Rattle.std.proofs.Common.{◌≡◌, ℕ, false, List, [], ◌∷◌, refl}
 use Rattle.bf_oid.specs.declared.object.Mode.{Mode}
 use Rattle.bf_oid.specs.declared.object.Mode.TheVariants.{Plain, Link, Module}
 use Rattle.bf_oid.specs.declared.object.Oid.{Oid}
 use Rattle.bf_forest.specs.declared.entries.FileEntry.{FileEntry}
 use Rattle.bf_tester.specs.Grounds.{File}
 use Rattle.bf_history.specs.Contents.{Content}
-use Rattle.bf_history.specs.Meanings.{nothing_loaded}
 use Rattle.bf_checkout.specs.Checkouts.{checkout}
 
 abbrev named : ℕ → Oid
@@ -18,7 +17,15 @@ entry letter mode n = record { path = (letter ∷ []) ∷ []; mode = mode; oid =
 -- one commit with a file, a link and a submodule
 abbrev content : Content
 content = record {
-  history = record nothing_loaded.history { files = (entry 97 Plain 1 ∷ entry 98 Link 2 ∷ entry 99 Module 3 ∷ []) ∷ [] };
+  history = record {
+    refs = [];
+    parents = [];
+    files = (entry 97 Plain 1 ∷ entry 98 Link 2 ∷ entry 99 Module 3 ∷ []) ∷ [];
+    subjects = [];
+    names = [];
+    directories = [] ∷ [];
+    original_names = false;
+  };
   blobs = (named 2, 20 ∷ []) ∷ (named 1, 10 ∷ 11 ∷ []) ∷ [];
 }
 

@@ -129,10 +129,10 @@ module _ (limits : Limits) where
 -- so bytes load alike
 pub loads_alike : (bytes : List ℕ) (limits : Limits) (result : Result Content ImportFault) → Furnishes bytes limits result → LoadsAlike bytes limits result
 loads_alike bytes limits result (commands, end, goes, is) =
-    told result (subst (λ (r : Result Content ImportFault). Agrees (λ (c : Content). c.history) r (loaded limits nothing_loaded commands end)) (sym is)
-    (all_agree limits [] nothing_loaded commands end))
+    told result (subst (λ (r : Result Content ImportFault). Agrees (λ (c : Content). c.history) r (loaded limits (nothing_loaded limits) commands end)) (sym is)
+    (all_agree limits [] (nothing_loaded limits) commands end))
   where
-    told : (result : Result Content ImportFault) → Agrees (λ (c : Content). c.history) result (loaded limits nothing_loaded commands end)
+    told : (result : Result Content ImportFault) → Agrees (λ (c : Content). c.history) result (loaded limits (nothing_loaded limits) commands end)
         → LoadsAlike bytes limits result
     told (Ok content) same = (commands, end, goes, sym same)
     told (Err (faults.Stream fault)) same = (commands, end, goes, sym same)

@@ -381,5 +381,5 @@ all_there limits blobs loading (command ∷ commands) end has named =
     (command_there limits blobs loading has command)
     (λ next there. all_there limits (blobs_behind blobs command) next commands end there (named_behind blobs command named))
 
-pub nothing_lacks : IsFurnishedOver [] nothing_loaded
-nothing_lacks = record { marks = All-nil (λ (mark : ℕ × Marked). MarkHas [] mark.1); files = All-nil (All (Has [])) }
+pub nothing_lacks : (limits : Limits) → IsFurnishedOver [] (nothing_loaded limits)
+nothing_lacks limits = record { marks = All-nil (λ (mark : ℕ × Marked). MarkHas [] mark.1); files = All-nil (All (Has [])) }

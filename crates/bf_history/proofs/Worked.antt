@@ -9,6 +9,7 @@ use Rattle.bf_oid.specs.declared.object.Oid.{Oid}
 use Rattle.bf_oid.specs.Object.{name_of}
 use Rattle.bf_grammar.specs.declared.command.Change.TheVariants.{Modify}
 use Rattle.bf_grammar.specs.declared.command.DataRef.TheVariants as dataref
+use Rattle.bf_grammar.specs.Limits.{standard_limits}
 use Rattle.bf_history.specs.declared.fault.ImportFault.TheVariants.{BadFrom, BadMark, BadPath, NoContent, Unsupported}
 use Rattle.bf_history.specs.declared.marked.Marked.TheVariants as marked
 use Rattle.bf_history.specs.Bodies.{subject_of}
@@ -34,7 +35,7 @@ untitled = refl
 -- ---- targets
 
 with_marks : Loading
-with_marks = record nothing_loaded {
+with_marks = record (nothing_loaded standard_limits) {
   marks = (1, marked.Commit 7) ∷ (2, marked.Tag) ∷ [];
 }
 

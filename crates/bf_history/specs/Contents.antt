@@ -117,8 +117,8 @@ pub record Content : Type 0 where
   pub blobs : Blobs
 
 -- no commit, no ref and no blob
-abbrev pub nothing_furnished : Content
-nothing_furnished = record { history = nothing_loaded.history; blobs = [] }
+abbrev pub nothing_furnished : Limits → Content
+nothing_furnished limits = record { history = (nothing_loaded limits).history; blobs = [] }
 
 -- after these commands and this end of the stream
 unfoldable pub furnished : Limits → Blobs → Loading → List Command → Option StreamFault → Result Content ImportFault
@@ -130,7 +130,7 @@ furnished limits blobs loading (command ∷ commands) end =
 -- the bytes load this history with its blobs, or are refused so
 abbrev pub Furnishes : List ℕ → Limits → Result Content ImportFault → Type 0
 Furnishes bytes limits result =
-    (commands : List Command) × (end : Option StreamFault) × IsStream bytes limits commands end × (result ≡ furnished limits [] nothing_loaded commands end)
+    (commands : List Command) × (end : Option StreamFault) × IsStream bytes limits commands end × (result ≡ furnished limits [] (nothing_loaded limits) commands end)
 
 -- What an import with blobs may answer, where the source tells its bytes. A source that fails and want of memory may
 -- come anywhere.

@@ -24,7 +24,7 @@ LoadsFrom limits loading place result =
 
 -- the bytes load this history, or are refused so
 abbrev pub Loads : List ℕ → Limits → Result History ImportFault → Type 0
-Loads bytes limits result = LoadsFrom limits nothing_loaded (start_of limits.stream bytes) result
+Loads bytes limits result = LoadsFrom limits (nothing_loaded limits) (start_of limits.stream bytes) result
 
 -- What an import of the bytes of a source may answer, where the source tells them. A source that fails and want of
 -- memory may come anywhere.

@@ -34,7 +34,8 @@ use Rattle.bf_history.specs.Bodies.{commit_body, subject_of}
 use Rattle.bf_history.specs.Named.{value_of, with_value, without_value}
 
 -- The refs, in the order in which they were first set; of each commit, by place, its parents in the order given, its
--- files, its subject and its name; and the lists of files of all directories that a commit of the stream had, each once.
+-- files, its subject and its name; the lists of files of all directories that a commit of the stream had, each once; and
+-- whether the names are those that the commits had before they were exported.
 pub record History : Type 0 where
   pub refs : List (List ℕ × ℕ)
   pub parents : List (List ℕ)
@@ -42,6 +43,7 @@ pub record History : Type 0 where
   pub subjects : List (List ℕ)
   pub names : List Oid
   pub directories : List Files
+  pub original_names : Bool
 
 -- the history so far, and what the marks stand for
 pub record Loading : Type 0 where
@@ -49,9 +51,17 @@ pub record Loading : Type 0 where
   pub marks : List (ℕ × Marked)
 
 -- before the first command; the directory without files counts no entry
-abbrev pub nothing_loaded : Loading
-nothing_loaded = record {
-  history = record { refs = []; parents = []; files = []; subjects = []; names = []; directories = [] ∷ [] };
+abbrev pub nothing_loaded : Limits → Loading
+nothing_loaded limits = record {
+  history = record {
+    refs = [];
+    parents = [];
+    files = [];
+    subjects = [];
+    names = [];
+    directories = [] ∷ [];
+    original_names = limits.original_names;
+  };
   marks = [];
 }
 
@@ -170,6 +180,7 @@ stood history directories None commit = record {
   subjects = history.subjects ++ commit.subject ∷ [];
   names = history.names ++ commit.name ∷ [];
   directories = directories;
+  original_names = history.original_names;
 }
 
 unfoldable pub with_commit : History → Commit → History

@@ -28,7 +28,7 @@ no_source None own = own
 no_source (Some blobs) own = own
 
 nothing_yet : (limits : Limits) (start : Kept) (left : Option (List ℕ))
-    → LoadsOn limits start left (option_map (start_of limits.stream) left) start nothing_loaded
+    → LoadsOn limits start left (option_map (start_of limits.stream) left) start (nothing_loaded limits)
 nothing_yet limits start None = refl
 nothing_yet limits start (Some bytes) = (start_of limits.stream bytes, refl, λ result from. from)
 

@@ -42,10 +42,10 @@ import_of growth marks = record { loading = record { history = growth.history; m
 
 -- before the first command
 abbrev pub nothing_grown : Limits → Growing
-nothing_grown limits = record { history = nothing_loaded.history; limits = limits }
+nothing_grown limits = record { history = (nothing_loaded limits).history; limits = limits }
 
 abbrev pub nothing_imported : Limits → Importing
-nothing_imported limits = record { loading = nothing_loaded; limits = limits }
+nothing_imported limits = record { loading = nothing_loaded limits; limits = limits }
 
 -- the place is that of a commit of a history
 abbrev pub HasPlace : History → ℕ → Type 0

@@ -14,6 +14,7 @@ history_of g = record {
   subjects = g.subjects.items;
   names = g.names;
   directories = g.forest.trees;
+  original_names = g.limits.original_names;
 }
 
 abbrev pub growing_of : Inside → Growing

@@ -35,7 +35,7 @@ LoadsFrom limits kept loading place result =
 
 -- the bytes load so, from what is kept before them on
 abbrev pub Loads : List ℕ → Limits → Kept → Result Loaded ImportFault → Type 0
-Loads bytes limits start result = LoadsFrom limits start nothing_loaded (start_of limits.stream bytes) result
+Loads bytes limits start result = LoadsFrom limits start (nothing_loaded limits) (start_of limits.stream bytes) result
 
 -- what may be answered where the source tells its bytes; a source that fails and want of memory may come anywhere
 abbrev pub MayLoad : Option (List ℕ) → Limits → Kept → Result Loaded ImportFault → Type 0

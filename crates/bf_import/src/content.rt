@@ -1,6 +1,7 @@
 //! A history with the contents of its files.
 ghost use Rattle.std.specs.Prelude.{◌≡◌, IfOk, IsTrue};
 ghost use Rattle.bf_forest.specs.Files.{is_tree};
+ghost use Rattle.bf_grammar.specs.Limits.{standard_limits};
 ghost use Rattle.bf_history.specs.Contents.{IsFurnished, bytes_named, files_of, nothing_furnished, tree_of};
 
 use crate::growth::Growth;
@@ -50,7 +51,7 @@ impl Content {
 
     /// No commit and no blob.
     pub fn empty(alloc: Global) -> Result<Content, AllocError>
-        ensures { IfOk result (λ content. content ≡ nothing_furnished) }
+        ensures { IfOk result (λ content. content ≡ nothing_furnished standard_limits) }
     {
         let history = History::of(alloc, Growth::new(alloc, Limits::standard())?)?;
         Ok(Content::of(history, Blobs::new(alloc)))

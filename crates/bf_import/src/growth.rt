@@ -155,7 +155,8 @@ impl Growth {
 
     /// Whether each commit keeps the name that it had before it was exported.
     pub(crate) fn keeps_original_names(&self) -> bool
-        ensures { result ≡ self.now.limits.original_names }
+        ensures asked { result ≡ self.now.limits.original_names }
+        ensures told { result ≡ self.now.history.original_names }
     {
         self.limits.original_names
     }

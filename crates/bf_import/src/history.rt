@@ -105,6 +105,13 @@ impl History {
         &growth.refs
     }
 
+    /// Whether the names are those that the commits had before they were exported.
+    pub fn has_original_names(&self) -> bool
+        ensures { result ≡ self.now.original_names }
+    {
+        self.growth().keeps_original_names()
+    }
+
     /// The place of the commit with a name.
     pub fn place_named(&self, name: Oid) -> Option<u32>
         ensures value { result ≡ place_named self.now.names name }

@@ -95,7 +95,7 @@ fn imported<S: Source, C: Contents + Drop>(
     requires { IsWithin limits }
     ensures loads { let left = S.left source.old in
         MayLoad left limits (C.kept contents) (loaded_by C.kept result) }
-    ensures furnished { let before = IsFurnishedBy (C.kept contents) nothing_loaded in
+    ensures furnished { let before = IsFurnishedBy (C.kept contents) (nothing_loaded limits) in
         IfOk result (λ all. before → IsFurnishedBy (C.kept all.1) all.0.loading) }
     ensures rest { IfOk result (λ all. Leaves (S.left source.old) limits all.2 (S.left source.new)) }
     ensures cause { FailsOnlyAt (ImportFault.Stream StreamFault.Read)

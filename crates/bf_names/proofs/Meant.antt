@@ -1,5 +1,5 @@
 -- What is meant by a name or a range is never want of memory.
-use Rattle.std.proofs.Common.{◌≢◌, ℕ, ◌+◌, take, drop, codes, Bool, true, false, List, [], ◌∷◌, Option, Some, None, Result, Ok, Err, subst, if◌then◌else◌}
+use Rattle.std.proofs.Common.{◌≢◌, ℕ, ◌+◌, not, ◌&&◌, take, drop, codes, Bool, true, false, List, [], ◌∷◌, Option, Some, None, Result, Ok, Err, subst, if◌then◌else◌}
 use Rattle.std.specs.Option.{ok_or}
 use Rattle.bf_oid.specs.declared.object.Oid.{Oid}
 use Rattle.bf_oid.specs.Object.{oid_of_hex}
@@ -44,20 +44,22 @@ meant_only [] = tt
 meant_only (place ∷ []) = tt
 meant_only (place ∷ other ∷ places) = tt
 
-meant_digits : (names : List Oid) (base : List ℕ) → IsMeant (by_digits names base)
-meant_digits names base = meant_either (is_abbreviation base) (only_one (abbreviated names base)) (Err Unknown) (meant_only (abbreviated names base)) tt
+meant_digits : (history : History) (base : List ℕ) → IsMeant (by_digits history base)
+meant_digits history base =
+    meant_either (not history.original_names && is_abbreviation base) (only_one (abbreviated history.names base)) (Err Unknown)
+    (meant_only (abbreviated history.names base)) tt
 
-meant_ref : (names : List Oid) (base : List ℕ) (place : Option ℕ) → IsMeant (by_ref names base place)
-meant_ref names base (Some place) = tt
-meant_ref names base None = meant_digits names base
+meant_ref : (history : History) (base : List ℕ) (place : Option ℕ) → IsMeant (by_ref history base place)
+meant_ref history base (Some place) = tt
+meant_ref history base None = meant_digits history base
 
-meant_name : (refs : List (List ℕ × ℕ)) (names : List Oid) (base : List ℕ) (whole : Option Oid) → IsMeant (by_name refs names base whole)
-meant_name refs names base (Some found) = meant_or (place_named names found) Unknown tt
-meant_name refs names base None = meant_ref names base (first_set refs (meanings base))
+meant_name : (history : History) (base : List ℕ) (whole : Option Oid) → IsMeant (by_name history base whole)
+meant_name history base (Some found) = meant_or (place_named history.names found) Unknown tt
+meant_name history base None = meant_ref history base (first_set history.refs (meanings base))
 
-meant_base : (refs : List (List ℕ × ℕ)) (names : List Oid) (base : List ℕ) → IsMeant (place_of_base refs names base)
+meant_base : (history : History) (base : List ℕ) → IsMeant (place_of_base history base)
 unfolding place_of_base
-meant_base refs names base = meant_name refs names (spelled_out base) (oid_of_hex (spelled_out base))
+meant_base history base = meant_name history (spelled_out base) (oid_of_hex (spelled_out base))
 
 meant_walk : (graph : List (List ℕ)) (steps : List Step) (place : ℕ) → IsMeant (after_steps graph steps place)
 unfolding after_steps
@@ -68,8 +70,8 @@ meant_walk graph (step ∷ steps) place =
 
 meant_place : (history : History) (text : List ℕ) (steps : List Step) → IsMeant (place_of history text steps)
 meant_place history text steps =
-    meant_next (place_of_base history.refs history.names (base_of text)) (after_steps history.parents steps)
-    (meant_base history.refs history.names (base_of text)) (meant_walk history.parents steps)
+    meant_next (place_of_base history (base_of text)) (after_steps history.parents steps)
+    (meant_base history (base_of text)) (meant_walk history.parents steps)
 
 pub name_is_meant : (history : History) (text : List ℕ) → IsMeant (name history text)
 unfolding name

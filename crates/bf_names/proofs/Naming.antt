@@ -7,7 +7,7 @@ use Rattle.std.specs.Option.{ok_or}
 use Rattle.std.specs.Result.{IsErrAnd}
 use Rattle.bf_oid.specs.declared.object.Oid.{Oid}
 use Rattle.bf_oid.specs.Object.{oid_of_hex}
-use Rattle.bf_history.specs.Meanings.{place_named, ref_in}
+use Rattle.bf_history.specs.Meanings.{History, place_named, ref_in}
 use Rattle.bf_history.specs.Named.{value_of}
 use Rattle.bf_names.specs.declared.fault.NameFault.{NameFault}
 use Rattle.bf_names.specs.declared.fault.NameFault.TheVariants.{Unknown, Ambiguous, NoParent, BadForm, NoMemory}
@@ -48,19 +48,19 @@ means_then {X} result meant next x is means = subst (λ (m : Result X NameFault)
 
 -- ---- the base
 
-pub place_of_base-name : (refs : List (List ℕ × ℕ)) (names : List Oid) (base spelled : List ℕ) (name : Oid) → spelled ≡ spelled_out base
+pub place_of_base-name : (history : History) (base spelled : List ℕ) (name : Oid) → spelled ≡ spelled_out base
     → Some name ≡ oid_of_hex spelled
-    → place_of_base refs names base ≡ ok_or (place_named names name) Unknown
+    → place_of_base history base ≡ ok_or (place_named history.names name) Unknown
 unfolding place_of_base
-place_of_base-name refs names base spelled name is digits =
-    ap (place_spelled refs names) (sym is) ∙ ap (λ (o : Option Oid). by_name refs names spelled o) (sym digits)
+place_of_base-name history base spelled name is digits =
+    ap (place_spelled history) (sym is) ∙ ap (λ (o : Option Oid). by_name history spelled o) (sym digits)
 
-pub place_of_base-ref : (refs : List (List ℕ × ℕ)) (names : List Oid) (base spelled : List ℕ) (place : Option ℕ)
-    → spelled ≡ spelled_out base → None ≡ oid_of_hex spelled
-    → place ≡ first_set refs (meanings spelled) → place_of_base refs names base ≡ by_ref names spelled place
+pub place_of_base-ref : (history : History) (base spelled : List ℕ) (place : Option ℕ) → spelled ≡ spelled_out base
+    → None ≡ oid_of_hex spelled → place ≡ first_set history.refs (meanings spelled)
+    → place_of_base history base ≡ by_ref history spelled place
 unfolding place_of_base
-place_of_base-ref refs names base spelled place is other set =
-    ap (place_spelled refs names) (sym is) ∙ ap (λ (o : Option Oid). by_name refs names spelled o) (sym other) ∙ ap (by_ref names spelled) (sym set)
+place_of_base-ref history base spelled place is other set =
+    ap (place_spelled history) (sym is) ∙ ap (λ (o : Option Oid). by_name history spelled o) (sym other) ∙ ap (by_ref history spelled) (sym set)
 
 -- ---- a ref leads to a commit of the history
 

@@ -14,7 +14,7 @@ use Rattle.bf_names.specs.Names.{right_steps}
 use Rattle.bf_names.specs.Order.{compared, lowered, spelled}
 
 abbrev history_with : List (List ℕ × ℕ) → List (List ℕ) → List Oid → History
-history_with refs parents names = record { refs = refs; parents = parents; files = []; subjects = []; names = names; directories = [] }
+history_with refs parents names = record { refs = refs; parents = parents; files = []; subjects = []; names = names; directories = []; original_names = false }
 
 abbrev named : List ℕ → Oid
 named text = elim (oid_of_hex text) [ Some oid ↦ oid | None ↦ record { 0 = [] } ]
@@ -100,6 +100,19 @@ names_on_the_merge_hold : Hold (name merge) names_on_the_merge
 unfolding name steps_of step_texts steps_written step_of place_of_base abbreviated ancestor after_steps
     decode_pairs encode_with decimal_value
 names_on_the_merge_hold = refl
+
+-- names that the commits of the line had before they were exported: nothing abbreviates these
+abbrev names_kept : List (List ℕ × Result ℕ NameFault)
+names_kept =
+    (codes "main", Ok 7)
+    ∷ (codes "2a83eb5", Err Unknown)
+    ∷ (codes "2a83eb598262042db81ddad6b0c3b6c0d200c521^", Ok 1)
+    ∷ []
+
+names_kept_hold : Hold (name (record line { original_names = true })) names_kept
+unfolding name steps_of step_texts steps_written step_of place_of_base abbreviated ancestor after_steps
+    decode_pairs encode_with decimal_value
+names_kept_hold = refl
 
 -- ranges on the line, by place
 abbrev ranges_on_the_line : List (List ℕ × Result (List Bool) NameFault)

@@ -101,7 +101,7 @@ abbrev pub first_set : List (List ℕ × ℕ) → List (List ℕ) → Option ℕ
 first_set refs [] = None
 first_set refs (name ∷ names) = or_else (ref_in refs name) (first_set refs names)
 
--- 4 to 39 hexadecimal digits may abbreviate the name of a commit
+-- 4 to 39 hexadecimal digits may abbreviate the name of a commit; nothing abbreviates one from before it was exported
 abbrev pub is_abbreviation : List ℕ → Bool
 is_abbreviation base = nat_le 4 (length base) && nat_le (length base) 39 && list_all is_ascii_hexdigit base
 
@@ -120,27 +120,28 @@ only_one [] = Err Unknown
 only_one (place ∷ []) = Ok place
 only_one places = Err (Ambiguous (length places))
 
-abbrev pub by_digits : List Oid → List ℕ → Result ℕ NameFault
-by_digits names base = if is_abbreviation base then only_one (abbreviated names base) else Err Unknown
+abbrev pub by_digits : History → List ℕ → Result ℕ NameFault
+by_digits history base =
+    if not history.original_names && is_abbreviation base then only_one (abbreviated history.names base) else Err Unknown
 
-abbrev pub by_ref : List Oid → List ℕ → Option ℕ → Result ℕ NameFault
-by_ref names base (Some place) = Ok place
-by_ref names base None = by_digits names base
+abbrev pub by_ref : History → List ℕ → Option ℕ → Result ℕ NameFault
+by_ref history base (Some place) = Ok place
+by_ref history base None = by_digits history base
 
 -- 40 digits name a commit alone; any other base may name a ref, and else abbreviate the name of a commit
-abbrev pub by_name : List (List ℕ × ℕ) → List Oid → List ℕ → Option Oid → Result ℕ NameFault
-by_name refs names base (Some name) = ok_or (place_named names name) Unknown
-by_name refs names base None = by_ref names base (first_set refs (meanings base))
+abbrev pub by_name : History → List ℕ → Option Oid → Result ℕ NameFault
+by_name history base (Some name) = ok_or (place_named history.names name) Unknown
+by_name history base None = by_ref history base (first_set history.refs (meanings base))
 
 -- `@` alone means `HEAD`
 abbrev pub spelled_out : List ℕ → List ℕ
 spelled_out base = if pointwise ◌==◌ base (codes "@") then codes "HEAD" else base
 
-abbrev pub place_spelled : List (List ℕ × ℕ) → List Oid → List ℕ → Result ℕ NameFault
-place_spelled refs names base = by_name refs names base (oid_of_hex base)
+abbrev pub place_spelled : History → List ℕ → Result ℕ NameFault
+place_spelled history base = by_name history base (oid_of_hex base)
 
-unfoldable pub place_of_base : List (List ℕ × ℕ) → List Oid → List ℕ → Result ℕ NameFault
-place_of_base refs names base = place_spelled refs names (spelled_out base)
+unfoldable pub place_of_base : History → List ℕ → Result ℕ NameFault
+place_of_base history base = place_spelled history (spelled_out base)
 
 -- ---- the steps from there
 
@@ -167,7 +168,7 @@ after_steps graph (step ∷ steps) place = ok_or (after_step graph step place) N
 -- the commit that a text and its steps mean
 abbrev pub place_of : History → List ℕ → List Step → Result ℕ NameFault
 place_of history text steps =
-    place_of_base history.refs history.names (base_of text) >>= after_steps history.parents steps
+    place_of_base history (base_of text) >>= after_steps history.parents steps
 
 -- The place of the commit that a name means, or how it is refused: first for its form, then for its base, then for a
 -- step.

@@ -21,7 +21,7 @@ pub(crate) fn place_of_base(
     base: &[u8],
 ) -> Result<u32, NameFault>
     requires { IfSome order (λ order. IsOrderOf history.now.names order.now) }
-    ensures value { Means result (place_of_base history.now.refs history.now.names base.now) }
+    ensures value { Means result (place_of_base history.now base.now) }
     ensures within { IfOk result (λ place. place < length history.now.parents) }
 {
     let base = spelled_out(base);

@@ -18,8 +18,9 @@ const FEWEST_DIGITS: usize = 4;
 
 const MOST_DIGITS: usize = 39;
 
-/// The place of the only commit of a history whose name begins with these digits. Where the order of the
-/// names is given they are found in it by binary search, else all names are looked at, once each.
+/// The place of the only commit of a history whose name begins with these digits; original names are not
+/// abbreviated. Where the order of the names is given they are found in it by binary search, else all
+/// names are looked at, once each.
 pub(crate) fn place_by_digits(
     alloc: Global,
     history: &History,
@@ -27,10 +28,10 @@ pub(crate) fn place_by_digits(
     digits: &[u8],
 ) -> Result<u32, NameFault>
     requires { IfSome order (λ order. IsOrderOf history.now.names order.now) }
-    ensures value { Means result (by_digits history.now.names digits.now) }
+    ensures value { Means result (by_digits history.now digits.now) }
     ensures within { IfOk result (λ place. place < length history.now.parents) }
 {
-    if !is_abbreviation(digits) {
+    if history.has_original_names() || !is_abbreviation(digits) {
         return Err(NameFault::Unknown);
     }
     // What the names tell is needed: there are as many as commits.

@@ -323,12 +323,12 @@ loaded_whole limits loading (c ∷ commands) end s =
     behind (after_command limits loading c) (λ next. loaded limits next commands end) (command_sound limits loading c s)
     (λ next sound. loaded_whole limits next commands end sound)
 
-nothing_sound : IsSound nothing_loaded
-nothing_sound = record { whole = record { graph = IsGraph-nil; counted = refl; refs = tt }; marks = tt }
+nothing_sound : (limits : Limits) → IsSound (nothing_loaded limits)
+nothing_sound limits = record { whole = record { graph = IsGraph-nil; counted = refl; refs = tt }; marks = tt }
 
 -- what a stream loads is whole
 pub whole_loaded : (limits : Limits) (commands : List Command) (end : Option StreamFault) (history : History)
-    → loaded limits nothing_loaded commands end ≡ Ok history → IsWhole history
+    → loaded limits (nothing_loaded limits) commands end ≡ Ok history → IsWhole history
 whole_loaded limits commands end history is =
     let P : Result History ImportFault → Type 0 = λ result. IfOk result IsWhole in
-    subst P is (loaded_whole limits nothing_loaded commands end nothing_sound)
+    subst P is (loaded_whole limits (nothing_loaded limits) commands end (nothing_sound limits))

@@ -52,15 +52,15 @@ pub one_loading : (bytes : List ℕ) (limits : Limits) (one other : Result Histo
 one_loading bytes limits one other (commands, end, goes, is) (others, last, also, gives) =
     let same = one_continuation limits commands others end last (start_of limits.stream bytes) goes also in
     is
-    ∙ ap (λ (cs : List Command). loaded limits nothing_loaded cs end) same.0
-    ∙ ap (λ (e : Option StreamFault). loaded limits nothing_loaded others e) same.1
+    ∙ ap (λ (cs : List Command). loaded limits (nothing_loaded limits) cs end) same.0
+    ∙ ap (λ (e : Option StreamFault). loaded limits (nothing_loaded limits) others e) same.1
     ∙ sym gives
 
 pub some_loading : (bytes : List ℕ) (limits : Limits) → (result : Result History ImportFault) × Loads bytes limits result
 some_loading bytes limits =
     let place = start_of limits.stream bytes in
     let (commands, end, goes) = some_continuation limits (suc (length place.rest)) place (omega arith) in
-    (loaded limits nothing_loaded commands end, (commands, end, goes, refl))
+    (loaded limits (nothing_loaded limits) commands end, (commands, end, goes, refl))
 
 -- ---- over a history
 

@@ -139,20 +139,20 @@ module _ (history : History) (w : IsWhole history) where
       All-filter _ IsPlace (range_with_len 0 (length history.names))
       (subst (λ n. All (λ p. p < n) (range_with_len 0 (length history.names))) (sym w.counted) (range_within (length history.names)))
 
-  digits_below : (base : List ℕ) → IfOk (by_digits history.names base) IsPlace
+  digits_below : (base : List ℕ) → IfOk (by_digits history base) IsPlace
   digits_below base =
-      cond_ok IsPlace (is_abbreviation base) (only_one (abbreviated history.names base)) (Err Unknown)
+      cond_ok IsPlace (not history.original_names && is_abbreviation base) (only_one (abbreviated history.names base)) (Err Unknown)
       (only_below (length history.parents) (abbreviated history.names base) (abbreviated_below base)) tt
 
-  ref_below : (base : List ℕ) (o : Option ℕ) → IfSome o IsPlace → IfOk (by_ref history.names base o) IsPlace
+  ref_below : (base : List ℕ) (o : Option ℕ) → IfSome o IsPlace → IfOk (by_ref history base o) IsPlace
   ref_below base (Some p) h = h
   ref_below base None h = digits_below base
 
-  spelled_below : (base : List ℕ) (whole : Option Oid) → IfOk (by_name history.refs history.names base whole) IsPlace
+  spelled_below : (base : List ℕ) (whole : Option Oid) → IfOk (by_name history base whole) IsPlace
   spelled_below base (Some found) = some_ok IsPlace (place_named history.names found) Unknown (named_below history found w)
   spelled_below base None = ref_below base (first_set history.refs (meanings base)) (set_below (meanings base))
 
-  base_below : (base : List ℕ) → IfOk (place_of_base history.refs history.names base) IsPlace
+  base_below : (base : List ℕ) → IfOk (place_of_base history base) IsPlace
   unfolding place_of_base
   base_below base = spelled_below (spelled_out base) (oid_of_hex (spelled_out base))
 
@@ -162,7 +162,7 @@ module _ (history : History) (w : IsWhole history) where
   name_below text =
       then_ok (AllLead history.parents w.graph (after_steps history.parents)) IsPlace (steps_of text) (place_of history text)
       (written_lead history.parents w.graph text)
-      (λ steps lead. then_ok IsPlace IsPlace (place_of_base history.refs history.names (base_of text)) (after_steps history.parents steps)
+      (λ steps lead. then_ok IsPlace IsPlace (place_of_base history (base_of text)) (after_steps history.parents steps)
       (base_below (base_of text)) lead)
 
   -- ---- ranges

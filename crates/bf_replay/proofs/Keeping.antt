@@ -251,8 +251,8 @@ loaded_kept limits loading (c ∷ commands) end k =
     behind (after_command limits loading c) (λ next. loaded limits next commands end) (command_kept limits loading c k)
     (λ next kept. loaded_kept limits next commands end kept)
 
-pub nothing_kept : IsKept nothing_loaded.history
-nothing_kept = record {
+pub nothing_kept : (limits : Limits) → IsKept (nothing_loaded limits).history
+nothing_kept limits = record {
   counted = refl;
   one_line = All-nil IsOneLine;
   whole = All-nil IsWholeName;

@@ -162,10 +162,10 @@ some_digits bytes long =
     let forty : length (encode_lower bytes) ≡ 40 = omega (arith, length-encode_with lower_digits bytes, long) in
     ap (λ n. n == 0) forty
 
-place_of_digits : (refs : List (List ℕ × ℕ)) (names : List Oid) (text : List ℕ) (oid : Oid) → spelled_out text ≡ text → oid_of_hex text ≡ Some oid
-    → place_of_base refs names text ≡ ok_or (place_named names oid) Unknown
+place_of_digits : (history : History) (text : List ℕ) (oid : Oid) → spelled_out text ≡ text → oid_of_hex text ≡ Some oid
+    → place_of_base history text ≡ ok_or (place_named history.names oid) Unknown
 unfolding place_of_base
-place_of_digits refs names text oid is digits = ap (place_spelled refs names) is ∙ ap (λ (o : Option Oid). by_name refs names text o) digits
+place_of_digits history text oid is digits = ap (place_spelled history) is ∙ ap (λ (o : Option Oid). by_name history text o) digits
 
 -- the digits of a whole name mean the commit that it leads to
 pub digits_mean : (history : History) (oid : Oid) (p : ℕ) → IsWholeName oid → place_named history.names oid ≡ Some p
@@ -174,9 +174,9 @@ unfolding name after_steps
 digits_mean history oid p whole found =
     let digits = hex_digits oid.0 in
     ap (λ steps. steps >>= place_of history (encode_lower oid.0)) (no_steps_of (encode_lower oid.0) digits (some_digits oid.0 whole.long))
-    ∙ ap (λ base. place_of_base history.refs history.names base >>= after_steps history.parents []) (whole_base (encode_lower oid.0) digits)
+    ∙ ap (λ base. place_of_base history base >>= after_steps history.parents []) (whole_base (encode_lower oid.0) digits)
     ∙ ap (λ place. place >>= after_steps history.parents [])
-    (place_of_digits history.refs history.names (encode_lower oid.0) oid (same_spelled oid.0)
+    (place_of_digits history (encode_lower oid.0) oid (same_spelled oid.0)
     (oid_of_hex-encode_lower oid.0 whole.long whole.bytes)
     ∙ ap (λ place. ok_or place Unknown) found)
 

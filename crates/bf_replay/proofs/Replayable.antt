@@ -31,7 +31,7 @@ use Rattle.bf_replay.proofs.Naming.{digits_mean, bytes_at}
 pub history_kept : (history : History) → IsLoaded history → IsKept history
 history_kept history (limits, commands, end, is) =
     let P : Result History ImportFault → Type 0 = λ result. IfOk result IsKept in
-    subst P is (loaded_kept limits nothing_loaded commands end nothing_kept)
+    subst P is (loaded_kept limits (nothing_loaded limits) commands end (nothing_kept limits))
 
 line_at : (subjects : List (List ℕ)) → All IsOneLine subjects → (p : ℕ) → has_no_end (get_or subjects p []) ≡ true
 line_at subjects lines p =

@@ -24,7 +24,7 @@ use Rattle.bf_terms.specs.Texts.{Known, Sides, nothing_known, log, log_from}
 -- the commands of a stream lead to this history
 abbrev pub IsLoaded : History → Type 0
 IsLoaded history = (limits : Limits) × (commands : List Command) × (end : Option StreamFault)
-    × (loaded limits nothing_loaded commands end ≡ Ok history)
+    × (loaded limits (nothing_loaded limits) commands end ≡ Ok history)
 
 -- Every loaded history is kept so.
 abbrev pub HistoriesAreKept : Type 0

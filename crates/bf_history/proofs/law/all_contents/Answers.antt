@@ -10,4 +10,4 @@ use Rattle.bf_history.proofs.law.all_contents.Goals as goal
 pub returns : goal.returns
 returns c = λ bytes limits content (commands, end, goes, is).
     subst (λ (r : Result Content ImportFault). IfOk r IsWhole) (sym is)
-    (all_there limits [] nothing_loaded commands end nothing_lacks (All-nil IsNamed))
+    (all_there limits [] (nothing_loaded limits) commands end (nothing_lacks limits) (All-nil IsNamed))

@@ -10,11 +10,11 @@ pub returns-in-Some-clause-value : goal.returns-in-Some-clause-value
 returns-in-Some-clause-value c =
     means_same c.ok_or.result _
     (c.ok_or.ensures.value ∙ ap (λ o. ok_or o Unknown) c.place_named.ensures.value
-    ∙ sym (place_of_base-name _ _ _ _ _ c.spelled_out-base.ensures c.in-Some.ensures.value))
+    ∙ sym (place_of_base-name _ _ _ _ c.spelled_out-base.ensures c.in-Some.ensures.value))
 
 pub returns-in-Some-2-clause-value : goal.returns-in-Some-2-clause-value
 returns-in-Some-2-clause-value c =
-    place_of_base-ref _ _ _ _ (Some c.in-Some-2.place) c.spelled_out-base.ensures c.in_default.ensures.value
+    place_of_base-ref _ _ _ (Some c.in-Some-2.place) c.spelled_out-base.ensures c.in_default.ensures.value
     (sym c.in-Some-2.is ∙ c.in_ok-place.ensures ∙ ap (λ refs. first_set refs (meanings c.spelled_out-base.result.now)) c.refs.ensures.value)
 
 pub returns-in-Some-2-clause-within : goal.returns-in-Some-2-clause-within
@@ -24,6 +24,6 @@ returns-in-Some-2-clause-within c =
 pub returns-in-None-clause-value : goal.returns-in-None-clause-value
 returns-in-None-clause-value c =
     subst (λ (meant : Result ℕ NameFault). Means c.place_by_digits.result meant)
-    (sym (place_of_base-ref _ _ _ _ None c.spelled_out-base.ensures c.in_default.ensures.value
+    (sym (place_of_base-ref _ _ _ None c.spelled_out-base.ensures c.in_default.ensures.value
     (sym c.in-None.is ∙ c.in_ok-place.ensures ∙ ap (λ refs. first_set refs (meanings c.spelled_out-base.result.now)) c.refs.ensures.value)))
     c.place_by_digits.ensures.value
