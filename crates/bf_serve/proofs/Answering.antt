@@ -1,5 +1,5 @@
 -- What a line is answered, and the file that it may name.
-use Rattle.std.proofs.Common.{◌≡◌, ◌≢◌, ◌⊎◌, inl, inr, ℕ, ◌<◌, ◌≤◌, Bool, true, false, cond, List, ◌++◌, length, Option, Some, None, Result, Ok, Err, refl, sym, ap, subst, ◌∙◌}
+use Rattle.std.proofs.Common.{◌≡◌, ◌≢◌, ◌⊎◌, inl, inr, ℕ, ◌<◌, ◌≤◌, Bool, true, false, cond, List, ◌++◌, length, Option, Some, None, Result, Ok, Err, refl, sym, ap, subst, ◌∙◌, OnOk}
 use Rattle.std.specs.Prelude.{nat_lt}
 use Rattle.std.specs.Option.{option_map, unwrap_or}
 use Rattle.bf_begin.specs.declared.file.LogFile.{LogFile}
@@ -193,3 +193,11 @@ is_given (Some all) before now words (Some i) (Some x) h = record {
   where
     some_given : {a b : Result (List ℕ) LoadFault} → Some a ≡ Some b → a ≡ b
     some_given e = cc e
+
+-- a request that asks for no file, where it was answered
+pub answered_ok : {X E : Type 0} (files : Option (List ShelfFile)) (before now : ℕ) (line : List ℕ) (words : List (List ℕ)) (r : Result Asked Refusal)
+    (s new : Session) (text after : List ℕ) (result : Result X E) → words ≡ words_in line → asked_by words ≡ r
+    → ((file : Result (List ℕ) LoadFault) → OnOk result (Serves (turn_as s.history.now file (searches_in s) words r) s new text after))
+    → OnOk result (Answers files before now line s new text after)
+answered_ok files before now line words r s new text after (Ok x) parted asks h = answered files before now line words r s new text after parted asks h
+answered_ok files before now line words r s new text after (Err e) parted asks h = tt

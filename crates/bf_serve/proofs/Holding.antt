@@ -1,16 +1,24 @@
 -- The claim of a worker: what is found stands.
-use Rattle.std.proofs.Common.{◌≡◌, ℕ, suc, ◌+◌, ◌<◌, Bool, true, false, cond, ◌&&◌, ◌||◌, ◌==◌, List, [], ◌∷◌, length, Option, Some, None, refl, sym, ap, ◌∙◌, eq-eqb, arith}
+use Rattle.std.proofs.Common.{◌≡◌, ℕ, suc, ◌+◌, ◌<◌, Bool, true, false, cond, ◌&&◌, ◌||◌, ◌==◌, List, [], ◌∷◌, length, Option, Some, None, refl, sym, ap, ◌∙◌}
+use Rattle.std.proofs.Common.{eq-eqb, arith, subst}
 use Rattle.std.proofs.lemmas.List.{length-map}
 use Rattle.std.proofs.lemmas.Option.{slice_get_within}
 use Rattle.std.specs.List.{slice_get}
 use Rattle.std.specs.Option.{option_map_or}
-use Rattle.bf_core.specs.Machine.{Machine}
+use Rattle.bf_core.specs.Machine.{Machine, IsConsumed}
 use Rattle.bf_many.specs.declared.answers.Held.{Held}
 use Rattle.bf_many.specs.Cores.{is_claimed, machine_of, machines_of}
 use Rattle.bf_many.specs.Many.{FarmMachine, held_by, held_from, held_or, tested_by}
 use Rattle.bf_many.proofs.Picking.{core_of}
 use Rattle.bf_search.specs.declared.farm.Claim.{Claim}
 use Rattle.bf_search.specs.Farm.{stands}
+use Rattle.bf_search.specs.State.{IsSearchOver}
+use Rattle.bf_state.specs.Session.{IsSearchBelow, Session as Standing}
+use Rattle.bf_serve.specs.declared.session.Session.{Session}
+use Rattle.bf_serve.specs.Steps.{IsServing}
+use Rattle.bf_serve.proofs.Running.{state_over}
+use Rattle.bf_serve.proofs.Sessions.{over_at}
+use Rattle.bf_graph.specs.Graph.{IsGraph}
 
 some_place : {x y : ℕ} → Some x ≡ Some y → x ≡ y
 some_place e = cc e
@@ -89,3 +97,12 @@ held_below cores worker held h =
     let l : held.search < length (machines_of cores) = slice_get_within (machines_of cores) held.search found.0 found.1 in
     let long : length (machines_of cores) ≡ length cores = length-map cores machine_of in
     omega (arith, l, long)
+
+-- ---- the core of a search of a session has a place for each commit
+
+pub same_len : (s : Session) (k : ℕ) (core : Machine) (state : Standing) → IsServing s → slice_get s.many k ≡ Some core → IsConsumed core
+    → state ≡ core.state → IsSearchBelow state.len state.search → length s.reach.now ≡ state.len
+same_len s k core state is at consumed same below =
+    let over : IsSearchOver s.reach.now state.search
+    = state_over s.reach.now core state (subst IsGraph (sym is.reach) is.parents) (over_at s k core is at) consumed same in
+    sym over.skips ∙ below.skips

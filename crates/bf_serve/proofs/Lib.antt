@@ -15,10 +15,6 @@ pub mod Posting
 pub mod Learning
 pub mod Certifying
 pub mod Answering
-pub mod MoreStarts
-pub mod MoreLearning
-pub mod MoreOpenings
-pub mod MoreCores
 pub mod LawsAsking
 pub mod LawsNeedless
 pub mod LawsKeeping

@@ -1,5 +1,6 @@
 -- What a search that begins leaves, and words that stand for one.
-use Rattle.std.proofs.Common.{◌≡◌, ℕ, zero, suc, ◌+◌, ◌<◌, ◌≤◌, Bool, List, [], ◌∷◌, ◌++◌, length, map, All, replicate, Option, Some, None, Result, Ok, Err, refl, sym, ap, subst, ◌∙◌, arith}
+use Rattle.std.proofs.Common.{◌≡◌, ℕ, zero, suc, ◌+◌, ◌<◌, ◌≤◌, Bool, List, [], ◌∷◌, ◌++◌, length, map, All, replicate, Option, Some, None, Result, Ok, Err}
+use Rattle.std.proofs.Common.{refl, sym, ap, subst, ◌∙◌, arith}
 use Rattle.std.proofs.lemmas.Bool.{cond-true, cond-false, le-ltb, lt-ltb}
 use Rattle.std.proofs.lemmas.List.{length-append, length-map}
 use Rattle.std.proofs.lemmas.List.Elements.{All-push}
@@ -218,3 +219,18 @@ served_not_started s file words asks told before after is begins text =
     as_turn (begun_as s.history.now file (searches_in s) words (Ok asks)) (refused (searches_in s) told.text) s s before after
     (ap (begun_or_refused s.history.now (searches_in s) asks.lenient) begins)
     (served_refused s told.text before after is text)
+
+-- ---- what a search that is added leaves, as the calls have it
+
+pub added_is : (s : Session) (many : List Machine) (x : Search) (len : ℕ) → IsServing s → machines_of many ≡ machines_of s.many ++ start_of s.reach.now x ∷ []
+    → x.table ≡ replicate len None → len ≡ length s.history.now.parents
+    → machines_of many ≡ machines_of s.many ++ machine_at_start s.history.now.parents x.state.search ∷ []
+added_is s many x len is added fresh long =
+    added ∙ ap (λ (m : FarmMachine). machines_of s.many ++ m ∷ []) (started_as s.reach.now s.history.now.parents x len is.reach fresh long)
+
+pub over_added : (s : Session) (many : List Machine) (first : Begun) (n : ℕ) (core : Machine) → IsServing s
+    → machines_of many ≡ machines_of s.many ++ machine_at_start s.history.now.parents first.search ∷ [] → n ≡ length s.openings.items
+    → slice_get many n ≡ Some core → IsSearchOver s.history.now.parents first.search → IsOver s.reach.now (machine_of core)
+over_added s many first n core is added number at over =
+    over_begun s.reach.now s.history.now.parents core first
+    (begun_core s many (machine_at_start s.history.now.parents first.search) n core is added number at) is.reach over

@@ -1,9 +1,10 @@
 -- Lists of numbers in strictly ascending order: two with the same members are one.
-use Rattle.std.proofs.Common.{◌≡◌, ⊎_elim, ℕ, suc, ◌<◌, ◌≤◌, Bool, true, false, cond, ◌||◌, ◌==◌, List, [], ◌∷◌, length, filter, get_or, refl, sym, ap, subst, ◌∙◌, eqb-true, eq-eqb, arith}
+use Rattle.std.proofs.Common.{◌≡◌, ⊎_elim, ℕ, suc, ◌<◌, ◌≤◌, Bool, true, false, cond, ◌||◌, ◌==◌, All, List, [], ◌∷◌, length, filter, get_or, refl, sym, ap, subst, ◌∙◌, eqb-true, eq-eqb, arith}
 use Rattle.std.proofs.lemmas.Bool.{both_ways, cases_order, ltb-true, ltb-false}
 use Rattle.std.proofs.lemmas.List.Folds.{list_any_at}
 use Rattle.std.specs.Prelude.{nat_lt}
-use Rattle.std.proofs.lemmas.List.Kept.{AllPairs-from_increasing}
+use Rattle.std.proofs.lemmas.List.Elements.{All-cons, All-nil}
+use Rattle.std.proofs.lemmas.List.Kept.{AllPairs-cons, AllPairs-from_increasing}
 use Rattle.std.specs.List.{list_any, AllPairs, Contains}
 use Rattle.std.specs.List.Sorted.{IsStrictlyIncreasing}
 use Rattle.bf_serve.specs.Searches.{ascending, with_worker}
@@ -37,6 +38,14 @@ rises_pairs (x ∷ xs) h = (
 
 pub rises_of : (xs : List ℕ) → IsStrictlyIncreasing xs → Rises xs
 rises_of xs h = rises_pairs xs (AllPairs-from_increasing xs h)
+
+above_all : (x : ℕ) (ys : List ℕ) → Above x ys → All (λ y. x < y) ys
+above_all x [] h = All-nil (λ y. x < y)
+above_all x (y ∷ ys) h = All-cons (λ y. x < y) y ys h.0 (above_all x ys h.1)
+
+pub pairs_rise : (xs : List ℕ) → Rises xs → AllPairs (λ x y. x < y) xs
+pairs_rise [] h = λ i j d l m. absurd (omega (arith, m))
+pairs_rise (x ∷ xs) h = AllPairs-cons (λ x y. x < y) x xs (above_all x xs h.0) (pairs_rise xs h.1)
 
 -- a number that is no greater is none of them
 differs : (y w : ℕ) (b : Bool) → (y == w) ≡ b → w < y → b ≡ false

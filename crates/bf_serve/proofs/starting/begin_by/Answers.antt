@@ -1,6 +1,6 @@
 use Rattle.std.proofs.Common.{Err, ap, ◌∙◌}
 use Rattle.bf_answers.specs.declared.answer.Fault.{Fault}
-use Rattle.bf_serve.proofs.MoreStarts.{begun_from, begun_memory, begun_no_memory, begun_without}
+use Rattle.bf_serve.proofs.Starts.{begun_from, begun_memory, begun_no_memory, begun_without}
 use Rattle.bf_serve.proofs.starting.begin_by.Goals as goal
 
 pub returns-in_err-file_fault-in-Err-Shelf-clause-step :

@@ -1,7 +1,7 @@
 use Rattle.std.proofs.Common.{Ok, refl, sym, ap, ◌∙◌, arith}
 use Rattle.bf_protocol.specs.declared.request.Asked.{Asked}
 use Rattle.bf_serve.proofs.Answering.{answered_refused, answered_search}
-use Rattle.bf_serve.proofs.MoreOpenings.{answered_ok}
+use Rattle.bf_serve.proofs.Answering.{answered_ok}
 use Rattle.bf_serve.proofs.Texts.{on_ok}
 use Rattle.bf_serve.proofs.session.Session.answer.Goals as goal
 

@@ -5,7 +5,7 @@ use Rattle.bf_cert.specs.Lines.{cert_text}
 use Rattle.bf_protocol.specs.Events.{Certified, reply_text}
 use Rattle.bf_search.specs.declared.farm.Ending.{Ending}
 use Rattle.bf_serve.proofs.Certifying.{core_found, served_certified}
-use Rattle.bf_serve.proofs.MoreCores.{same_len}
+use Rattle.bf_serve.proofs.Holding.{same_len}
 use Rattle.bf_serve.proofs.Sessions.{over_at}
 use Rattle.bf_serve.proofs.Texts.{on_ok}
 use Rattle.bf_serve.proofs.session.Session.certificate.Goals as goal

@@ -1,5 +1,5 @@
 use Rattle.std.proofs.Common.{sym, ◌∙◌, arith}
-use Rattle.bf_serve.proofs.MoreLearning.{served_no_word, served_number}
+use Rattle.bf_serve.proofs.Learning.{served_no_word, served_number}
 use Rattle.bf_serve.proofs.Texts.{on_ok}
 use Rattle.bf_serve.proofs.session.Session.learn.Goals as goal
 

@@ -3,7 +3,7 @@ use Rattle.std.proofs.lemmas.Option.{slice_get_read}
 use Rattle.bf_many.specs.Cores.{machine_of}
 use Rattle.bf_serve.specs.Searches.{learned}
 use Rattle.bf_serve.proofs.Learning.{free_in}
-use Rattle.bf_serve.proofs.MoreLearning.{served_learnt}
+use Rattle.bf_serve.proofs.Learning.{served_learnt}
 use Rattle.bf_serve.proofs.Moving.{knows_learned}
 use Rattle.bf_serve.proofs.Sessions.{can_tell, idle_at, learnt, left_read, now_at}
 use Rattle.bf_serve.proofs.Texts.{on_ok}

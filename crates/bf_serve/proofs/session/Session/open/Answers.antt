@@ -5,7 +5,7 @@ use Rattle.bf_many.proofs.Picking.{all_at}
 use Rattle.bf_runs.proofs.Sequences.{over_graph}
 use Rattle.bf_state.specs.Session.{IsSearchBelow, Session as Standing}
 use Rattle.bf_serve.specs.declared.opening.Opening.{Opening}
-use Rattle.bf_serve.proofs.MoreOpenings.{added_is, over_added}
+use Rattle.bf_serve.proofs.Openings.{added_is, over_added}
 use Rattle.bf_serve.proofs.Openings.{served_begun}
 use Rattle.bf_serve.proofs.Texts.{on_ok}
 use Rattle.bf_serve.proofs.session.Session.open.Goals as goal
