@@ -40,7 +40,19 @@ test_lint() {
     for script in bin/git-farmdawn model/farmdawn; do expect 'shellcheck' shellcheck -o all "$script"; done
 }
 
+needs_types() { has mypy; }
+test_types() {
+    cd "$top/driver" || exit 1
+    expect 'mypy --strict' mypy --no-error-summary --cache-dir "$work/mypy"
+}
+
+needs_style() { has flake8; }
+test_style() {
+    cd "$top/driver" || exit 1
+    expect 'flake8' flake8
+}
+
 by_clock="$apart random ends_random several_random several_page loop history"
 # shellcheck disable=SC2086 # names without blanks
-[ $# -gt 0 ] || set -- $apart $modules all_named lint
+[ $# -gt 0 ] || set -- $apart $modules all_named lint types style
 run_tests "$@"

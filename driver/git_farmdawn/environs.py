@@ -2,7 +2,7 @@
 from __future__ import annotations
 
 import os
-from typing import Iterator, List, Mapping, Optional, Tuple
+from typing import Dict, Iterator, List, Mapping, Optional, Tuple
 
 # variables that are lists of folders in which languages look for what is imported
 SEARCH_PATHS = ('PYTHONPATH', 'PERL5LIB', 'PERLLIB', 'RUBYLIB', 'NODE_PATH', 'CLASSPATH', 'LD_LIBRARY_PATH', 'GOPATH', 'LUA_PATH',
@@ -77,7 +77,7 @@ def paths_into(top: str, venv: str, env: Optional[Mapping[str, str]] = None) -> 
     env = os.environ if env is None else env
     home = env.get('HOME', '')
     prefixes = [venv, env.get('VIRTUAL_ENV', ''), env.get('CONDA_PREFIX', ''), home and home + '/.local']
-    first = {}
+    first: Dict[str, str] = {}
     for name, path in list(variables_into(top, env)) + list(installs_into(top, prefixes)):
         first.setdefault(path, name)
     return [(name, path) for path, name in first.items()]

@@ -99,9 +99,9 @@ class Page:
                ('The search runs' if facts['state'] == 'running' else 'No answer', page_text(facts['reason'] or ''))]
         if facts['candidates']:
             out.append('<p>One of %s:</p>\n<ul>' % counted(len(facts['candidates']), 'commit'))
-            out += ['<li><span class="name">%s</span> %s%s</li>' % (one['name'][:NAME], page_text(one['subject']),
-                                                                  ' (%s)' % one['outcome'] if one['outcome'] else '')
-                    for one in facts['candidates'][:100]]
+            out += ['<li><span class="name">%s</span> %s%s</li>' % (
+                one['name'][:NAME], page_text(one['subject']),
+                ' (%s)' % one['outcome'] if one['outcome'] else '') for one in facts['candidates'][:100]]
             out.append('</ul>')
         return out + ['</header>']
 
@@ -120,8 +120,8 @@ class Page:
         """How the fault is seen, and how it is searched again."""
         lines = self.facts['again']
         rows = [('To see it', lines['see']), ('To search again', lines['search'])]
-        return ['<h2>How to run it again</h2>\n<dl>' + ''.join('<dt>%s</dt><dd><code>%s</code></dd>' % (name, page_text(line))
-                                                                for name, line in rows if line) + '</dl>']
+        told = ['<dt>%s</dt><dd><code>%s</code></dd>' % (name, page_text(line)) for name, line in rows if line]
+        return ['<h2>How to run it again</h2>\n<dl>' + ''.join(told) + '</dl>']
 
     def doubts(self) -> List[str]:
         """What speaks against the answer, and whether the ends were tested."""

@@ -191,13 +191,13 @@ class Collector:
         for row in test.rows:
             outcome = 'ended' if row.status is None else outcome_of(row.status)
             one = self.row(row.commit, row.status, outcome, row.commit in marked and self.counts(row, outcome))
-            one['run'] = row.run
-            one.update(worker=row.place + 1, began=self.at(row.began), ended=self.at(row.ended), kept=False)
+            one.update({'run': row.run, 'worker': row.place + 1, 'kept': False,
+                        'began': self.at(row.began), 'ended': self.at(row.ended)})
             made.append(one)
         for claim in now if running else []:
             one = self.row(claim.commit, None, 'running', False)
-            one['run'] = claim.run
-            one.update(worker=claim.slot.number + 1, began=self.at(claim.began), kept=False)
+            one.update({'run': claim.run, 'worker': claim.slot.number + 1 if claim.slot else None,
+                        'kept': False, 'began': self.at(claim.began)})
             made.append(one)
         return out + sorted(made, key=lambda one: one['began'] or 0.0)
 

@@ -202,7 +202,7 @@ class Filler:
 
     def find_ends(self, ends: List[Word]) -> None:
         """The commits that the words name: the first is bad, the others are good; A..B is both."""
-        words = []
+        words: List[str] = []
         for end in ends:
             low, dots, high = end.text.partition('..')
             if dots and not words and not high.startswith('.') and not self.repo.is_commit(end.text):

@@ -11,7 +11,7 @@ import subprocess
 import tempfile
 import time
 import unittest
-from typing import Any, Callable, List
+from typing import Any, Callable, Dict, List
 
 TOP = os.path.dirname(os.path.dirname(os.path.dirname(os.path.abspath(__file__))))
 DRIVER = os.environ.get('FARMDAWN_DRIVER', os.path.join(TOP, 'driver', 'bin'))
@@ -48,10 +48,14 @@ class Repository:
         self.run('git', 'fast-import', '--quiet', input=''.join(parts))
         self.run('git', 'reset', '-q', '--hard')
 
+    def apart(self, more: Dict[str, Any]) -> Dict[str, Any]:
+        """How a command is started: in the repository, with the environment of tests, and with what is named here."""
+        return {'cwd': self.path, 'env': ENV, 'stdout': subprocess.PIPE, 'stderr': subprocess.PIPE, 'text': True, **more}
+
     def run(self, *words: str, **more: Any) -> subprocess.CompletedProcess[str]:
         """A command in the repository."""
-        return subprocess.run(words, **{'cwd': getattr(self, 'path', None), 'env': ENV, 'stdout': subprocess.PIPE, 'stderr': subprocess.PIPE,
-                                        'text': True, 'timeout': SECONDS, 'check': True, **more})
+        how: Dict[str, Any] = {'timeout': SECONDS, 'check': True, **more}
+        return subprocess.run(words, **self.apart(how))
 
     def sh(self, script: str, **more: Any) -> str:
         """What a script prints that is run in the repository."""
@@ -67,8 +71,8 @@ class Repository:
 
     def begin(self, *words: str, **more: Any) -> subprocess.Popen[str]:
         """The same, under way, by the driver alone."""
-        return subprocess.Popen([os.path.join(DRIVER, 'git-farmdawn'), *words], **{
-            'cwd': self.path, 'env': ENV, 'stdout': subprocess.PIPE, 'stderr': subprocess.PIPE, 'text': True, **more})
+        begun: subprocess.Popen[str] = subprocess.Popen([os.path.join(DRIVER, 'git-farmdawn'), *words], **self.apart(more))
+        return begun
 
     def ends(self) -> List[str]:
         """The words for the ends."""

@@ -63,7 +63,7 @@ class Case:
         elif self.kind == 'disk':
             self.kind = 'TERM'
         command = TEST % (choice.choice(['', '', 'setsid']), LONG, choice.randrange(1, 9))
-        words = list(choice.choice([[], ['--trust-ends'], ['--check-ends']]))
+        words = [word for word in [choice.choice(['', '--trust-ends', '--check-ends'])] if word]
         words += ['--workers', str(choice.choice([1, 2, 4, 7])), '--state', self.state]
         self.words = [*words, *repo.ends(), '--', 'sh', '-c', f': {seed}; ' + command]
         self.tool = ['git', 'farmdawn'] if self.kind == 'git' or choice.random() < 0.3 else [os.path.join(DRIVER, 'git-farmdawn')]

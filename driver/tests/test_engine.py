@@ -91,7 +91,8 @@ class Pipe(unittest.TestCase):
     def test_words(self) -> None:
         """What does not fit into a line goes before it, and each line is within the limit."""
         engine = self.start()
-        for words in ([], ['a', 'b'], ['n' * 40] * 5000):
+        several: List[List[str]] = [[], ['a', 'b'], ['n' * 40] * 5000]
+        for words in several:
             lines = engine.words(words)
             self.assertEqual([word for line in lines for word in line.split()[1:]], words)
             self.assertEqual([line.split()[0] for line in lines], ['words'] * (len(lines) - 1) + ['search'])

@@ -94,8 +94,9 @@ class Outcomes(Room):
         kept.keep(ONE, 1)
         with open(kept.path(ONE), 'rb') as file:
             whole = file.read()
-        wrong = [whole[:length] for length in range(len(whole))] + [whole + b'x', whole * 2, b'%s 1 end\n' % ONE.encode(), b'\0' * 40,
-                                                                   whole.replace(b' 1 ', b' 0 '), whole.replace(b'a', b'b', 1), whole.upper()]
+        wrong = [whole[:length] for length in range(len(whole))]
+        wrong += [whole + b'x', whole * 2, b'%s 1 end\n' % ONE.encode(), b'\0' * 40]
+        wrong += [whole.replace(b' 1 ', b' 0 '), whole.replace(b'a', b'b', 1), whole.upper()]
         for data in wrong:
             self.write('results-0123456789ab/%s.outcome' % ONE, data)
             self.assertEqual(kept.load([ONE]), {}, data)
@@ -149,7 +150,7 @@ class Files(Room):
     def test_whole(self) -> None:
         """Where the disk is full in the middle, the old file stands and nothing is beside it."""
         path = self.write('file', b'old')
-        with mock.patch.object(outputs.os, 'replace', side_effect=OSError):
+        with mock.patch('os.replace', side_effect=OSError):
             self.assertRaises(OSError, outputs.write_whole, path, b'new')
         self.assertEqual(os.listdir(self.room), ['file'])
         outputs.write_whole(path, b'new')
@@ -165,7 +166,7 @@ class Files(Room):
         """Nothing is left of a look, by either way."""
         self.assertTrue(outputs.has_room(self.room))
         self.assertFalse(outputs.has_room(self.room + '/nowhere'))
-        with mock.patch.object(outputs.os, 'O_TMPFILE', os.O_TMPFILE | os.O_DIRECTORY | os.O_CREAT):
+        with mock.patch('os.O_TMPFILE', os.O_TMPFILE | os.O_DIRECTORY | os.O_CREAT):
             self.assertTrue(outputs.has_room(self.room))
         self.assertEqual(os.listdir(self.room), [])
 

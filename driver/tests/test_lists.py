@@ -5,6 +5,7 @@ import os
 import sys
 import tempfile
 import unittest
+from typing import Dict, List, Tuple
 
 sys.path.insert(0, os.path.dirname(os.path.dirname(os.path.abspath(__file__))))
 
@@ -22,7 +23,7 @@ LINES = (
 )
 # what stands in a file of JUnit, files that are there, and the tests that failed with their parts
 PYTEST = '<testsuites><testsuite>%s</testsuite></testsuites>'
-CASES = (
+CASES: Tuple[Tuple[str, List[str], List[Tuple[str, str, str]]], ...] = (
     ('<testcase classname="tests.test_a.TestB" name="test_c[1]"><failure message="x">y</failure></testcase>', ['tests/test_a.py'],
      [('tests/test_a.py::TestB::test_c[1]', 'tests.test_a.TestB', 'test_c[1]')]),
     ('<testcase classname="tests.test_a" name="test_c" file="tests/test_a.py"><error/></testcase>', [],
@@ -43,7 +44,7 @@ NO_JUNIT = (
     ('t01\nt02\n', 'is no file of JUnit'),
     ('', 'is no file of JUnit'),
 )
-COMMANDS = (
+COMMANDS: Tuple[Tuple[List[str], Tuple[str, Dict[str, str]], List[str]], ...] = (
     (['make', '{}'], ('t01', {}), ['make', 't01']),
     (['ctest', '-R', '^{}$'], ('t01', {}), ['ctest', '-R', '^t01$']),
     (['mvn', '-Dtest={class}#{name}'], ('a.B::c', {'class': 'a.B', 'name': 'c'}), ['mvn', '-Dtest=a.B#c']),

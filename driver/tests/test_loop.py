@@ -33,8 +33,8 @@ class Turns(unittest.TestCase):
     """Tasks in a loop of their own."""
 
     def setUp(self) -> None:
-        self.loop, self.keeper, self.ends = Loop(), Keeper(), []
-        self.ends: List[Any]
+        self.loop, self.keeper = Loop(), Keeper()
+        self.ends: List[Any] = []
 
     def tearDown(self) -> None:
         signal.set_wakeup_fd(-1)

@@ -8,12 +8,13 @@ import os
 import random
 import subprocess
 import unittest
-from typing import List, Sequence, Tuple
+from typing import Dict, List, Sequence, Tuple
 
 from helpers import PROGRAM, TOP, needs_program
 
 MODEL = os.path.join(TOP, 'driver', 'model', 'farmdawn')
 EVENTS = ('log', 'left', 'answer', 'end', 'needless', 'certificate')
+WORDS: List[List[str]] = [[], ['--first-parent'], ['--term-new', 'broken']]
 LETTERS = {'0': 'g', '1': 'b', '125': 's', '128': 'a', 'killed': 'k'}
 
 
@@ -92,7 +93,7 @@ def random_parents(choice: random.Random) -> List[List[int]]:
 
 def play(talk: Talk, choice: random.Random, outcomes: Sequence[str], workers: int) -> None:
     """Posts the outcomes of what the model asks for by workers that are quick and slow, and now and then gives a test back."""
-    held = {}
+    held: Dict[int, int] = {}
     while not talk.status:
         worker = choice.randrange(1, workers + 1)
         if worker in held and choice.random() < 0.2:
@@ -161,7 +162,7 @@ class Model(unittest.TestCase):
             choice = random.Random(1000 + seed)
             parents = random_parents(choice)
             outcomes = [choice.choice(['0', '1', '0', '1', '125', '128' if choice.random() < 0.3 else '125']) for _ in parents]
-            words = choice.choice([[], ['--first-parent'], ['--term-new', 'broken']]) + [f'c{len(parents) - 1}', f'c{choice.randrange(2)}']
+            words = choice.choice(WORDS) + [f'c{len(parents) - 1}', f'c{choice.randrange(2)}']
             done = subprocess.run([PROGRAM, 'simulate', *words, ''.join(LETTERS[outcome] for outcome in outcomes)], input=stream_of(parents) + 'done\n',
                                   stdout=subprocess.PIPE, text=True, check=False)
             talk, names = Talk(self, stream_of(parents)), hashed(parents)

@@ -5,7 +5,7 @@ from __future__ import annotations
 import ast
 import os
 import unittest
-from typing import Dict, Iterator, List, Optional, Set, Tuple, Union
+from typing import Any, Dict, Iterator, List, Optional, Set, Tuple, Union
 
 MODULES = os.path.join(os.path.dirname(os.path.dirname(os.path.abspath(__file__))), 'git_farmdawn')
 Function = Union[ast.FunctionDef, ast.AsyncFunctionDef]
@@ -18,8 +18,8 @@ def class_of(node: Optional[ast.expr]) -> str:
     if isinstance(node, ast.Constant) and isinstance(node.value, str):
         node = ast.parse(node.value, mode='eval').body
     if isinstance(node, ast.Subscript) and isinstance(node.value, ast.Name) and node.value.id == 'Optional':
-        inner = node.slice
-        return class_of(getattr(inner, 'value', inner) if type(inner).__name__ == 'Index' else inner)  # Python 3.8 has an Index there
+        inner: Any = node.slice
+        return class_of(inner.value if type(inner).__name__ == 'Index' else inner)   # Python 3.8 has an Index there
     return node.id if isinstance(node, ast.Name) else ''
 
 
@@ -44,27 +44,26 @@ class Class:
 
     def note(self, name: str, kind: str) -> None:
         """An attribute, and its class where it is known."""
-        self.attributes.add(name)
-        if kind:
+        self.attributes |= {name} if name else set()
+        if name and kind:
             self.types.setdefault(name, kind)
 
     def look_into(self, function: Function) -> None:
         """The attributes that a method gives its object."""
         kinds = parameters(function)
         for node in ast.walk(function):
-            if isinstance(node, ast.AnnAssign) and is_of_self(node.target):
-                self.note(node.target.attr, class_of(node.annotation))          # type: ignore[union-attr]
+            if isinstance(node, ast.AnnAssign):
+                self.note(of_self(node.target), class_of(node.annotation))
             for target, value in pairs(node):
-                if is_of_self(target):
-                    kind = kinds.get(value.id, '') if isinstance(value, ast.Name) else ''
-                    if isinstance(value, ast.Call) and isinstance(value.func, ast.Name):
-                        kind = value.func.id
-                    self.note(target.attr, kind)                                # type: ignore[attr-defined]
+                kind = kinds.get(value.id, '') if isinstance(value, ast.Name) else ''
+                if isinstance(value, ast.Call) and isinstance(value.func, ast.Name):
+                    kind = value.func.id
+                self.note(of_self(target), kind)
 
 
-def is_of_self(node: ast.expr) -> bool:
-    """Whether this is an attribute of the object itself."""
-    return isinstance(node, ast.Attribute) and isinstance(node.value, ast.Name) and node.value.id == 'self'
+def of_self(node: ast.expr) -> str:
+    """The name of an attribute of the object itself; empty where this is something else."""
+    return node.attr if isinstance(node, ast.Attribute) and isinstance(node.value, ast.Name) and node.value.id == 'self' else ''
 
 
 def pairs(node: ast.AST) -> Iterator[Tuple[ast.expr, Optional[ast.expr]]]:
@@ -72,7 +71,9 @@ def pairs(node: ast.AST) -> Iterator[Tuple[ast.expr, Optional[ast.expr]]]:
     if isinstance(node, (ast.Assign, ast.AugAssign)):
         for target in node.targets if isinstance(node, ast.Assign) else [node.target]:
             if isinstance(target, ast.Tuple):
-                values = node.value.elts if isinstance(node.value, ast.Tuple) and len(node.value.elts) == len(target.elts) else [None] * len(target.elts)
+                values: List[Optional[ast.expr]] = [None] * len(target.elts)
+                if isinstance(node.value, ast.Tuple) and len(node.value.elts) == len(target.elts):
+                    values = list(node.value.elts)
                 yield from zip(target.elts, values)
             else:
                 yield target, node.value

@@ -8,7 +8,7 @@ import re
 import subprocess
 import sys
 import unittest
-from typing import Dict, List, Set, Tuple
+from typing import Dict, List, Optional, Set, Tuple
 
 sys.path.insert(0, os.path.dirname(os.path.dirname(os.path.abspath(__file__))))
 
@@ -87,7 +87,8 @@ class Pure(unittest.TestCase):
             odds.learn(5, True)
             odds.learn(4, False)
         self.assertGreater(odds.best()[1], 0.98)
-        for under_way, due in (([], (4, 5)), ([5], (4,)), ([5, 4], (4, 5)), ([5, 4, 5], (4,)), ([5, 4, 4], (5,)), ([5, 4, 5, 4], (None,))):
+        rows: List[Tuple[List[int], Tuple[Optional[int], ...]]] = [([], (4, 5)), ([5], (4,)), ([5, 4], (4, 5)), ([5, 4, 5], (4,)), ([5, 4, 4], (5,)), ([5, 4, 5, 4], (None,))]
+        for under_way, due in rows:
             self.assertIn(odds.next_test(under_way), due, under_way)
 
     def test_ends(self) -> None:

@@ -181,7 +181,7 @@ class Pages(Room):
         test = search.tests[0]
         test.known[search.history.order[2]] = 9
         facts = Collector(search, test, '0.1.0').collect(0, '', True)
-        self.assertEqual((facts['state'], facts['answer']['name']), ('found', search.history.order[4]))
+        self.assertEqual((facts['state'], facts['answer'] and facts['answer']['name']), ('found', search.history.order[4]))
         self.assertEqual([(one['commit'], one['status']) for one in facts['contradictions']], [(search.history.order[2], 9)])
         self.assertEqual([(end['called'], end['status']) for end in facts['ends']], [('bad', None), ('good', None)])
         page = Page(facts, search, test).text()

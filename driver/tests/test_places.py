@@ -68,7 +68,7 @@ ROWS = [
     Row('a test is ended in the middle of its build', 'echo built >.git/info/exclude',
         ('--timeout', '2', '--workers', '1', *sh('[ -e built ] || { mkdir built; [ $(cat number) != 6 ] || sleep 20; touch built/all; }; '
                                                  '[ -e built/all ] || exit 1; ' + BAD_FROM_7)), first='skipped'),
-    Row('the script is edited while it searches', f"printf '%s\\n' 'limit=7' \"sed -i s/=7/=3/ '$PWD/t.sh'\" '[ $(cat number) -lt $limit ]' >t.sh", ('--workers', '1', '--', 'sh', 't.sh')),
+    Row('the script is edited while it searches', "printf '%s\\n' 'limit=7' \"sed -i s/=7/=3/ '$PWD/t.sh'\" '[ $(cat number) -lt $limit ]' >t.sh", ('--workers', '1', '--', 'sh', 't.sh')),
 ]
 
 

@@ -105,10 +105,11 @@ class Several(unittest.TestCase):
             file.write('3\n4\n5\n')
         test = (f'exec 9>{repo.room}/seat."$FARMDAWN_WORKER"; flock -n 9 || exit 200; touch here."$0"; sleep 0.4; '
                 f'[ "$(ls -d here.* | wc -l)" = 1 ] || touch {repo.room}/at-once; rm here."$0"; [ "$(cat number)" -lt "$0" ]')
-        for words in ([], ['--together']):
+        for together in (False, True):
+            words = ['--together'] if together else []
             got = repo.search('--fresh', '--workers', '4', *words, '--tests', repo.room + '/list', *repo.ends(), '--', 'sh', '-c', test, '{}')
             self.assertEqual(got.returncode, 0, got.stderr)
-            self.assertEqual(os.path.exists(repo.room + '/at-once'), bool(words))
+            self.assertEqual(os.path.exists(repo.room + '/at-once'), together)
             self.assertIn(f'{repo.name("c4")[:12]} is the first bad commit of 4\n', got.stderr)
 
     def test_needless_build(self) -> None:

@@ -135,8 +135,8 @@ class Case:
         for line in got.stdout.decode().split('\n'):
             kind, _, rest = line.partition(' ')
             if kind in ('log', 'answer'):
-                number, _, rest = rest.partition(' ')
-                found[int(number) - 1].append(rest)
+                search, _, rest = rest.partition(' ')
+                found[int(search) - 1].append(rest)
         return found
 
     def by_git(self, test: str) -> Found:

@@ -6,6 +6,8 @@ import random
 import sys
 import unittest
 import unicodedata
+from typing import List
+from unittest import mock
 
 sys.path.insert(0, os.path.dirname(os.path.dirname(os.path.abspath(__file__))))
 
@@ -92,11 +94,11 @@ class Verdicts(unittest.TestCase):
 
     def test_words(self) -> None:
         """By its status, in the words of the search."""
-        lines = []
+        lines: List[str] = []
         voice = telling.Telling()
-        voice.line = lines.append               # type: ignore[method-assign]
-        for status in (0, 1, 124, 125, 126, 255, None):
-            voice.verdict(Row('a' * 40, 0, 1.0, 3.5, status), b'subject', ('broken', 'ok'))
+        with mock.patch.object(voice, 'line', lines.append):
+            for status in (0, 1, 124, 125, 126, 255, None):
+                voice.verdict(Row('a' * 40, 0, 1.0, 3.5, status), b'subject', ('broken', 'ok'))
         self.assertEqual([' '.join(line.split()) for line in lines],
                          ['%s aaaaaaaaaaaa subject (%s2 s)' % (word, how) for word, how in
                           (('ok', ''), ('broken', ''), ('broken', ''), ('skip', ''), ('stop', 'exit 126, '), ('stop', 'exit 255, '),

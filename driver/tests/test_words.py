@@ -6,6 +6,7 @@ import os
 import sys
 import time
 import unittest
+from typing import List, Tuple
 
 sys.path.insert(0, os.path.dirname(os.path.dirname(os.path.abspath(__file__))))
 
@@ -36,7 +37,7 @@ TAKEN = (
     (['--confirm', '--repeat=3'], [('--confirm', '3'), ('--repeat', '3')]),
 )
 # lines that are none, and what is said of them
-REFUSED = (
+REFUSED: Tuple[Tuple[List[str], str], ...] = (
     ([], 'BAD and GOOD are missing|-- and a command are missing'),
     (['main'], '-- and a command are missing; see git farmdawn -h'),
     (['main', '--', 'make'], 'GOOD is missing'),
@@ -74,9 +75,9 @@ class Lines(unittest.TestCase):
     def test_options(self) -> None:
         """By their names, shortened, with = and without."""
         for words, due in TAKEN:
-            for before, after in ((words, []), ([], words)):
-                with self.subTest(words=words, behind=bool(after)):
-                    line = read(before + TAIL[:2] + after + TAIL[2:])
+            for behind in (False, True):
+                with self.subTest(words=words, behind=behind):
+                    line = read(TAIL[:2] + words + TAIL[2:] if behind else words + TAIL)
                     self.assertEqual(line.values, due)
                     self.assertEqual([end.text for end in line.ends], ['main', 'v1'])
                     self.assertEqual(line.command, ['make', 'test'])
