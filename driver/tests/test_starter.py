@@ -2,11 +2,12 @@
 from __future__ import annotations
 
 import os
+import re
 import stat
 import subprocess
 import tempfile
 import unittest
-from typing import Dict, List
+from typing import Dict, List, Set
 
 from helpers import ROOM, TOP
 
@@ -46,6 +47,14 @@ class Starter(unittest.TestCase):
         start: List[str] = ['/bin/sh', self.starter, *words]
         return subprocess.run(start, env=every, stdout=subprocess.PIPE, stderr=subprocess.PIPE, text=True, timeout=120, check=False)
 
+    def changed(self, starter: str) -> Set[str]:
+        """Which variables of the caller have another value in the Python that is started; each word of the starter is one."""
+        with open(starter, encoding='utf-8') as file:
+            mine = {name: 'mine' for name in re.findall('[A-Za-z_][A-Za-z_0-9]*', file.read()) if name != 'PATH'}
+        mine['FARMDAWN_PYTHON'] = self.program('told/python3', '#!/bin/sh\nexec /usr/bin/env -0\n')
+        found = dict(pair.split('=', 1) for pair in self.start(**mine).stdout.split('\0') if pair)
+        return {name for name in mine if found[name] != mine[name]}
+
     def test_none(self) -> None:
         """One line says so."""
         done = self.start('-h')
@@ -76,6 +85,7 @@ class Starter(unittest.TestCase):
                     {'CDPATH': '/'}, {'BASH_FUNC_readlink%%': '() { echo /nowhere; }', 'BASH_FUNC_command%%': '() { :; }', 'BASH_FUNC_exec%%': '() { :; }'}):
             done = self.start('-h', **env)
             self.assertEqual((done.returncode, done.stderr), (0, ''), env)
+        self.assertEqual(self.changed(self.starter), set())
         link = self.room + '/bin/git-farmdawn'
         os.symlink(self.starter, link)
         self.assertEqual(subprocess.run([link, '-h'], cwd=self.room + '/evil', stdout=subprocess.DEVNULL, check=False).returncode, 0)
