@@ -67,15 +67,17 @@ class Ending:
             status = 13
         status = self.write_report(status, reason, with_answer=False)
         count = sum(test.outcomes.count() for test in self.tests)
-        self.voice.tell('stopped; the same line %sgoes on from %d outcomes'
-                        % ('without --fresh ' if self.settings.fresh else '', count))
+        why = reason + ': ' if status == 24 else ''
+        self.voice.tell('%sstopped; the same line %sgoes on from %d outcomes'
+                        % (why, 'without --fresh ' if self.settings.fresh else '', count))
         return status
 
     def refused(self, stop: Stop) -> int:
         """Nothing can be found: an end is not as it was called, or the engine refuses the search."""
         self.voice.say(stop.text)
         if isinstance(stop, evidence.WrongEnd):
-            self.voice.say(evidence.what_to_do(stop.end, stop.test_status))
+            is_swapped = not stop.end.is_bad and self.repo.succeeds('merge-base', '--is-ancestor', self.settings.bad, stop.end.commit)
+            self.voice.say(evidence.what_to_do(stop.end, stop.test_status, is_swapped))
             self.tell_output(stop.log, TEST_LINES)
         return self.write_report(stop.status, stop.text, with_answer=False)
 

@@ -21,12 +21,15 @@ class WrongEnd(Stop):
         self.end, self.test_status, self.log = end, status, log
 
 
-def what_to_do(end: End, status: int) -> str:
-    """What may be wrong, and what to look at, where a test of an end is not as it was called."""
+def what_to_do(end: End, status: int, is_swapped: bool = False) -> str:
+    """What may be wrong, and what to look at, where a test of an end is not as it was called. `is_swapped` says that it is a good
+    one, and the bad one comes before it."""
     if status == SKIP:
         return 'its test says that it cannot be tested; --trust-ends takes the ends as they are called'
     if status >= FIRST_STOP:
         return 'a test that ends so stops a search'
+    if is_swapped:
+        return 'the bad commit is named first, and the good one behind it; the two seem to be swapped'
     if end.is_bad:
         return 'the command does not fail where it is to fail; does the fault come on this machine, or in this folder?'
     return 'the command fails here, too: is something missing on this machine, or in a checkout? Else an older commit is to ' \

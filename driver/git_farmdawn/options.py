@@ -1,7 +1,7 @@
 """The command line, word by word, without a look at the repository."""
 from __future__ import annotations
 
-from typing import Dict, List, NamedTuple, Optional, Set, Tuple
+from typing import Dict, List, NamedTuple, Optional, Sequence, Set, Tuple
 
 from .values import wants_value
 from .words import ME, Stop, quoted
@@ -65,10 +65,10 @@ def distance(one: str, other: str) -> int:
     return rows[len(one), len(other)]
 
 
-def nearest(word: str) -> str:
-    """The option that may have been meant, or nothing."""
-    best = min(KNOWN, key=lambda option: distance(word, option))
-    return best if distance(word, best) <= max(1, (len(word) - 2) // 3) else ''
+def nearest(word: str, among: Sequence[str], letters: int) -> str:
+    """Which of these may have been meant by a word with so many letters of its own; nothing where none is near."""
+    best = min(among, key=lambda one: distance(word, one), default='')
+    return best if distance(word, best) <= max(1, letters // 3) else ''
 
 
 def full_option(word: str) -> str:
@@ -82,7 +82,7 @@ def full_option(word: str) -> str:
         raise Stop(1, '%s may be %s; see %s -h' % (word, ' or '.join(found), ME))
     if word in ELSEWHERE:
         raise Stop(1, 'unknown option %s; %s' % (word, ELSEWHERE[word]))
-    meant = nearest(word)
+    meant = nearest(word, KNOWN, len(word) - 2)
     raise Stop(1, 'unknown option %s; %s' % (word, 'did you mean %s?' % meant if meant else 'see %s -h' % ME))
 
 

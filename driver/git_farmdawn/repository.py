@@ -14,6 +14,7 @@ ODD = ('GIT_INDEX_FILE', 'GIT_COMMON_DIR', 'GIT_PREFIX', 'GIT_LITERAL_PATHSPECS'
        'GIT_ICASE_PATHSPECS', 'GIT_EXTERNAL_DIFF', 'GIT_DIFF_OPTS')
 PLAIN = ('git', '-c', 'core.hooksPath=/dev/null', '-c', 'core.fsmonitor=', '-c', 'advice.detachedHead=false', '-c', 'gc.auto=0',
          '-c', 'submodule.recurse=false')
+MOST_REFS = 2000        # so many are looked through for a name that may have been meant
 
 
 def environment_of(pid: int) -> Dict[str, str]:
@@ -126,6 +127,11 @@ class Repository:
     def is_commit(self, word: str) -> bool:
         """Whether a word names a commit."""
         return self.succeeds('rev-parse', '--verify', '-q', '--end-of-options', word + '^{commit}')
+
+    def refs(self) -> List[str]:
+        """The short names of branches and tags."""
+        return self.text('for-each-ref', '--count=%d' % MOST_REFS, '--format=%(refname:short)', 'refs/heads', 'refs/tags',
+                         'refs/remotes', check=False).split()
 
     def is_shallow(self) -> bool:
         """Whether the history is cut off."""

@@ -8,7 +8,7 @@ from typing import TYPE_CHECKING, Dict, List, Optional, Tuple
 
 from . import lists, values
 from .named import NamedFiles, full_path
-from .options import OF_BISECT, Line, Word
+from .options import OF_BISECT, Line, Word, nearest
 from .outputs import has_room
 from .replaying import read_log
 from .words import ME, Stop
@@ -230,7 +230,9 @@ class Filler:
             return '; this clone is shallow: git fetch --unshallow --tags brings the rest'
         if number > 1:
             return '; is a -- missing before the command?'
-        return ''
+        begin = re.split('[~^@:]', word)[0]
+        meant = nearest(begin, self.repo.refs(), len(begin)) if begin else ''
+        return '; did you mean %s?' % (meant + word[len(begin):]) if meant else ''
 
     def take_log(self, path: str) -> None:
         """The ends, the terms and the paths of a log, whose marks the engine goes on from."""

@@ -52,7 +52,7 @@ class Ends(unittest.TestCase):
         got = repo.search('--workers', '3', '--deadline', '4s', *repo.ends(), '--', 'sh', '-c', LEAVES, repo.room)
         self.assertEqual(got.returncode, 24, got.stderr)
         self.assertIn('git bisect start', got.stdout)
-        self.assertIn('stopped; the same line goes on from 0 outcomes', got.stderr)
+        self.assertIn('the time of --deadline is over: stopped; the same line goes on from 0 outcomes', got.stderr)
         repo.check_left()
 
     def test_killed(self) -> None:

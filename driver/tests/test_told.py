@@ -94,6 +94,11 @@ class Wrong(unittest.TestCase):
         """Swapped ends, no common history, changes, and paths that lead back."""
         repo = Repository(self)
         self.assertIn('are the two swapped?', repo.search('c1', 'c12', *command('true')).stderr)
+        repo.search('--check-ends', 'c12', 'c1', *command(BAD_FROM_7))
+        self.assertIn('the two seem to be swapped', repo.search('c1', 'c12', *command(BAD_FROM_7)).stderr)
+        for word, meant in (('mian', '; did you mean main?'), ('c122~2^', '; did you mean c12~2^?'), ('nothing', ''), ('~2', '')):
+            told = repo.search(word, 'c1', *command('true')).stderr
+            self.assertEqual(told, f'git farmdawn: {word}: no commit of that name{meant}\n')
         repo.sh('git checkout -q --orphan apart && git commit -q -m apart && git checkout -q -f main')
         done = repo.search('c12', 'apart', *command(BAD_FROM_7))
         self.assertIn('have no common history', done.stderr)

@@ -114,7 +114,7 @@ class Lines(unittest.TestCase):
                     if '--' + wrong in KNOWN or len(name) < 6:
                         continue
                     count += 1
-                    self.assertLessEqual(distance('--' + wrong, nearest('--' + wrong)), 1, wrong)
+                    self.assertLessEqual(distance('--' + wrong, nearest('--' + wrong, KNOWN, len(wrong))), 1, wrong)
         self.assertGreater(count, 300)
 
     def test_actions(self) -> None:
