@@ -6,7 +6,7 @@
 units=$top/driver/tests
 export FARMDAWN="$farmdawn" FARMDAWN_CASES="${FARMDAWN_CASES:-6}"
 has_program || FARMDAWN=$top/driver/model/farmdawn
-case $FARMDAWN in */model/farmdawn) ;; *) export FARMDAWN_PROGRAM="${FARMDAWN_PROGRAM:-$FARMDAWN}" ;; esac
+case $(readlink -f "$FARMDAWN") in */model/farmdawn) ;; *) export FARMDAWN_PROGRAM="${FARMDAWN_PROGRAM:-$FARMDAWN}" ;; esac
 
 # A module, or with a class and a method one test of it.
 unit() { cd "$units" && expect "driver/tests/$1" python3 -B -m unittest "$1"; }

@@ -7,7 +7,7 @@ from typing import TYPE_CHECKING, List, Optional
 
 from . import evidence, several
 from .confirm import sentence
-from .facts import SKIP, ends_of
+from .facts import SKIP, End, ends_of
 from .outputs import last_lines, write_whole
 from .telling import NAME, about, lasting, rounds, shown
 from .words import Stop, counted, quoted
@@ -76,10 +76,14 @@ class Ending:
         """Nothing can be found: an end is not as it was called, or the engine refuses the search."""
         self.voice.say(stop.text)
         if isinstance(stop, evidence.WrongEnd):
-            is_swapped = not stop.end.is_bad and self.repo.succeeds('merge-base', '--is-ancestor', self.settings.bad, stop.end.commit)
-            self.voice.say(evidence.what_to_do(stop.end, stop.test_status, is_swapped))
+            self.voice.say(evidence.what_to_do(stop.end, stop.test_status, self.is_swapped(stop.end)))
             self.tell_output(stop.log, TEST_LINES)
         return self.write_report(stop.status, stop.text, with_answer=False)
+
+    def is_swapped(self, end: End) -> bool:
+        """Whether the bad commit comes before this end, or before a good one where this is the bad one itself."""
+        goods = [good for good in self.search.history.beside if end.is_bad or good == end.commit]
+        return any(self.repo.succeeds('merge-base', '--is-ancestor', self.settings.bad, good) for good in goods)
 
     # -- the log -----------------------------------------------------------------
 

@@ -22,8 +22,8 @@ class WrongEnd(Stop):
 
 
 def what_to_do(end: End, status: int, is_swapped: bool = False) -> str:
-    """What may be wrong, and what to look at, where a test of an end is not as it was called. `is_swapped` says that it is a good
-    one, and the bad one comes before it."""
+    """What may be wrong, and what to look at, where a test of an end is not as it was called. `is_swapped` says that the bad
+    one comes before the good one."""
     if status == SKIP:
         return 'its test says that it cannot be tested; --trust-ends takes the ends as they are called'
     if status >= FIRST_STOP:
