@@ -60,7 +60,14 @@ class Guardian:
 
     @staticmethod
     def let_go(reads: int) -> None:
-        """Closes all files but the pipe: others wait for the end of the driver by them."""
+        """Closes all files but the pipe: others wait for the end of the driver by them. The list of them wants a file itself, and there
+        may be none to have before the first three are closed."""
+        for fd in range(3):
+            if fd != reads:
+                try:
+                    os.close(fd)
+                except OSError:
+                    pass
         for name in os.listdir('/proc/self/fd'):
             if int(name) != reads:
                 try:

@@ -246,7 +246,21 @@ class Program:
         pool.end(search.settings.keep)
 
     def undo(self) -> None:
-        """Ends what runs, and removes what is of this run alone."""
+        """Ends what runs, and removes what is of this run alone. Where it may open too few files for that, what is open is needed no
+        more; and the guardian, which sees that this process ends, ends what runs."""
+        run = self.run
+        state = run.state if run is not None else ''
+        try:
+            self.undo_all()
+        except OSError:
+            pass
+        if run is not None and state and os.path.lexists(state):
+            from .run import remove_run
+            os.closerange(3, 64)
+            remove_run(run.repo.gitdir, state)
+
+    def undo_all(self) -> None:
+        """The same, step by step."""
         self.loop.calm = True
         self.voice.end_live()
         if self.watch is not None:

@@ -55,6 +55,15 @@ class Ends(unittest.TestCase):
         self.assertIn('the time of --deadline is over: stopped; the same line goes on from 0 outcomes', got.stderr)
         repo.check_left()
 
+    def test_few_files(self) -> None:
+        """Where the system lets it open too few files, a line says so, and nothing is left, by the guardian at last."""
+        repo = Repository(self)
+        for files in (12, 14, 16):
+            done = repo.run('sh', '-c', f'ulimit -n {files}; exec git farmdawn "$@"', 'sh', *repo.ends(), '--', 'true', check=False)
+            self.assertEqual((done.returncode, done.stdout.count('first bad')), (12, 0), done.stderr)
+            self.assertRegex(done.stderr.splitlines()[-1], 'Too many open files; fewer --workers want fewer$|: stopped; ')
+            wait_until(lambda: not repo.left(), 'the guardian has removed the folder')
+
     def test_killed(self) -> None:
         """Where the driver is killed, the guardian ends all and removes the folders; also one that came for another one."""
         for with_guardian in (False, True):
