@@ -12,9 +12,13 @@ import subprocess
 import trials
 from repositories import CALM, TRUST, call, git
 
-# what a test of a commit does: a line of the file of its name has the seconds that it takes, and its status
-TEST = """read -r pause status <"$0/$FARMDAWN_COMMIT"
+# what a test of a commit does: a line of the file of its name has the seconds that it takes, and its status. While it runs there is
+# a file that git ignores, as half of a build; one that finds it of a test that was ended stops the search
+TEST = """[ ! -e half ] || exit 200
+touch half
+read -r pause status <"$0/$FARMDAWN_COMMIT"
 [ -n "${AT_ONCE-}" ] || sleep "$pause"
+rm half
 exit "$status"
 """
 LENGTHS = [0, 0.1, 0.2, 0.5, 1, 2]
@@ -46,6 +50,8 @@ def make_repository(choice, folder):
         text += [f"{'merge' if index else 'from'} :{parent + 1}\n" for index, parent in enumerate(named)]
     call(".", "git", "init", "-q", "-b", "main", folder)
     call(folder, "git", "fast-import", "--quiet", stdin="".join(text).encode())
+    with open(os.path.join(folder, ".git", "info", "exclude"), "a") as file:
+        file.write("half\n")
     return git(folder, "rev-parse", *(f"c{number}" for number in range(len(parents)))), parents
 
 
