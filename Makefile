@@ -25,6 +25,7 @@ MAN = $(DESTDIR)$(PREFIX)/share/man/man1
 BASH_COMPLETIONS = $(DESTDIR)$(PREFIX)/share/bash-completion/completions
 ZSH_COMPLETIONS = $(DESTDIR)$(PREFIX)/share/zsh/site-functions
 FISH_COMPLETIONS = $(DESTDIR)$(PREFIX)/share/fish/vendor_completions.d
+FISH_BEGIN = $(DESTDIR)$(PREFIX)/share/fish/vendor_conf.d/git-farmdawn.fish
 
 .PHONY: demo install install-scripts uninstall dist test check check-model bench
 demo:
@@ -48,12 +49,14 @@ install-scripts:
 		install -D -m 644 completions/_$$name "$(ZSH_COMPLETIONS)/_$$name" && \
 		install -D -m 644 completions/$$name.fish "$(FISH_COMPLETIONS)/$$name.fish" || exit 1; \
 	done
+	install -D -m 644 completions/git-farmdawn.conf.fish "$(FISH_BEGIN)"
 
 uninstall:
 	for name in $(PAGES) $(OLD_PARTS); do rm -f "$(BIN)/$$name" "$(MAN)/$$name.1"; done
 	for name in farmdawn git-farmdawn; do \
 		rm -f "$(BASH_COMPLETIONS)/$$name" "$(ZSH_COMPLETIONS)/_$$name" "$(FISH_COMPLETIONS)/$$name.fish"; \
 	done
+	rm -f "$(FISH_BEGIN)"
 	rm -rf "$(LIB)/git_farmdawn"
 	[ ! -d "$(LIB)" ] || rmdir --ignore-fail-on-non-empty "$(LIB)"
 

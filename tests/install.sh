@@ -21,6 +21,7 @@ test_files() {
         expect 'for zsh' cmp "root/usr/share/zsh/site-functions/_$name" "$top/completions/_$name"
         expect 'for fish' cmp "root/usr/share/fish/vendor_completions.d/$name.fish" "$top/completions/$name.fish"
     done
+    expect 'and what fish reads as it begins' cmp root/usr/share/fish/vendor_conf.d/git-farmdawn.fish "$top/completions/git-farmdawn.conf.fish"
     for module in "$top"/driver/git_farmdawn/*.py; do
         expect 'the module' cmp "root/usr/lib/farmdawn/git_farmdawn/${module##*/}" "$module"
         [ ! -x /usr/bin/python3 ] || expect 'compiled' [ -n "$(ls "root/usr/lib/farmdawn/git_farmdawn/__pycache__/$(basename "$module" .py)".*.pyc)" ]
@@ -94,11 +95,11 @@ options_of() { sorted_words "$("$1" --help | grep -o '^  --[a-z-]*\|, --[a-z-]*'
 needs_zsh() { has zsh; }
 test_zsh() {
     for name in _farmdawn _git-farmdawn; do expect 'zsh reads the completion' zsh -n "$top/completions/$name"; done
-    words=$(sed -n "s/^.*[(' ]\*\?\(--[a-z-]*\)[['}].*/\1/p; s/.*{-h,--help}.*/--help/p" "$top/completions/_git-farmdawn")
+    words=$(sed -n "/^    '/s/^.*[', )]\*\?\(--[a-z-]*[a-z]\)[=-]*[['}].*/\1/p" "$top/completions/_git-farmdawn")
     expect 'the options of git farmdawn' [ "$(sorted_words "$words")" = "$(options_of git-farmdawn)" ]
 }
 
-needs_fish() { has fish git; }
+needs_fish() { has fish git make install; }
 test_fish() {
     make_line 1 9
     git branch topic
@@ -110,6 +111,12 @@ test_fish() {
     expect 'the options of git farmdawn' [ "$(sorted_words "$words")" = "$(options_of git-farmdawn)" ]
     # shellcheck disable=SC2016
     expect 'and branches' sh -c 'fish -N -c ". \$argv[1]; complete -C \"farmdawn run to\"" "$1" | grep -q ^topic' sh "$top/completions/farmdawn.fish"
+    # as it is installed: `git farmdawn` is completed in a shell that has completed nothing else
+    make -s -C "$top" install-scripts DESTDIR="$PWD/root" PREFIX=/usr PYTHON= || exit 1
+    for line in 'git farmdawn to:topic' 'git farmdawn --work:--workers' 'git farmdawn --report roo:root/' 'git farmdawn topic topic -- mkdi:mkdir'; do
+        found=$(HOME=$PWD PATH=$PWD/root/usr/bin:$PATH XDG_DATA_DIRS=$PWD/root/usr/share:/usr/share fish -i -c "complete -C '${line%:*}'" 2>/dev/null | cut -f 1)
+        expect "fish completes ${line%:*}" [ "$found" = "${line##*:}" ]
+    done
 }
 
 # All of shellcheck but what a script names, with a reason. The name of the folder may have any bytes.
