@@ -165,6 +165,9 @@ test_wrong() {
     refused 'a step left out' '0,/^reach/{/^reach/d}' 'line '
     refused 'all steps left out' '/^reach/d' 'line '
     refused 'a step to no parent' "s/^reach [^ ]*/reach $other/" 'line .*reach'
+    mkdir -p .git/info && sed -n "s/^reach .* from \(.*\)/\1 $other/p" ../answer >.git/info/grafts
+    refused 'a step to no parent but of .git/info/grafts' "s/^reach [^ ]*/reach $other/" 'line .*reach'
+    rm .git/info/grafts
     refused 'a step from elsewhere' "s/^\(reach .* from\) .*/\1 $other/" 'line .*reach'
     refused 'no end' '/^end$/d' 'is missing'
     refused 'lines behind it' "s/^end$/&\ngood $good/" 'not in its place'

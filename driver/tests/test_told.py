@@ -113,6 +113,8 @@ class Wrong(unittest.TestCase):
         self.assertIn("a line of sh is: -- sh -c 'make -s test'", repo.search('c12', 'c1', '--', 'make -s test').stderr)
         os.makedirs(repo.path + '/mine')
         self.assertIn('the folder mine is not tracked', repo.search('c12', 'c1', '--', 'ls', 'mine').stderr)
+        repo.sh('touch .gitmodules')
+        self.assertIn('checkouts have no submodules', repo.search('c12', 'c1', '--', 'true', cwd=repo.path + '/mine').stderr)
         repo.sh('echo mine >>.git/info/exclude')
         self.assertNotIn('the folder mine', repo.search('c12', 'c1', '--', 'ls', 'mine').stderr)
 
@@ -148,6 +150,26 @@ class Travel(unittest.TestCase):
         done = repo.search('--prune', '--state', '../state')
         self.assertIn('removed what 1 searches had kept', done.stderr)
         self.assertEqual(os.listdir(repo.room + '/state'), [])
+
+    def test_other_test(self) -> None:
+        """The words are the same, and what they lead to is not: what the earlier test told is not taken."""
+        repo = Repository(self)
+        script = '#!/bin/sh\n[ $(cat number) -lt %d ]\n'
+        for name in ('bin', 'tools', 'repository/d'):
+            os.mkdir(os.path.join(repo.room, name))
+        repo.sh('ln -s ../tools/t.sh linked.sh; ln -s one d/limit; echo 3 >d/one; echo 7 >d/two')
+        rows = ((['mytest'], 'bin/mytest'), (['sh', 'linked.sh'], 'tools/t.sh'), (['sh', '../tools/t.sh'], 'tools/t.sh'),
+                (['sh', '-c', '[ $(cat number) -lt $(cat d/limit) ]'], ''))
+        for words, file in rows:
+            for limit in (3, 7):
+                path = os.path.join(repo.room, file or 'unused')
+                with open(path, 'w', encoding='utf-8') as out:
+                    out.write(script % limit)
+                os.chmod(path, 0o755)
+                repo.sh('ln -sfn %s d/limit' % {3: 'one', 7: 'two'}[limit])
+                env = dict(ENV, PATH=repo.room + '/bin:' + ENV['PATH'])
+                done = repo.search(*([] if file else ['--copy', 'd']), 'c12', 'c1', '--', *words, env=env)
+                self.assertEqual(done.stdout.splitlines()[-1:], [repo.name('c%d' % limit) + ' is the first bad commit'], done.stderr)
 
     def test_replay(self) -> None:
         """Each front of a log goes on to the same end, and its marks are not tested again."""
