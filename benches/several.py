@@ -1,18 +1,24 @@
 #!/usr/bin/env python3
-"""What several tests cost in one search: 300 commits, 12 tests that five commits broke, a build of 17 to 23 minutes, tests of one to
-five; a minute is a tenth of a second, and sleeps stand for work.
+"""What several tests cost in one search, and one by one: 300 commits, 12 tests, 5 commits that broke them.
 
-benches/several.py [--workers 4,16] [--seed N] [--minute SECONDS] [--way one,together,apart]
+benches/several.py [--workers 4,16] [--seeds 1,2,3] [--minute SECONDS] [--way bisect,apart,at-once,one,together]
 
-Prints a row for each: how long it took and the time of all workers, in hours of the scale, builds and tests. `one` is one search with
-the tests of a commit one after the other, `together` with those at once, `apart` is twelve searches one after the other, which share
-nothing; what `git bisect run` takes for all is reckoned by its logs. The answers of all are compared. FARMDAWN is a program with `serve`,
-or the model."""
+A build takes 17 to 23 minutes, by its commit, and a test one to three, by its name: so a build is ten tests long. A minute is a fifth of a
+second. Builds and tests are commands that sleep, so that processors that others share change little. `git bisect run` builds each time.
+Prints a row for each way, the means over the seeds:
+ bisect    git bisect run for each test, one after the other
+ apart     git farmdawn for each test, one after the other, with all workers
+ at-once   git farmdawn for each test, as many at once as there are workers, which share nothing
+ one       one search for all tests
+ together  the same with --together
+with the hours by the clock, the hours for which workers slept, and how many builds and tests were begun. Ends with status 1 where the ways
+come to other answers than the commits that broke the tests. FARMDAWN is a program with `serve`; without it, that is the model."""
 import argparse
 import collections
 import os
 import random
 import re
+import statistics
 import subprocess
 import sys
 import tempfile
@@ -24,13 +30,19 @@ TOP = os.path.dirname(os.path.dirname(os.path.abspath(__file__)))
 ENV = {**CALM, "PATH": os.path.join(TOP, "driver", "bin") + os.pathsep + os.environ["PATH"],
        "FARMDAWN": os.environ.get("FARMDAWN", os.path.join(TOP, "driver", "model", "farmdawn"))}
 COMMITS, TESTS, CULPRITS = 300, 12, 5
-# sleeps, and notes what it was, its commit and how long it took, also where it is ended
+MINUTES = {"build": (17, 23), "test": (1, 3)}
+WAYS = {"bisect": "`git bisect run`, one after the other", "apart": "`git farmdawn`, one after the other", "at-once": "`git farmdawn`, all at once",
+        "one": "one search", "together": "one search, `--together`"}
+# sleeps so many seconds, and notes for how long, also where it is ended
 WORK = """#!/bin/bash
 since=$EPOCHREALTIME
-trap 'kill $! 2>/dev/null; echo "$1 $FARMDAWN_COMMIT $since $EPOCHREALTIME" >>"$NOTES"' EXIT
+trap 'kill $! 2>/dev/null; echo "$1 $since $EPOCHREALTIME" >>"$NOTES"' EXIT
 trap 'exit 143' TERM
 sleep "$2" &
 wait
+"""
+BUILD = """#!/bin/sh
+exec "$(dirname "$0")/work" build "$(sed -n "s/^$(cat number) //p" "$(dirname "$0")/builds")"
 """
 TEST = """#!/bin/sh
 "$(dirname "$0")/work" test "$(sed -n "s/^$1 //p" "$(dirname "$0")/seconds")"
@@ -39,7 +51,7 @@ TEST = """#!/bin/sh
 
 
 class Scene:
-    """The repository, the scripts, and what each test takes."""
+    """The repository, the scripts, what each takes, and which commit broke which test."""
 
     def __init__(self, room, seed, minute):
         choice = random.Random(seed)
@@ -51,32 +63,34 @@ class Scene:
         git(self.path, "reset", "-q", "--hard", "main")
         distinct = choice.sample(range(1, COMMITS + 1), CULPRITS)
         culprits = distinct + [choice.choice(distinct) for _ in range(TESTS - CULPRITS)]
-        self.tests = [f"t{number:02}" for number in range(1, TESTS + 1)]
-        self.seconds = {test: choice.uniform(1, 5) * minute for test in self.tests}
-        self.build = 20 * minute
-        self.write("work", WORK)
-        self.write("test", TEST)
-        self.write("culprits", "".join(f"{test} {culprit}\n" for test, culprit in zip(self.tests, culprits)))
-        self.write("seconds", "".join(f"{test} {seconds:.3f}\n" for test, seconds in self.seconds.items()))
+        self.tests = {f"t{number:02}": culprit for number, culprit in enumerate(culprits, 1)}
+        self.table("culprits", self.tests)
+        self.table("seconds", {test: self.seconds(choice, "test") for test in self.tests})
+        self.table("builds", {n: self.seconds(choice, "build") for n in range(COMMITS + 1)})
         self.write("list", "".join(test + "\n" for test in self.tests))
-        # a build takes 17 to 23 minutes, by its commit
-        self.write("build", '#!/bin/sh\nexec "$(dirname "$0")/work" build "$(awk -v s=%f \'{ srand($1); print s * (17 + 6 * rand()) / 20 }\' number)"\n'
-                   % self.build)
+        for name, text in (("work", WORK), ("test", TEST), ("build", BUILD)):
+            self.write(name, text)
+
+    def seconds(self, choice, kind):
+        return "%.3f" % (self.minute * choice.uniform(*MINUTES[kind]))
+
+    def table(self, name, rows):
+        self.write(name, "".join(f"{key} {value}\n" for key, value in rows.items()))
 
     def write(self, name, text):
         with open(os.path.join(self.room, name), "w") as file:
             file.write(text)
         os.chmod(os.path.join(self.room, name), 0o755)
 
-    def search(self, workers, *words):
-        """The output of one line."""
-        line = ["git", "farmdawn", "--quiet", "--fresh", "--trust-ends", "--workers", str(workers), "--build", os.path.join(self.room, "build"),
-                *words[:-2], f"c{COMMITS}", "c0", "--", os.path.join(self.room, "test"), words[-1]]
+    def begin(self, path, *words):
+        """A command under way in a folder."""
         env = {**ENV, "NOTES": os.path.join(self.room, "notes"), "FARMDAWN_NEEDED": "0"}
-        done = subprocess.run(line, cwd=self.path, env=env, stdout=subprocess.PIPE, stderr=subprocess.PIPE)
-        if done.returncode:
-            sys.exit(f"{' '.join(line)}: {done.returncode}\n{done.stderr.decode()}")
-        return done.stdout.decode()
+        return subprocess.Popen(words, cwd=path, env=env, stdout=subprocess.PIPE, stderr=subprocess.PIPE)
+
+    def search(self, workers, test, *more):
+        """A search for one test, or with --tests for all of them."""
+        return self.begin(self.path, "git", "farmdawn", "--quiet", "--fresh", "--trust-ends", "--workers", str(workers), "--build",
+                          os.path.join(self.room, "build"), *more, f"c{COMMITS}", "c0", "--", os.path.join(self.room, "test"), test)
 
     def notes(self):
         """Seconds of all work, by kind, and forgets them."""
@@ -84,55 +98,92 @@ class Scene:
         path = os.path.join(self.room, "notes")
         with open(path) as file:
             for line in file:
-                kind, _, since, until = line.split()
+                kind, since, until = line.split()
                 found[kind].append(float(until) - float(since))
         os.unlink(path)
         return found
 
 
-def answers(text):
-    return re.findall("^([0-9a-f]{40}) is the first bad commit", text, re.M)
+# -- ways ----------------------------------------------------------------------
+
+def output(process):
+    """What a command prints; the end of the script where it fails."""
+    text, told = process.communicate()
+    if process.returncode:
+        sys.exit(f"{' '.join(process.args)}: {process.returncode}\n{told.decode()}")
+    return text.decode()
 
 
-def bisected(scene, text):
-    """Seconds and builds of git bisect run for each test, by the logs."""
-    seconds, builds = 0.0, 0
-    for test, part in zip(scene.tests, re.split("^# search of .*\n", text, flags=re.M)[1:]):
-        steps = len(re.findall("^git bisect (?:good|bad) ", part, re.M))
-        seconds, builds = seconds + steps * (scene.build + scene.seconds[test]), builds + steps
-    return seconds, builds
+def bisect(scene, _):
+    git(scene.path, "config", "advice.detachedHead", "false")
+    texts = []
+    for test in scene.tests:
+        git(scene.path, "bisect", "start", f"c{COMMITS}", "c0")
+        script = f"{scene.room}/build || exit 125; exec {scene.room}/test {test}"
+        texts.append(output(scene.begin(scene.path, "git", "bisect", "run", "sh", "-c", script)))
+        git(scene.path, "bisect", "reset")
+    return "".join(texts)
 
 
-def row(scene, way, workers, took, notes):
-    hour = 60 * scene.minute
-    print(f"| {way} | {workers} | {took / hour:.1f} | {sum(map(sum, notes.values())) / hour:.1f} | {len(notes['build'])} | {len(notes['test'])} |", flush=True)
+def apart(scene, workers):
+    return "".join(output(scene.search(workers, test)) for test in scene.tests)
+
+
+def at_once(scene, workers):
+    waiting, running, texts = list(scene.tests), {}, {}
+    while waiting or running:
+        while waiting and len(running) < workers:
+            running[waiting[0]] = scene.search(max(1, workers // TESTS), waiting.pop(0))
+        for test, process in list(running.items()):
+            if process.poll() is not None:
+                texts[test] = output(running.pop(test))
+        time.sleep(0.005)
+    return "".join(texts[test] for test in scene.tests)
+
+
+def one(scene, workers):
+    return output(scene.search(workers, "{}", "--tests", os.path.join(scene.room, "list")))
+
+
+def together(scene, workers):
+    return output(scene.search(workers, "{}", "--together", "--tests", os.path.join(scene.room, "list")))
+
+
+RUN = {"bisect": bisect, "apart": apart, "at-once": at_once, "one": one, "together": together}
+
+
+def measured(scene, way, workers):
+    """Hours, hours of work, builds and tests; and whether the answers are right."""
+    began, hour = time.monotonic(), 60 * scene.minute
+    text = RUN[way](scene, workers)
+    took, notes = time.monotonic() - began, scene.notes()
+    found = re.findall("^([0-9a-f]{40}) is the first bad commit", text, re.M)
+    due = git(scene.path, "rev-parse", *[f"c{culprit}" for culprit in scene.tests.values()]).split()
+    if found != due:
+        print(f"{way}, {workers} workers: {found} and not {due}", file=sys.stderr)
+    return (took / hour, sum(map(sum, notes.values())) / hour, len(notes["build"]), len(notes["test"])), found == due
 
 
 def main():
     parser = argparse.ArgumentParser()
     parser.add_argument("--workers", default="4,16")
-    parser.add_argument("--way", default="one,together,apart")
-    parser.add_argument("--seed", type=int, default=1)
-    parser.add_argument("--minute", type=float, default=0.1)
+    parser.add_argument("--way", default=",".join(WAYS))
+    parser.add_argument("--seeds", default="1,2,3")
+    parser.add_argument("--minute", type=float, default=0.2)
     asked = parser.parse_args()
-    with tempfile.TemporaryDirectory() as room:
-        scene = Scene(os.path.realpath(room), asked.seed, asked.minute)
-        print("| Way | Workers | Hours | Hours of work | Builds | Tests |\n|---|---|---|---|---|---|")
-        found = set()
-        for workers in map(int, asked.workers.split(",")):
-            for way in asked.way.split(","):
-                began = time.monotonic()
-                if way == "apart":
-                    text = "".join(scene.search(workers, "--", test) for test in scene.tests)
-                else:
-                    text = scene.search(workers, *(["--together"] if way == "together" else []), "--tests", os.path.join(room, "list"), "--", "{}")
-                    reckoned = bisected(scene, text)
-                row(scene, way, workers, time.monotonic() - began, scene.notes())
-                found.add(tuple(answers(text)))
-        if asked.way != "apart":
-            seconds, builds = reckoned
-            print(f"| git bisect run | 1 | {seconds / 60 / scene.minute:.1f} | {seconds / 60 / scene.minute:.1f} | {builds} | {builds} |")
-    return len(found) == 1
+    right = True
+    print("| Way | Workers | Hours | Hours of work | Builds | Tests |\n|---|---|---|---|---|---|")
+    for way in asked.way.split(","):
+        for workers in [1] if way == "bisect" else [int(word) for word in asked.workers.split(",")]:
+            rows = []
+            for seed in asked.seeds.split(","):
+                with tempfile.TemporaryDirectory() as room:
+                    row, is_right = measured(Scene(os.path.realpath(room), int(seed), asked.minute), way, workers)
+                rows.append(row)
+                right = right and is_right
+            means = [statistics.mean(column) for column in zip(*rows)]
+            print("| {} | {} | {:.1f} | {:.0f} | {:.0f} | {:.0f} |".format(WAYS[way], workers, *means), flush=True)
+    return right
 
 
 if __name__ == "__main__":
