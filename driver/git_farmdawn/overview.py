@@ -1,17 +1,15 @@
-"""The report of several searches: result.json with a line for each test, and a page with the answers by commit."""
+"""The report of several searches: what result.json has of all of them together."""
 from __future__ import annotations
 
 import os
 import time
 from typing import TYPE_CHECKING, Dict, List, Optional, TypedDict
 
-from .drawing import page_text
 from .ending import Ending
+from .facts import outcome_of
 from .report_facts import AnswerFact, Collector, CommitFact
 from .report_more import text_of
-from .several import by_commit, heading
-from .telling import NAME
-from .words import counted
+from .several import by_commit
 
 if TYPE_CHECKING:
     from .facts import Row
@@ -38,6 +36,14 @@ class BrokenFact(TypedDict):
 
     commit: AnswerFact
     tests: List[str]
+
+
+class OutcomesFact(TypedDict):
+    """A commit, and what it is by each test that says something of it: good, bad, skipped or stopped."""
+
+    commit: str
+    subject: str
+    tests: Dict[str, str]
 
 
 class BuildFact(TypedDict):
@@ -67,11 +73,12 @@ class OverviewFacts(TypedDict):
     commits: int
     answers: List[BrokenFact]
     searches: List[SearchFact]
+    outcomes: List[OutcomesFact]
     builds: List[BuildFact]
 
 
 class Overview:
-    """The facts of all searches together, and their page."""
+    """The facts of all searches together."""
 
     def __init__(self, search: Search, version: str) -> None:
         self.search, self.version, self.ending = search, version, Ending(search)
@@ -86,7 +93,7 @@ class Overview:
             'status': status, 'reason': text_of(os.fsencode(reason)) or None, 'started': round(search.began + self.offset - 0.01, 2),
             'ended': None if status is None else round(time.time() + 0.01, 2), 'workers': settings.workers,
             'commits': search.history.left, 'answers': self.answers(), 'searches': [self.search_of(test, status) for test in search.tests],
-            'builds': [self.build_of(row) for row in search.builds]}
+            'outcomes': self.outcomes(), 'builds': [self.build_of(row) for row in search.builds]}
 
     def answers(self) -> List[BrokenFact]:
         """The first bad commits in the order of the history."""
@@ -114,44 +121,17 @@ class Overview:
         """The log of a search with its answer."""
         return [text_of(line) for line in self.search.log_lines(test, True)]
 
+    def outcomes(self) -> List[OutcomesFact]:
+        """The commits that have an outcome for some test, in the order of the history."""
+        history = self.search.history
+        found: Dict[str, Dict[str, str]] = {}
+        for test in self.search.tests:
+            for commit, status in test.known.items():
+                found.setdefault(commit, {})[text_of(os.fsencode(test.name))] = outcome_of(status)
+        return [{'commit': commit, 'subject': text_of(history.subject[commit]), 'tests': found[commit]}
+                for commit in sorted((name for name in found if name in history.place), key=lambda name: history.place[name])]
+
     def build_of(self, row: Row) -> BuildFact:
         """One build."""
         return {'commit': row.commit, 'worker': row.place + 1, 'began': round(row.began + self.offset, 2),
                 'ended': round(row.ended + self.offset, 2), 'status': row.status}
-
-    # -- the page ------------------------------------------------------------------
-
-    def page(self, facts: OverviewFacts) -> str:
-        """index.html: the answers by commit, with a link to the page of each test."""
-        title = page_text(heading(self.ending))
-        parts = ['<!DOCTYPE html>\n<html xmlns="http://www.w3.org/1999/xhtml" lang="en">\n<head>\n<meta charset="utf-8"/>\n'
-                 '<meta name="generator" content="git farmdawn"/>\n<meta name="viewport" content="width=device-width, initial-scale=1"/>\n'
-                 '<title>%s</title>\n<link rel="stylesheet" href="report.css"/>\n</head>\n<body>' % title,
-                 '<header class="verdict">\n<p class="kind">%s</p>\n<h1>%s</h1>\n</header>'
-                 % ('The searches run' if facts['status'] is None else 'Several tests', title)]
-        tests: Dict[str, SearchFact] = {one['test']: one for one in facts['searches']}
-        for broken in facts['answers']:
-            commit = broken['commit']
-            parts.append('<h2>%s</h2>\n<dl><dt>Commit</dt><dd class="name">%s</dd><dt>Author</dt><dd>%s</dd><dt>Broke</dt><dd>%s</dd></dl>'
-                         % (page_text(commit['subject']), commit['name'], page_text(commit['author']),
-                            ', '.join(self.link(tests[name]) for name in broken['tests'])))
-        others = [one for one in facts['searches'] if one['answer'] is None]
-        if others:
-            rows = ['<li>%s: %s%s</li>' % (self.link(one), page_text(one['reason'] or one['state']), self.candidates_of(one)) for one in others]
-            parts.append('<h2>Without an answer</h2>\n<ul>%s</ul>' % ''.join(rows))
-        parts.append('<footer>Made by git farmdawn %s; <a href="result.json">result.json</a> has the same.</footer>\n</body>\n</html>\n'
-                     % page_text(facts['version']))
-        return '\n'.join(parts)
-
-    @staticmethod
-    def link(one: SearchFact) -> str:
-        """The name of a test, with a link to its page."""
-        return '<a href="%s/index.html">%s</a>' % (page_text(one['folder']), page_text(one['test']))
-
-    @staticmethod
-    def candidates_of(one: SearchFact) -> str:
-        """The commits of which one is the first bad one."""
-        if not one['candidates']:
-            return ''
-        names = ', '.join('<span class="name">%s</span>' % name[:NAME] for name in one['candidates'][:20])
-        return ', one of %s: %s' % (counted(len(one['candidates']), 'commit'), names)

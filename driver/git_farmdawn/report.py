@@ -23,7 +23,7 @@ NEW = '.farmdawn-report.'
 MARKS = {'index.html': b'<meta name="generator" content="git farmdawn"/>', 'result.json': b'"generator": "git farmdawn",',
          'report.css': b'/* of a report of git farmdawn */', 'summary.md': b'<!-- git farmdawn -->', 'junit.xml': b'<!-- git farmdawn -->'}
 # a line for each of their parts
-LISTS = ('tests', 'log', 'candidates', 'contradictions', 'confirmed', 'last_good', 'odds', 'answers', 'searches', 'builds')
+LISTS = ('tests', 'log', 'candidates', 'contradictions', 'confirmed', 'last_good', 'odds', 'answers', 'searches', 'outcomes', 'builds')
 OUTPUT = '[0-9a-f]{4,64}([.]run[0-9]+)?[.]txt'
 
 
@@ -86,6 +86,7 @@ class Report:
     def write(self, status: Optional[int], reason: str = '', with_answer: bool = True) -> None:
         """The files of each search; where they cannot be written, nothing of a report is left, and OSError is raised.
         A status of None is that of a search that runs."""
+        searches = {}
         for test in self.search.tests:
             folder = os.path.join(self.folder, test.short) if test.name else self.folder
             own = test.status if with_answer and test.status is not None and status in range(7) else status
@@ -94,19 +95,22 @@ class Report:
                 collector = Collector(self.search, test, self.version)
                 facts = collector.collect(own, reason, with_answer) if test.wrong is None else collector.collect(1, test.wrong.text, False)
                 self.write_one(folder, test, facts)
+                searches[test.name] = facts
             except OSError:
                 if status is not None:
                     self.remove(folder)
                 raise
         if self.search.tests[0].name:
-            self.write_overview(status, reason)
+            self.write_overview(status, reason, searches)
 
-    def write_overview(self, status: Optional[int], reason: str) -> None:
+    def write_overview(self, status: Optional[int], reason: str, searches: Mapping[str, Facts]) -> None:
         """The files of several searches together."""
         from .overview import Overview
-        overview = Overview(self.search, self.version)
-        facts = overview.facts(status, reason)
-        self.put(self.folder, {'result.json': json_of(facts), 'index.html': overview.page(facts), 'report.css': STYLE})
+        from .overview_page import OverviewPage
+        from .overview_summary import junit_of_all, summary_of_all
+        facts = Overview(self.search, self.version).facts(status, reason)
+        self.put(self.folder, {'result.json': json_of(facts), 'index.html': OverviewPage(facts, searches).text(), 'report.css': STYLE,
+                               'summary.md': summary_of_all(facts, searches), 'junit.xml': junit_of_all(facts, searches, self.search.settings.cases)})
 
     @staticmethod
     def put(folder: str, texts: Mapping[str, str]) -> None:
@@ -122,7 +126,8 @@ class Report:
         bring_outputs(test, folder, facts['tests'])
         page = Page(facts, self.search, test)
         self.put(folder, {'result.json': json_of(facts), 'index.html': page.text(), 'report.css': STYLE,
-                          'summary.md': summary_of(facts), 'junit.xml': junit_of(facts)})
+                          'summary.md': summary_of(facts),
+                          'junit.xml': junit_of(facts, self.search.settings.cases.get(test.name))})
         remove_others(folder, [one['log'] for one in facts['tests']])
 
     @staticmethod

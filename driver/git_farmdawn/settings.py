@@ -67,6 +67,7 @@ class Settings:
         self.build: Optional[List[str]] = None
         self.tests: List[Tuple[str, List[str]]] = []
         self.short: Dict[str, str] = {}             # the name of a test for files
+        self.cases: Dict[str, Tuple[str, str]] = {}     # the class and the name of a test, from a file of JUnit
         self.is_list = False                        # whether the tests are those of a list, and no lines of sh
         self.missing: Dict[int, int] = {}           # what a status of a runner that finds no test stands for
         self.build_timeout: Optional[int] = None
@@ -273,6 +274,7 @@ class Filler:
         tests = lists.without_doubles(self.listed)
         settings.tests = [(test.name, lists.command_of(command, test)) for test in tests]
         settings.short = lists.short_names(test.name for test in tests)
+        settings.cases = {test.name: (test.parts['class'], test.parts['name']) for test in tests if test.parts}
         settings.is_list = True
 
     def read_tests(self, path: str) -> None:

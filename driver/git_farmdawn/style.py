@@ -19,6 +19,7 @@ pre { background: var(--plate); border: 1px solid var(--line); border-radius: 4p
 pre.prose { white-space: pre-wrap; overflow-wrap: anywhere }
 .kind { color: var(--soft); font-size: .9rem; margin: 0 }
 .verdict { border-left: 6px solid var(--bad); padding: .1rem 0 .1rem 1rem }
+.card { margin: 1.5rem 0 } .card h2 { margin-top: .3rem }
 .verdict.none { border-color: var(--skipped) }
 dl { display: grid; grid-template-columns: fit-content(40%) 1fr; gap: .15rem 1rem; margin: 0; align-items: baseline }
 dt { color: var(--soft) }
@@ -57,6 +58,7 @@ footer { color: var(--soft); font-size: .85rem; margin-top: 2rem }
   td { border: 0; padding: 0; font-size: .8rem } td:empty { display: none }
   td:first-child, td.what { font-size: .9rem } td:first-child { min-width: 5.2rem }
   td.what { flex: 1 1 calc(100% - 7.5rem) } td.plain { display: none }
+  .matrix tr { display: block }
   td[data-is]::before { content: attr(data-is) " "; color: var(--soft) }
 }
 """

@@ -3,7 +3,7 @@ from __future__ import annotations
 
 import re
 from html import escape
-from typing import List
+from typing import List, NamedTuple, Optional, Sequence, Tuple
 
 from .drawing import plain
 from .odds import of_hundred
@@ -108,25 +108,46 @@ def xml(text: str) -> str:
     return escape(plain(text))
 
 
-def junit_of(facts: Facts) -> str:
-    """One test case: the search. It fails by the commit that was found, so that a build server shows that beside the test."""
-    spent = (facts['ended'] or facts['started']) - facts['started']
-    name, outcome = facts['name'] or ' '.join(facts['command']), ''
-    counts = {'failures': 0, 'errors': 0, 'skipped': 0}
+class Case(NamedTuple):
+    """What a search counts as, its place in the tree of tests, how long it took, and what is said of it."""
+
+    kind: str
+    place: Tuple[str, str]
+    seconds: float
+    text: str
+
+
+def case_of(facts: Facts, place: Tuple[str, str], seconds: float) -> Case:
+    """The test case of a search. It fails by the commit that was found, so that a build server shows that beside the test."""
     answer = facts['answer']
     text = '\n'.join(facts['output']['lines']) if facts['output'] else ''
     if answer:
         message = 'first %s commit: %s %s, by %s' % (facts['terms']['new'], answer['name'], answer['subject'], answer['author'])
-        counts['failures'], outcome = 1, '<failure type="found" message="%s">%s</failure>' % (xml(message), xml(text))
-    elif facts['candidates']:
+        return Case('failures', place, seconds, '<failure type="found" message="%s">%s</failure>' % (xml(message), xml(text)))
+    if facts['candidates']:
         text = '\n'.join('%s %s' % (one['name'], one['subject']) for one in facts['candidates'])
         message = 'one of ' + counted(len(facts['candidates']), 'commit')
-        counts['failures'], outcome = 1, '<failure type="candidates" message="%s">%s</failure>' % (xml(message), xml(text))
-    elif facts['state'] == 'running':
-        counts['skipped'], outcome = 1, '<skipped message="the search runs"/>'
-    else:
-        counts['errors'], outcome = 1, '<error type="%s" message="%s">%s</error>' % (facts['state'], xml(facts['reason'] or ''), xml(text))
-    sums = ' '.join('%s="%d"' % pair for pair in counts.items())
-    return (FIRST + '<testsuites>\n<testsuite name="git farmdawn" tests="1" %s time="%.2f">\n'
-            '<testcase classname="git farmdawn" name="%s" time="%.2f">'
-            '%s</testcase>\n</testsuite>\n</testsuites>\n' % (sums, spent, xml(name), spent, outcome))
+        return Case('failures', place, seconds, '<failure type="candidates" message="%s">%s</failure>' % (xml(message), xml(text)))
+    if facts['state'] == 'running':
+        return Case('skipped', place, seconds, '<skipped message="the search runs"/>')
+    return Case('errors', place, seconds, '<error type="%s" message="%s">%s</error>' % (facts['state'], xml(facts['reason'] or ''), xml(text)))
+
+
+def junit_text(cases: Sequence[Case], seconds: float) -> str:
+    """A file of JUnit."""
+    sums = ' '.join('%s="%d"' % (kind, sum(case.kind == kind for case in cases)) for kind in ('failures', 'errors', 'skipped'))
+    form = '<testcase classname="%s" name="%s" time="%.2f">%s</testcase>\n'
+    rows = ''.join(form % (xml(case.place[0]), xml(case.place[1]), case.seconds, case.text) for case in cases)
+    return (FIRST + '<testsuites>\n<testsuite name="git farmdawn" tests="%d" %s time="%.2f">\n%s</testsuite>\n</testsuites>\n'
+            % (len(cases), sums, seconds, rows))
+
+
+def junit_of(facts: Facts, place: Optional[Tuple[str, str]] = None) -> str:
+    """One test case: the search."""
+    spent = (facts['ended'] or facts['started']) - facts['started']
+    return junit_text([case_of(facts, place or place_of(facts), spent)], spent)
+
+
+def place_of(facts: Facts) -> Tuple[str, str]:
+    """Where a search stands among the tests of a build server, where its test has no place of its own there."""
+    return 'git farmdawn', facts['name'] or ' '.join(facts['command'])

@@ -20,7 +20,9 @@ from git_farmdawn import report                                  # noqa: E402
 from git_farmdawn.confirm import Tally                          # noqa: E402
 from git_farmdawn.facts import Row                              # noqa: E402
 from git_farmdawn.outcomes import Outcomes                      # noqa: E402
-from git_farmdawn.overview import OverviewFacts                 # noqa: E402
+from git_farmdawn.overview import Overview, OverviewFacts       # noqa: E402
+from git_farmdawn.overview_page import MOST_COLUMNS, OverviewPage   # noqa: E402
+from git_farmdawn.overview_summary import junit_of_all, summary_of_all   # noqa: E402
 from git_farmdawn.page import Page                              # noqa: E402
 from git_farmdawn import remote                                  # noqa: E402
 from git_farmdawn.report_facts import Collector, Facts, TestFact   # noqa: E402
@@ -29,6 +31,7 @@ from git_farmdawn.words import Stop                             # noqa: E402
 
 HOSTILE = ['<script>alert(1)</script>', "<img src=x onerror='alert(1)'>", '&lt;b&gt; &amp; "quoted"', ']]> --> </style></pre></html>', '\033[31mred\033[0m',
            'bell \a back \b \0 \x7f', '\x85 \u2028 \u202ereversed', '\ufffe \uffff \U0001fffe', '\udcff\udcfe', 'ümläut 日本 😀', '', '%s %d {}']
+HOSTILE_NAMES = ['tests/a.py::B::c[<1>]', '&lt;b&gt; "quoted"', ']]> --> </svg>', 'ümläut `日本`', '%s {} *']
 NAME = '[0-9a-f]{40}'
 FILES = ['index.html', 'junit.xml', 'outputs', 'report.css', 'result.json', 'summary.md']
 
@@ -67,9 +70,23 @@ def make_search(room: str, texts: List[str], answer: Optional[int]) -> Any:
                                     subject={name: os.fsencode(text) for name, text in zip(order, texts)}, left=len(order) - 1, added_bad=None)
     settings = types.SimpleNamespace(bad=order[-1], goods=[order[0]], terms=('bad', 'good'), first_parent=False, paths=[], workers=3, typed={},
                                      term_new=None, term_old=None, timeout=None, noise=None, retry=0, repeat=1, is_list=False, missing={},
-                                     build_timeout=None, build=['/bin/sh', '-c', 'make'])
+                                     build_timeout=None, build=['/bin/sh', '-c', 'make'], cases={})
     return types.SimpleNamespace(tests=[test], history=history, settings=settings, repo=Repo(room), began=1.0, voice=None, running=lambda: [],
                                  log_lines=lambda one, with_answer=True: one.log + (one.answer if with_answer else []))
+
+
+def make_several(room: str, texts: List[str], answers: List[Optional[int]]) -> Any:
+    """Searches for several tests, each with the number of its answer; None is one that is left out."""
+    search = make_search(room, texts, 1)
+    search.builds, order, base = [], search.history.order, vars(search.tests[0])
+    search.tests = []
+    for number, answer in enumerate(answers):
+        known = {name: int(at >= (answer or 0)) for at, name in enumerate(order[1:-1], 1) if at % 4 != number % 4 or at == answer}
+        wrong = None if answer else types.SimpleNamespace(text='it was called bad')
+        last = [b'%s is the first bad commit' % order[answer].encode()] if answer else []
+        search.tests.append(types.SimpleNamespace(**{**base, 'name': HOSTILE_NAMES[number], 'short': 't%d' % number, 'known': known, 'rows': [],
+                                                     'wrong': wrong, 'answer': last, 'status': 0 if answer else 1, 'missing': set()}))
+    return search
 
 
 class Room(unittest.TestCase):
@@ -149,6 +166,45 @@ class Pages(Room):
         case = next(ElementTree.fromstring(junit.encode('utf-8')).iter('failure'))
         self.assertIn('first bad commit: %s change 4, by Ann' % name, case.get('message', ''))
         self.assertIn('change 4', case.text or '')
+
+    def test_overview(self) -> None:
+        """Of several tests: a card a commit, a row a test by these commits, a cell an outcome; a test case a test; whatever their names have."""
+        search = make_several(self.room, ['c%d' % at for at in range(12)], [7, 3, None, 7, 3])
+        order, names = search.history.order, HOSTILE_NAMES
+        facts = Overview(search, '0.1.0').facts(1, '')
+        searches = {test.name: Collector(search, test, '0.1.0').collect(test.status, '', test.wrong is None) for test in search.tests}
+        self.assertEqual(list(facts), list(OverviewFacts.__annotations__))
+        self.assertEqual([(one['commit']['name'], one['tests']) for one in facts['answers']],
+                         [(order[3], [names[1], names[4]]), (order[7], [names[0], names[3]])])
+        for one in facts['outcomes']:
+            self.assertEqual(one['tests'], {test.name: 'bad' if test.known[one['commit']] else 'good' for test in search.tests if one['commit'] in test.known})
+        root = ElementTree.fromstring(OverviewPage(facts, searches).text().encode('utf-8'))
+        tag = '{http://www.w3.org/1999/xhtml}'
+        self.assertEqual([card.findtext(tag + 'h2') for card in root.iter(tag + 'section')], ['c3', 'c7'])
+        rows = [(row.findtext(tag + 'td/' + tag + 'a'), [cell.get('class') for cell in row.iter() if cell.tag in (tag + 'rect', tag + 'path')])
+                for row in root.iter(tag + 'tr')][1:]
+        self.assertEqual([name for name, _ in rows], [names[at] for at in (1, 4, 0, 3, 2)])
+        for name, cells in rows:
+            test = search.tests[names.index(name)]
+            due = ['bad' if test.known[commit] else 'good' for commit in order if commit in test.known]
+            self.assertEqual(cells, due if test.wrong else due[:due.index('bad')] + ['boundary'] + due[due.index('bad'):])
+        cases = list(ElementTree.fromstring(junit_of_all(facts, searches, {names[0]: ('a.B', 'c')}).encode('utf-8')).iter('testcase'))
+        self.assertEqual([(case.get('classname'), case.get('name')) for case in cases], [('a.B', 'c')] + [('git farmdawn', name) for name in names[1:]])
+        self.assertEqual([[part.tag for part in case] for case in cases], [['error' if test.wrong else 'failure'] for test in search.tests])
+        self.assertIn('first bad commit: %s c7, by Ann' % order[7], cases[0][0].get('message', ''))
+        summary = summary_of_all(facts, searches)
+        self.check_summary(summary)
+        self.assertEqual(re.findall(r'^\[`0{12}`\]\(https.*\) (.*)$', summary, re.M), ['c3', 'c7'])
+
+    def test_wide_matrix(self) -> None:
+        """Of very many commits those are shown that most tests say something of, and the answers in any case."""
+        search = make_several(self.room, ['c%d' % at for at in range(4 * MOST_COLUMNS)], [7, 3, None, 7, 600])
+        search.tests[4].known = {search.history.order[600]: 1}
+        facts = Overview(search, '0.1.0').facts(1, '')
+        columns = OverviewPage(facts, {}).columns()
+        self.assertEqual(len(columns), MOST_COLUMNS)
+        self.assertTrue({broken['commit']['name'] for broken in facts['answers']} <= {column['commit'] for column in columns})
+        self.assertEqual([column['commit'] for column in columns], sorted(column['commit'] for column in columns))
 
     def test_manual(self) -> None:
         """The manual has the keys of result.json and of its lists, in their order, and the files; then what that of several tests has more."""
