@@ -133,7 +133,8 @@ def at_once(scene, workers):
     waiting, running, texts = list(scene.tests), {}, {}
     while waiting or running:
         while waiting and len(running) < workers:
-            running[waiting[0]] = scene.search(max(1, workers // TESTS), waiting.pop(0))
+            test = waiting.pop(0)
+            running[test] = scene.search(max(1, workers // TESTS), test)
         for test, process in list(running.items()):
             if process.poll() is not None:
                 texts[test] = output(running.pop(test))
