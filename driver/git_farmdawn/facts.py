@@ -21,11 +21,19 @@ class Row(NamedTuple):
 
 
 class Running(NamedTuple):
-    """A test that runs now."""
+    """A test that runs now, or a build; of several tests its subject is the name of the test."""
 
     began: float
     commit: str
     subject: bytes
+
+
+class Shares(NamedTuple):
+    """How far several searches are."""
+
+    left: int                   # those that have no end
+    total: int
+    done: float                 # which part of all rounds is done
 
 
 class Progress(NamedTuple):
@@ -36,6 +44,7 @@ class Progress(NamedTuple):
     done: int                   # tests that have ended
     seconds: Optional[float]    # the estimate of what is left, or None
     running: List[Running]
+    searches: Optional[Shares] = None   # where several run
 
 
 class End(NamedTuple):

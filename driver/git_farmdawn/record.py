@@ -28,6 +28,7 @@ class Test:
         self.status: Optional[int] = None
         self.left: Optional[Tuple[int, int]] = None         # commits, and those of them that are skipped
         self.told_left: Optional[Tuple[int, int]] = None
+        self.told_end: Optional[List[bytes]] = None         # the answer that was told as the search had its end
         self.left_at_begin: Optional[Tuple[int, int]] = None
         self.known: Dict[str, int] = {}                     # statuses by commit, also of earlier runs
         self.kept: Dict[str, int] = {}                      # those of earlier runs alone

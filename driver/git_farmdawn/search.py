@@ -5,7 +5,7 @@ import os
 import time
 from typing import TYPE_CHECKING, Dict, Iterator, List, Optional, Tuple
 
-from . import telling
+from . import several, telling
 from .checkouts import Sections
 from .claims import Claim, Preparation, Slot
 from .dialogue import Dialogue
@@ -79,6 +79,7 @@ class Search:
             self.needless.mark(test, {int(word) for word in rest.split()})
         elif kind == b'end':
             self.loop.later(0, self.needless.review_alone, test)
+            self.loop.later(0, several.tell_end, self, test)
 
     def begin_again(self) -> None:
         """Begins the searches anew with what is known now, as an outcome was taken back."""
@@ -341,6 +342,7 @@ class Search:
         if claim.run > 1 or self.dialogue.engine is None:
             return                      # what it means is said when all of them have ended
         self.check_end(claim, status)
+        self.loop.later(0, several.tell_end, self, test)
         if worker:
             self.ask(f'post {worker} {status}')
         elif not claim.is_end:

@@ -1,12 +1,13 @@
-"""What is told of several searches at their end: the answers by commit, what has none, and what all of it took."""
+"""What is told of several searches: how far they are, the answers by commit, what has none, and what all of it took."""
 from __future__ import annotations
 
 import os
 import time
-from typing import TYPE_CHECKING, Dict, Iterator, List
+from typing import TYPE_CHECKING, Dict, Iterator, List, Optional, Tuple
 
-from .facts import mean_of, used_of
-from .telling import NAME, lasting, shown
+from .evidence import named_by, unseen
+from .facts import Shares, mean_of, used_of
+from .telling import NAME, lasting, rounds, shown
 from .words import counted, quoted
 
 if TYPE_CHECKING:
@@ -86,6 +87,41 @@ def heading(ending: Ending) -> str:
     found = by_commit(ending)
     return '%s of %s broke with %s' % (sum(len(tests) for tests in found.values()), counted(len(ending.tests), 'test'),
                                        counted(len(found), 'commit'))
+
+
+# -- while it searches ---------------------------------------------------------
+
+def rounds_left(test: Test, commits: int) -> int:
+    """How often the commits are halved that a search still has; of one that has not begun, all."""
+    if test.status is not None:
+        return 0
+    left, away = test.left or (commits, 0)
+    return rounds(left - away)
+
+
+def shares_of(search: Search) -> Tuple[Shares, Optional[float]]:
+    """How far the searches are, by their rounds; and how many seconds the rest takes, where it goes on as it went so far."""
+    commits, tests = search.history.left, search.tests
+    total = max(1, len(tests) * rounds(commits))
+    done = 1.0 - sum(rounds_left(test, commits) for test in tests) / total
+    passed = time.monotonic() - search.began
+    return Shares(sum(test.status is None for test in tests), len(tests), done), passed * (1.0 - done) / done if done > 0 else None
+
+
+def tell_end(search: Search, test: Test) -> None:
+    """A line as soon as one of several searches has its end, and stands on ends that were seen; once, as long as that does not change."""
+    ending = list(test.answer)
+    if search.settings.quiet or not test.name or test.status is None or test.wrong is not None or test.told_end == ending:
+        return
+    if not search.settings.trust_ends and unseen(test.known, search.ends):
+        return                          # they are tested now
+    test.told_end = ending
+    names = named_by(test.answer, search.history.place)
+    if test.status == 0 and names:
+        subject = shown(search.history.subject[names[0]], SUBJECT)
+        search.voice.line('%s %s  %s  [%s]' % (search.voice.bold('found'), names[0][:NAME], subject, test.name))
+    elif test.status == 2:
+        search.voice.line('one of %s  [%s]' % (named_commits(names), test.name))
 
 
 # -- sums ----------------------------------------------------------------------

@@ -110,7 +110,11 @@ def left_text(left: int, away: int, seconds: Optional[float]) -> str:
 def bar(total: int, left: int) -> str:
     """How far a search is, by rounds."""
     all_rounds = math.log2(total) if total > 1 else 1.0
-    done = 1.0 - (math.log2(left) if left > 1 else 0.0) / all_rounds
+    return cells(1.0 - (math.log2(left) if left > 1 else 0.0) / all_rounds)
+
+
+def cells(done: float) -> str:
+    """A part of 1 as a bar."""
     full = max(0, min(CELLS, int(done * CELLS + 0.5)))
     return '[%s%s]' % ('#' * full, '-' * (CELLS - full))
 
@@ -118,10 +122,15 @@ def bar(total: int, left: int) -> str:
 def fronts(progress: Progress) -> List[str]:
     """What stands before the tests, from the longest to the shortest."""
     done = '%d done, ' % progress.done
+    time_left = ', ' + estimate_short(progress.seconds) if progress.seconds is not None else ''
+    if progress.searches is not None:
+        shares = progress.searches
+        tests = '%d of %d tests left' % (shares.left, shares.total)
+        return ['%s %s%s | %s' % (cells(shares.done), tests, time_left, done), '%s%s | %s' % (tests, time_left, done),
+                '%s%s | ' % (tests, time_left), '%d left | ' % shares.left, '']
     if progress.left is None:
         return [done, '']
     left = '%d of %d left' % (progress.left, progress.total)
-    time_left = ', ' + estimate_short(progress.seconds) if progress.seconds is not None else ''
     to_go = ', ~' + counted(rounds(progress.left), 'round')
     return ['%s %s%s%s | %s' % (bar(progress.total, progress.left), left, to_go, time_left, done),
             '%s%s%s | %s' % (left, to_go, time_left, done), '%s%s%s | ' % (left, to_go, time_left),

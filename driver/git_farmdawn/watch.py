@@ -5,7 +5,7 @@ import os
 import time
 from typing import TYPE_CHECKING, Optional
 
-from . import telling
+from . import several, telling
 from .claims import Claim, Job
 from .confirm import Confirming
 from .evidence import WrongEnd, unseen, wrong_of
@@ -109,16 +109,25 @@ class Watch:
     def progress(self) -> Progress:
         """How far the search is, for the live line."""
         search, tests = self.search, self.search.tests
-        running = [Running(job.began, job.commit, b'is built' if job.is_build else search.history.subject[job.commit])
+        running = [Running(job.began, job.commit, b'is built' if job.is_build else self.subject_of(job))
                    for job in search.places.jobs() if isinstance(job, Claim) or job.is_build]
         ended = [row for test in tests for row in test.ended()]
-        left = tests[0].left if len(tests) == 1 else None
+        left = tests[0].left
+        if len(tests) > 1:
+            shares, seconds = several.shares_of(search)
+            return Progress(0, None, len(ended), seconds, running, shares)
         begin = tests[0].left_at_begin or (0, 0)
         seconds = None
         if left is not None and ended:
             spent = sum(row.ended - row.began for row in [*ended, *search.builds])
             seconds = telling.estimate_seconds(telling.rounds(left[0] - left[1]), spent, len(ended), self.settings.workers)
         return Progress(begin[0], left[0] if left else None, len(ended), seconds, running)
+
+    def subject_of(self, job: Job) -> bytes:
+        """What a test is shown by: where there are several its name, else its commit."""
+        if isinstance(job, Claim) and job.test.name:
+            return os.fsencode(job.test.name)
+        return self.search.history.subject[job.commit]
 
     # -- ends ------------------------------------------------------------------
 

@@ -122,6 +122,29 @@ class Several(unittest.TestCase):
         self.assertRegex(got.stderr, 'the build of [0-9a-f]{12} is no longer needed')
         repo.check_left()
 
+    def test_told_as_found(self) -> None:
+        """A search that has its end is told at once, while others run; one that stands on an end which was not seen is not."""
+        repo = Repository(self, 12)
+        hold = repo.room + '/hold'
+        with open(repo.room + '/list', 'w', encoding='utf-8') as file:
+            file.write('3\n8\n99\n')
+        test = f'n=$(cat number); [ "$0" != 8 ] || while [ -e {hold} ]; do sleep 0.1; done; [ "$n" -lt "$0" ]'
+        with open(hold, 'w', encoding='utf-8'):
+            process = repo.begin('--workers', '3', '--tests', repo.room + '/list', *repo.ends(), '--', 'sh', '-c', test, '{}')
+        lines: List[str] = []
+        assert process.stderr is not None
+        for line in process.stderr:
+            lines.append(line)
+            if line == f'found {repo.name("c3")[:12]}  change 3  [3]\n':
+                self.assertNotIn('[8]', ''.join(line for line in lines if line.startswith(('good', 'bad'))))
+                os.unlink(hold)
+        self.assertEqual(process.wait(SECONDS), 1, lines)
+        self.assertEqual([line for line in lines if line.startswith('found')],
+                         [f'found {repo.name(name)[:12]}  change {number}  [{number}]\n' for name, number in (('c3', 3), ('c8', 8))])
+        assert process.stdout is not None
+        process.stdout.close()
+        process.stderr.close()
+
     def test_more_than_64(self) -> None:
         """They have their turns; one result for each, and all together by commit."""
         repo = Repository(self, 3)

@@ -12,7 +12,7 @@ from unittest import mock
 sys.path.insert(0, os.path.dirname(os.path.dirname(os.path.abspath(__file__))))
 
 from git_farmdawn import telling                                # noqa: E402
-from git_farmdawn.facts import Progress, Row, Running           # noqa: E402
+from git_farmdawn.facts import Progress, Row, Running, Shares   # noqa: E402
 
 SUBJECTS = (b'', b'plain', 'ümläut'.encode(), '日本語の件名がここにあります'.encode(), b'bell \a \033[2J', b'\xff\xfe', 'e\u0301\u0301 😀😀😀'.encode(), b'x' * 300,
             '\u202ereversed \u200b'.encode())
@@ -68,14 +68,15 @@ class LiveLine(unittest.TestCase):
             running = [Running(choice.uniform(0, 5000), '%040x' % choice.getrandbits(160), choice.choice(SUBJECTS)) for _ in range(choice.randrange(9))]
             total = choice.randrange(1, 5000)
             progress = Progress(total, choice.choice([None, choice.randrange(1, total + 1)]), choice.randrange(90),
-                                choice.choice([None, choice.uniform(0, 9000)]), running)
+                                choice.choice([None, choice.uniform(0, 9000)]), running,
+                                choice.choice([None, None, Shares(choice.randrange(513), 512, choice.random())]))
             width = choice.randrange(30, 200)
             text = telling.live_line(progress, width, 5000.0)
             self.assertLessEqual(width_of(text), width, text)
             if running and width > 36:
                 self.assertIn(min(running).commit[:12], text)
                 self.assertIn('%d under test: ' % len(running), text)
-            if running and progress.left is not None and width >= 60:
+            if running and (progress.left is not None or progress.searches) and width >= 60:
                 self.assertLess(text.index(' left'), text.index('under test'))
 
     def test_bar(self) -> None:
@@ -87,6 +88,8 @@ class LiveLine(unittest.TestCase):
         """All of it, where there is room."""
         line = telling.live_line(Progress(59, 7, 12, 40.0, [Running(0.0, 'a' * 40, b'Note 34')]), 150, 6.0)
         self.assertEqual(line, '[#####-----] 7 of 59 left, ~3 rounds, ~40 s | 12 done, 1 under test: aaaaaaaaaaaa 6 s Note 34')
+        line = telling.live_line(Progress(0, None, 12, 40.0, [Running(0.0, 'a' * 40, b't04')], Shares(9, 12, 0.42)), 150, 6.0)
+        self.assertEqual(line, '[####------] 9 of 12 tests left, ~40 s | 12 done, 1 under test: aaaaaaaaaaaa 6 s t04')
 
 
 class Verdicts(unittest.TestCase):
