@@ -7,10 +7,12 @@ import random
 import re
 import signal
 import stat
+import subprocess
 import unittest
 from typing import List
 
-from helpers import ENGINE, ENV, SECONDS, Repository, needs_engine, wait_until
+from helpers import ENGINE, ENV, LONG, SECONDS, Repository, needs_engine, wait_until
+from test_ends_random import is_small_disk
 
 # an engine that looks, at each outcome that it is told, whether so many outcomes are kept
 WATCHED = '''#!/usr/bin/env python3
@@ -28,6 +30,35 @@ for line in sys.stdin.buffer:
 engine.stdin.close()
 sys.exit(engine.wait())
 '''
+
+
+# a test by its name, and what is told at the end; a letter c and a number stand for a commit, a large one for its whole name
+CHECK = '''n=$(cat number)
+[ "$(cat built)" = "$n" ] || exit 99
+case $1 in
+plain) test $n -lt 10 ;;
+skipped) test $n -lt 12 ;;
+stuck) test $n -lt 14 ;;
+stop) test $n != 7 || exit 200; test $n -lt 8 ;;
+late) test $n != 6 || sleep 600; test $n -lt 7 ;;
+new) test $n -ge 9 || exit 5; exit 1 ;;
+fit) exit 0 ;;
+ill) exit 1 ;;
+low) test $n -lt 4 ;;
+esac
+'''
+DECIDED = [
+    'c10 is the first bad commit of plain',
+    'skipped: one of 2 commits: c11 c12',               # the build of c11 fails
+    'stuck: one of 2 commits: c13 c14',                 # that of c13 takes too long
+    'stop: its test of c7 ended with 200, which stops its search',
+    'late: one of 2 commits: c6 c7',
+    'c9 is the first bad commit of new',
+    'new: it was not there in [0-9]+ commits?; the commit that was found is the first one that has it',
+    'fit is left out: C16 was called bad, and its test ended with 0',
+    'ill is left out: C1 was called good, and its test ended with 1',
+    'low: its test of c3 ended with 130, which stops its search',
+]
 
 
 def open_lines(path: str) -> List[str]:
@@ -96,6 +127,73 @@ class Several(unittest.TestCase):
         got = repo.search(*words)
         self.assertEqual(re.findall('^([0-9a-f]*) is the first bad commit$', got.stdout, re.M), [repo.name(name) for name in ('c5', 'c12', 'c17')], got.stderr)
         self.assertLessEqual(len(set(before) & set(open_lines(made)[len(before):])), 2)       # those that were ended
+        repo.check_left()
+
+    def test_interrupted_build(self) -> None:
+        """It ends with the search, with all that it started, and says nothing of its commit; the same line goes on."""
+        repo = Repository(self, 6)
+        hold, began = repo.room + '/hold', repo.room + '/began'
+        with open(repo.room + '/list', 'w', encoding='utf-8') as file:
+            file.write('3\n5\n')
+        build = f'touch {began}; [ ! -e {hold} ] || {{ setsid {LONG} & {LONG}; }}'
+        words = ['--trust-ends', '--workers', '2', '--build', build, '--tests', repo.room + '/list', *repo.ends(), '--', 'sh', '-c', 'test $(cat number) -lt "$0"', '{}']
+        for number, status in ((signal.SIGINT, 130), (signal.SIGKILL, -signal.SIGKILL)):
+            with open(hold, 'w', encoding='utf-8'):
+                process = repo.begin(*words)
+            wait_until(lambda: os.path.exists(began) or process.poll() is not None, 'a build')
+            process.send_signal(number)
+            out, told = process.communicate(timeout=SECONDS)
+            self.assertEqual(process.returncode, status, told)
+            wait_until(lambda: not repo.left(), 'the end of all')
+            self.assertNotRegex(out + told, '(?m)^(git bisect )?(good|bad|skip) ')
+            os.unlink(began)
+        os.unlink(hold)
+        got = repo.search(*words)
+        self.assertEqual(re.findall('^([0-9a-f]*) is the first bad commit$', got.stdout, re.M), [repo.name(name) for name in ('c3', 'c5')], got.stderr)
+        repo.check_left()
+
+    def test_full_disk(self) -> None:
+        """A disk that fills stops all searches; what was found before is kept, and the same line goes on when there is room."""
+        repo = Repository(self, 20)
+        state = repo.room + '/state'
+        os.mkdir(state)
+        if not is_small_disk(state):
+            self.skipTest('no small disk can be made here')
+        self.addCleanup(subprocess.run, ['umount', '-l', state])
+        with open(repo.room + '/list', 'w', encoding='utf-8') as file:
+            file.write('5\n12\n17\n')
+        with open(repo.room + '/fills', 'w', encoding='utf-8'):
+            pass
+        test = f'[ "$0" != 12 ] || [ ! -e {repo.room}/fills ] || dd if=/dev/zero of={state}/fill bs=64k 2>/dev/null; test "$(cat number)" -lt "$0"'
+        words = ['--trust-ends', '--workers', '2', '--state', state, '--build', 'true', '--tests', repo.room + '/list', *repo.ends(), '--', 'sh', '-c', test, '{}']
+        got = repo.search(*words)
+        self.assertEqual(got.returncode, 14, got.stderr)
+        self.assertRegex(got.stderr, 'no room in .*: a test gives no verdict there\n')
+        self.assertRegex(got.stderr, 'stopped; the same line goes on from [0-9]+ outcomes')
+        repo.check_left()
+        os.unlink(state + '/fill')
+        os.unlink(repo.room + '/fills')
+        got = repo.search(*words)
+        self.assertEqual(re.findall('^([0-9a-f]*) is the first bad commit$', got.stdout, re.M), [repo.name(name) for name in ('c5', 'c12', 'c17')], got.stderr)
+        repo.check_left()
+
+    def test_decided(self) -> None:
+        """What each test comes to, and no other one by it: limits of time, faults of the build, a test that is not there, ends, stops."""
+        repo = Repository(self, 16)
+        script = repo.room + '/check'
+        with open(script, 'w', encoding='utf-8') as file:
+            file.write(CHECK)
+        with open(repo.room + '/list', 'w', encoding='utf-8') as file:
+            file.write('plain\nskipped\nstuck\nstop\nlate\nnew\nfit\nill\nlow\n')
+        build = 'case $(cat number) in 3) exit 130 ;; 11) exit 1 ;; 13) sleep 600 ;; esac; cp number built'
+        got = repo.search('--workers', '4', '--timeout', '15', '--build-timeout', '12', '--build', build, '--missing', '5=good', '--tests', repo.room + '/list',
+                          *repo.ends(), '--', 'sh', script, '{}')
+        self.assertEqual(got.returncode, 6, got.stderr)
+        told = got.stderr[got.stderr.index(' broke with '):]
+        for line in DECIDED:
+            named = re.sub(r'\b[cC][0-9]+', lambda found: repo.name(found.group().lower())[:12 if found.group()[0] == 'c' else 40], line)
+            self.assertRegex(told, f'(?m)^{named}$')
+        self.assertIn('git farmdawn: 2 of 9 tests broke with 2 commits:', got.stderr)
         repo.check_left()
 
     def test_together(self) -> None:
