@@ -1,24 +1,28 @@
 """Random searches for several tests at once. Each log and answer is that of its test alone, by an engine that has all outcomes of that
 test; and `git bisect run` for each test comes to the same commit, which is the one that broke it. Where commits are skipped, git may
-ask in another order: there both must be right. FARMDAWN_CASES says how many, FARMDAWN_SEED from where on."""
+ask in another order: there both must be right. Some are ended on their way, and the same line goes on. FARMDAWN_CASES says how many,
+FARMDAWN_SEED from where on; with FARMDAWN_COUNTS it is told what they had."""
 from __future__ import annotations
 
+import collections
 import os
 import random
 import re
+import signal
 import subprocess
 import unittest
-from typing import Dict, List, NamedTuple, Set
+from typing import Counter, Dict, List, NamedTuple, Set
 
-from helpers import ENGINE, ENV, Repository, needs_engine
+from helpers import ENGINE, ENV, SECONDS, Repository, needs_engine
 
 CASES, SEED = int(os.environ.get('FARMDAWN_CASES') or 40), int(os.environ.get('FARMDAWN_SEED') or 1)
 STOP, MISSING = 200, 5
-# what a commit, by its number, ends with: that of its build, and that of a test
-BUILD = 'sed -n "$(cat number)p" %s/build >status; exit "$(cat status)"'
-TEST = 'exit "$(sed -n "$(cat number)p" "$0/$1")"'
+# what a commit, by its number, ends with: that of its build, and that of a test; by words of sh alone, which start no process
+FIND = 'read n <number; i=0; while read -r s && i=$((i + 1)) && [ $i -lt "$n" ]; do :; done <'
+BUILD = FIND + '%s/build; echo "$s" >status; exit "$s"'
+TEST = FIND + '"$0/$1"; exit "$s"'
 # the same in one, as git bisect run wants it
-ALONE = 'b=$(sed -n "$(cat number)p" "$0/build"); [ "$b" = 0 ] || exit 125\ns=$(sed -n "$(cat number)p" "$0/$1"); [ "$s" != 5 ] || exit 125\nexit "$s"\n'
+ALONE = FIND + '"$0/build"; [ "$s" = 0 ] || exit 125\n' + FIND + '"$0/$1"; [ "$s" != 5 ] || exit 125\nexit "$s"\n'
 
 
 # an engine that keeps what it is told
@@ -162,11 +166,31 @@ def found_in(text: str) -> Found:
 class Random(unittest.TestCase):
     """Random cases."""
 
+    counts: Counter[str] = collections.Counter()
+
+    @classmethod
+    def tearDownClass(cls) -> None:
+        """Tells how often each kind came, where that is asked for."""
+        if os.environ.get('FARMDAWN_COUNTS'):
+            os.write(2, f'several: {dict(sorted(cls.counts.items()))}\n'.encode())
+
     def test_beside_git(self) -> None:
         """Each of them."""
         for seed in range(SEED, SEED + CASES):
             with self.subTest(seed):
-                self.look_at(Case(self, seed))
+                case = Case(self, seed)
+                self.look_at(case)
+                self.count(case)
+
+    def count(self, case: Case) -> None:
+        """Counts it, and what it had."""
+        has = {'cases': True, 'skips by builds': any(case.statuses['build'])}
+        for word, status in (('skips', 125), ('aborts', STOP), ('missing tests', MISSING)):
+            has[word] = any(status in case.statuses[test] for test in case.tests)
+        self.counts.update(word for word, holds in has.items() if holds)
+        self.counts['tests'] += len(case.tests)
+        if os.environ.get('FARMDAWN_COUNTS') and self.counts['cases'] % 10 == 0:
+            os.write(2, f'{dict(sorted(self.counts.items()))}\n'.encode())
 
     def look_at(self, case: Case) -> None:
         """One of them: all searches together, and then each by git."""
@@ -181,12 +205,28 @@ class Random(unittest.TestCase):
         with open(listed, 'w', encoding='utf-8') as file:
             file.write('\n'.join(case.tests))
         words = ends + choice.choice([[], ['--together']]) + ['--workers', str(choice.choice([1, 2, 5, 9]))]
-        got = repo.search(*words, '--missing', f'{MISSING}=skip', '--build', BUILD % case.folder, '--tests', listed, f'c{case.count}', 'c1', '--',
-                          'sh', '-c', TEST, case.folder, '{}', env={**ENV, 'FARMDAWN_NEEDED': choice.choice(['0', '5', 'never']), 'FARMDAWN': case.engine()})
+        words += ['--missing', f'{MISSING}=skip', '--build', BUILD % case.folder, '--tests', listed, f'c{case.count}', 'c1', '--',
+                  'sh', '-c', TEST, case.folder, '{}']
+        env = {**ENV, 'FARMDAWN_NEEDED': choice.choice(['0', '5', 'never']), 'FARMDAWN': case.engine()}
+        if choice.random() < 0.4:
+            self.end_on_its_way(case, words, env)
+        got = repo.search(*words, env=env)
         parts = dict(zip(case.tests, re.split('^# search of .*\n', got.stdout, flags=re.M)[1:]))
         self.assertEqual(list(parts), case.tests, got.stderr)
         self.compare(case, parts, got)
         repo.check_left()
+
+    def end_on_its_way(self, case: Case, words: List[str], env: Dict[str, str]) -> None:
+        """Ends the search when it has told some lines, where it has not come to its end before."""
+        process = case.repo.begin(*words, env=env, stdout=subprocess.DEVNULL)
+        assert process.stderr is not None
+        for _ in range(case.choice.randint(1, 60)):
+            if not process.stderr.readline():
+                break
+        else:
+            process.send_signal(case.choice.choice([signal.SIGINT, signal.SIGTERM, signal.SIGKILL]))
+            self.counts['ended on its way'] += 1
+        process.communicate(timeout=SECONDS)
 
     def compare(self, case: Case, parts: Dict[str, str], got: subprocess.CompletedProcess[str]) -> None:
         """The log and the answer of each test, and the status of all."""
