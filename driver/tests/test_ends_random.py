@@ -1,6 +1,7 @@
 """Searches that are ended at random moments, however: signals, kills of the driver, of `git`, the engine, the guardian or a test, a disk that
 is full. Nothing is left running and no folder stays, each outcome that was told is kept, and the same line comes to the log and the
-answer of an undisturbed search, without testing again what is kept. FARMDAWN_CASES says how many, FARMDAWN_SEED from where on; with
+answer of an undisturbed search, without testing again what is kept. Searches are for one test, for one with a build, or for several.
+FARMDAWN_CASES says how many, FARMDAWN_SEED from where on; with
 FARMDAWN_COUNTS they are counted at the end."""
 from __future__ import annotations
 
@@ -14,7 +15,7 @@ import subprocess
 import tempfile
 import time
 import unittest
-from typing import Callable, Counter, Dict, List, Optional, Set
+from typing import Callable, Counter, Dict, List, Optional, Set, Tuple
 
 import test_ends
 from helpers import DRIVER, ENV, LONG, Repository, needs_engine, wait_until
@@ -22,9 +23,14 @@ from test_ends import children
 
 CASES, SEED = int(os.environ.get('FARMDAWN_CASES') or 10), int(os.environ.get('FARMDAWN_SEED') or 1)
 COMMITS = 40
-# a test that leaves a process of its own; its first word makes each case another command, with outcomes of its own
-TEST = 'echo "$FARMDAWN_COMMIT" >>"$RECORD"; %s %s >/dev/null 2>&1 & sleep 0.0%d; n=$(cat number); [ $((n %% 7)) -ne 3 ] || exit 125; test $n -lt 25'
-KINDS = ['INT', 'TERM', 'HUP', 'TERM twice', 'driver', 'driver', 'git', 'engine', 'guardian', 'guardian, driver', 'engine, TERM', 'test', 'disk']
+# a test that leaves a process of its own; its first word makes each case another command, with outcomes of its own. It notes and prints its name
+TEST = ('echo "$0 $FARMDAWN_COMMIT" >>"$RECORD"; echo "$0"; %s %s >/dev/null 2>&1 & sleep 0.0%d; n=$(cat number); '
+        '[ $((n %% 7)) -ne 3 ] || exit 125; test $n -lt "$0"')
+# so does a build, and some commits are not built
+BUILD = '%s %s >/dev/null 2>&1 & sleep 0.0%d; n=$(cat number); [ $((n %% 11)) -ne 5 ] || exit 9; cp number built'
+FORMS = ['one', 'one', 'built', 'several', 'several']
+NAMES = {'one': ['25'], 'built': ['25'], 'several': ['9', '25', '26']}
+KINDS = ['INT', 'TERM', 'HUP', 'TERM twice', 'driver', 'driver', 'git', 'engine', 'guardian', 'guardian, driver', 'engine, TERM', 'test', 'build', 'disk']
 
 
 def send(pid: int, number: int) -> None:
@@ -48,8 +54,15 @@ def is_small_disk(folder: str) -> bool:
     return subprocess.run(['mount', '-t', 'tmpfs', '-o', 'size=8m', 'none', folder], stderr=subprocess.DEVNULL).returncode == 0
 
 
+def words_of(form: str, script: str, build: str, listed: str) -> List[str]:
+    """The words of a search behind its options."""
+    words = [] if form == 'one' else ['--build', build]
+    words += ['--tests', listed] if form == 'several' else []
+    return [*words, f'c{COMMITS}', 'c1', '--', 'sh', '-c', script, '{}' if form == 'several' else NAMES[form][0]]
+
+
 class Case:
-    """A search, how it is ended, and when."""
+    """A search, how it is ended, and when. Outcomes are pairs of the name of a test and a commit."""
 
     def __init__(self, case: unittest.TestCase, repo: Repository, seed: int) -> None:
         choice = self.choice = random.Random(f'ends {seed}')
@@ -62,10 +75,11 @@ class Case:
             case.addCleanup(self.unmount)
         elif self.kind == 'disk':
             self.kind = 'TERM'
-        command = TEST % (choice.choice(['', '', 'setsid']), LONG, choice.randrange(1, 9))
-        words = [word for word in [choice.choice(['', '--trust-ends', '--check-ends'])] if word]
+        self.form, apart, pause = choice.choice(FORMS), choice.choice(['', '', 'setsid']), choice.randrange(1, 9)
+        words = list(choice.choice([[], ['--trust-ends'], ['--check-ends']]))
         words += ['--workers', str(choice.choice([1, 2, 4, 7])), '--state', self.state]
-        self.words = [*words, *repo.ends(), '--', 'sh', '-c', f': {seed}; ' + command]
+        words += choice.choice([[], ['--together']]) if self.form == 'several' else []
+        self.words = words + words_of(self.form, f': {seed}; ' + TEST % (apart, LONG, pause), BUILD % (apart, LONG, pause), repo.room + '/list')
         self.tool = ['git', 'farmdawn'] if self.kind == 'git' or choice.random() < 0.3 else [os.path.join(DRIVER, 'git-farmdawn')]
         self.moment = choice.random() * choice.choice([0.3, 1, 1])
         self.pid = 0
@@ -105,6 +119,9 @@ class Case:
         if kind == 'test' and pid:
             for test in children(pid, 'exit 125')[:1]:
                 send(test, signal.SIGKILL)
+        if kind == 'build' and pid:
+            for build in children(pid, 'exit 9')[:1]:
+                send(build, signal.SIGKILL)
         if kind.endswith('driver') and pid:
             send(pid, signal.SIGKILL)
         if kind == 'git':
@@ -141,23 +158,34 @@ class Case:
             file.close()
         return found
 
-    def kept(self) -> Set[str]:
-        """The commits of which an outcome is kept, in a file that is whole."""
+    def kept(self) -> Set[Tuple[str, str]]:
+        """The outcomes that are kept, in files that are whole. Whose they are is what the outputs beside them begin with."""
         found = set()
         for folder, _, names in os.walk(self.state):
-            for name in names:
-                if name.endswith('.outcome'):
-                    with open(os.path.join(folder, name), encoding='ascii') as file:
-                        self.case.assertRegex(file.read(), '^[0-9a-f]{40} [0-9]+ [0-9a-f]{16} end\n$')
-                    found.add(name[:-8])
+            commits = [name[:-8] for name in names if name.endswith('.outcome')]
+            for commit in commits:
+                with open(os.path.join(folder, commit + '.outcome'), encoding='ascii') as file:
+                    self.case.assertRegex(file.read(), '^[0-9a-f]{40} [0-9]+ [0-9a-f]{16} end\n$')
+            test = self.test_of(folder, names)
+            found |= {(test, commit) for commit in commits if test}
         return found
 
-    def tested(self) -> List[str]:
-        """The commits that were tested so far."""
+    def test_of(self, folder: str, names: List[str]) -> str:
+        """The test whose outputs are in a folder, or nothing."""
+        for name in names:
+            if name.endswith('.log'):
+                with open(os.path.join(folder, name), encoding='utf-8') as file:
+                    line = file.readline()[:-1]
+                if line in NAMES[self.form]:
+                    return line
+        return ''
+
+    def tested(self) -> List[Tuple[str, str]]:
+        """What was tested so far."""
         if not os.path.exists(self.record):
             return []
         with open(self.record, encoding='ascii') as file:
-            return file.read().split()
+            return [(line.split()[0], line.split()[1]) for line in file]
 
 
 @needs_engine
@@ -175,22 +203,33 @@ class Random(unittest.TestCase):
     def test_ends(self) -> None:
         """Each of them."""
         repo = Repository(self, COMMITS)
-        began = time.monotonic()
-        due = repo.search('--workers', '1', '--trust-ends', *repo.ends(), '--', 'sh', '-c', TEST % ('', LONG, 4),
-                          env={**ENV, 'RECORD': repo.room + '/tested'})
-        self.assertEqual(due.returncode, 2 if 'could be any of' in due.stdout else 0, due.stderr)
-        self.length = time.monotonic() - began
+        with open(repo.room + '/list', 'w', encoding='utf-8') as file:
+            file.write(''.join(name + '\n' for name in NAMES['several']))
+        self.lengths: Dict[str, float] = {}
+        dues: Dict[str, str] = {}
         for seed in range(SEED, SEED + CASES):
             with self.subTest(seed):
                 case = Case(self, repo, seed)
-                self.end_it(case, due.stdout)
+                if case.form not in dues:
+                    dues[case.form] = self.undisturbed(repo, case.form)
+                self.end_it(case, dues[case.form])
                 case.unmount()
                 shutil.rmtree(case.state)
+
+    def undisturbed(self, repo: Repository, form: str) -> str:
+        """What a search of this form prints, and how long it takes."""
+        began = time.monotonic()
+        words = words_of(form, TEST % ('', LONG, 4), BUILD % ('', LONG, 4), repo.room + '/list')
+        due = repo.run('git', 'farmdawn', '--workers', '1', '--trust-ends', *words, env={**ENV, 'RECORD': repo.room + '/tested'}, check=False)
+        self.assertIn(due.returncode, (0, 2), due.stderr)
+        self.lengths[form] = time.monotonic() - began
+        return due.stdout
 
     def end_it(self, case: Case, due: str) -> None:
         """One of them, and the same line again."""
         process = case.begin()
-        time.sleep(self.length * case.moment)
+        length = self.lengths[case.form]
+        time.sleep(length * case.moment)
         in_time = process.poll() is None
         if case.mounted:
             case.fill()
@@ -198,17 +237,18 @@ class Random(unittest.TestCase):
             case.strike(process)
         process.wait(100)
         out, told = case.texts()
-        about = f'{case.kind} at {case.moment * self.length:.2f} s: {process.returncode} {case.words}\n{out}{told}'
+        about = f'{case.kind} at {case.moment * length:.2f} s: {process.returncode} {case.words}\n{out}{told}'
         self.look_at_left(case, about)
         kept = case.kept()
-        self.look_at_told(out, told, kept, about)
+        self.look_at_told(case, out, told, about)
         if case.mounted:
             os.unlink(os.path.join(case.state, 'fill'))
         before = len(case.tested())
         again = case.repo.run(*case.tool, *case.words, check=False, env=case.env)
-        self.assertEqual(again.stdout, due, f'{about}\nagain {again.returncode}: {again.stderr}')
+        self.assertEqual(without_commands(again.stdout), without_commands(due), f'{about}\nagain {again.returncode}: {again.stderr}')
         self.assertEqual(sorted(kept.intersection(case.tested()[before:])), [], about + again.stderr)
         self.look_at_left(case, about)
+        self.counts[case.form] += 1
         self.counts[case.kind if in_time else 'had ended before'] += 1
 
     def look_at_left(self, case: Case, about: str) -> None:
@@ -226,13 +266,21 @@ class Random(unittest.TestCase):
         except AssertionError:
             self.fail(f'{runs()} is left: {about}')
 
-    def look_at_told(self, out: str, told: str, kept: Set[str], about: str) -> None:
-        """Each outcome that was told, by a line or in the log, is kept; the ends were called so."""
-        short: Dict[str, str] = {name[:12]: name for name in kept}
-        for name in re.findall(r'^(?:good|bad|skip) +([0-9a-f]{12}) ', told, re.M):
-            self.assertIn(name, short, about)
-        for name in re.findall(r'^git bisect (?:good|bad|skip) ([0-9a-f]{40})$', out, re.M):
-            self.assertIn(name, kept, about)
+    def look_at_told(self, case: Case, out: str, told: str, about: str) -> None:
+        """Each outcome that was told, by a line or in the log, is kept; the ends were called so. A skip may be that of a build."""
+        kept, only = case.kept(), NAMES[case.form][0]
+        short = {(test, name[:12]) for test, name in kept}
+        for name, test in re.findall(r'^(?:good|bad) +([0-9a-f]{12}) .*?(?:  \[(.*)\])?$', told, re.M):
+            self.assertIn((test or only, name), short, about)
+        parts = re.split('^# search of ([0-9]+): .*\n', out, flags=re.M) if case.form == 'several' else ['', only, out]
+        for test, part in zip(parts[1::2], parts[2::2]):
+            for name in re.findall(r'^git bisect (?:good|bad) ([0-9a-f]{40})$', part, re.M):
+                self.assertIn((test, name), kept, about)
+
+
+def without_commands(out: str) -> str:
+    """The logs of several searches without the commands of these, which are others in each case."""
+    return re.sub('^(# search of [0-9]+): .*', r'\1', out, flags=re.M)
 
 
 if __name__ == '__main__':
