@@ -289,7 +289,8 @@ class Filler:
                 continue
             name, colon, command = line.partition(':')
             if not colon or not command.strip():
-                raise Stop(1, "%s: a line NAME: COMMAND is wanted, not '%s'" % (path, line))
+                raise Stop(1, "%s: a line NAME: COMMAND is wanted, not '%s'; or is a command missing behind --, in which {} stands for "
+                              'each line?' % (path, line))
             if name.strip() == 'build':
                 self.settings.build = SHELL + [command.strip()]
             else:

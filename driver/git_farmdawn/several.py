@@ -60,7 +60,8 @@ def other_lines(ending: Ending) -> Iterator[str]:
         elif test.status == 2:
             yield '%s: one of %s' % (test.name, named_commits(ending.all_named(test)))
         elif test.status == 6:
-            yield '%s: its test of %s ended with %d, which stops its search' % (test.name, name[:NAME], test.known.get(name, 0))
+            what = 'its test' if any(row.commit == name and row.ran for row in test.rows) else 'the build'
+            yield '%s: %s of %s ended with %d, which stops its search' % (test.name, what, name[:NAME], test.known.get(name, 0))
         elif test.status != 0:
             yield '%s: no answer (status %d)' % (test.name, test.status or 0)
     for test in ending.tests:

@@ -57,7 +57,7 @@ DECIDED = [
     'new: it was not there in [0-9]+ commits?; the commit that was found is the first one that has it',
     'fit is left out: C16 was called bad, and its test ended with 0',
     'ill is left out: C1 was called good, and its test ended with 1',
-    'low: its test of c3 ended with 130, which stops its search',
+    'low: the build of c3 ended with 130, which stops its search',
 ]
 
 
@@ -219,6 +219,22 @@ class Several(unittest.TestCase):
         self.assertEqual(got.returncode, 0, got.stderr)
         self.assertRegex(got.stderr, 'the build of [0-9a-f]{12} is no longer needed')
         repo.check_left()
+
+    def test_refused(self) -> None:
+        """Lines that search for nothing, each with what may help."""
+        repo = Repository(self, 2)
+        with open(repo.room + '/list', 'w', encoding='utf-8') as file:
+            file.write('t1\n')
+        for words, due in ((['--tests', '../list'], "../list: a line NAME: COMMAND is wanted, not 't1'; or is a command missing behind --, in which {} stands"),
+                           (['--tests', '../list', '--', 'make', 'test'], '{} in it stands for the test, as in: -- make test {}'),
+                           (['--tests', os.devnull, '--', 'make', '{}'], '/dev/null: no line is a test'),
+                           (['--together', '--', 'make'], '--together is for several tests'),
+                           (['--test', 'a b', 'make'], '--test wants a name of letters'),
+                           (['--test', 'a', 'make', '--test', 'a', 'make'], 'that no other test has')):
+            with self.subTest(words):
+                got = repo.search(*repo.ends(), *words)
+                self.assertEqual((got.returncode, got.stdout), (1, ''), got.stderr)
+                self.assertIn(due, got.stderr)
 
     def test_told_as_found(self) -> None:
         """A search that has its end is told at once, while others run; one that stands on an end which was not seen is not."""
