@@ -57,6 +57,8 @@ class Ending:
             self.tell_answer(test)
         if self.tests[0].name:
             self.tell_groups()
+        elif self.tests[0].missing:
+            self.voice.tell('the test: ' + several.not_there(self, self.tests[0]))
         self.tell_sums()
         status = self.write_certificates(status)
         return self.write_report(status)

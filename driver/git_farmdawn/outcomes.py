@@ -9,7 +9,7 @@ import hashlib
 import os
 import re
 import stat
-from typing import TYPE_CHECKING, Callable, Dict, Iterable, List, Optional, Tuple
+from typing import TYPE_CHECKING, Callable, Dict, Iterable, List, Optional, Set, Tuple
 
 from .facts import FIRST_STOP, decided
 from .outputs import NoRoom, make_folder, open_new, write_whole
@@ -156,11 +156,27 @@ class Outcomes:
     def forget(self, commits: Iterable[str]) -> None:
         """Removes the outcomes of these commits."""
         for commit in commits:
-            try:
-                self.runs.pop(commit, None)
-                os.unlink(self.path(commit))
-            except OSError:
-                pass
+            self.runs.pop(commit, None)
+            for path in (self.path(commit), self.missing_path(commit)):
+                try:
+                    os.unlink(path)
+                except OSError:
+                    pass
+
+    def missing_path(self, commit: str) -> str:
+        """The file which says that the test was not there."""
+        return os.path.join(self.folder, commit + '.missing')
+
+    def keep_missing(self, commit: str) -> None:
+        """Notes that the test was not there, beside its outcome."""
+        try:
+            write_whole(self.missing_path(commit), b'')
+        except OSError:
+            raise NoRoom(self.folder) from None
+
+    def load_missing(self, commits: Iterable[str]) -> Set[str]:
+        """Those of these commits where the test was not there."""
+        return {commit for commit in commits if os.path.exists(self.missing_path(commit))}
 
     def count(self) -> int:
         """How many outcomes are kept."""

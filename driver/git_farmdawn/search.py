@@ -60,6 +60,7 @@ class Search:
             test.left_at_begin = test.left
             test.kept = test.outcomes.load(self.history.place)
             test.known = dict(test.kept)
+            test.missing = test.outcomes.load_missing(test.kept)
             test.ends = {end.commit: test.known.get(end.commit) for end in self.ends}
 
     def forget_workers(self) -> None:
@@ -331,12 +332,13 @@ class Search:
         test, worker = claim.test, claim.worker
         if status:
             self.trials.look_for_room(claim)
+        if claim.missing:
+            test.outcomes.keep_missing(claim.commit)
+            test.missing.add(claim.commit)
         test.outcomes.keep(claim.commit, status, claim.run > 1 or bool(test.runs_of(claim.commit)))
         if row.ran:
             self.voice.verdict(row, self.history.subject[claim.commit], self.terms, test.name)
         test.note(row)
-        if claim.missing:
-            test.missing.add(claim.commit)
         self.warn_of_skips(claim)
         self.drop(claim)
         if claim.run > 1 or self.dialogue.engine is None:

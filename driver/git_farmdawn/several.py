@@ -66,7 +66,7 @@ def other_lines(ending: Ending) -> Iterator[str]:
             yield '%s: no answer (status %d)' % (test.name, test.status or 0)
     for test in ending.tests:
         if test.missing:
-            yield '%s: it was not there in %s%s' % (test.name, counted(len(test.missing), 'commit'), brought(ending, test))
+            yield ending.of(test) + not_there(ending, test)
 
 
 def named_commits(names: List[str]) -> str:
@@ -75,12 +75,13 @@ def named_commits(names: List[str]) -> str:
     return '%s: %s%s' % (counted(len(names), 'commit'), ' '.join(name[:NAME] for name in names[:MOST_NAMES]), more)
 
 
-def brought(ending: Ending, test: Test) -> str:
-    """That the answer may be the commit which brought the test."""
+def not_there(ending: Ending, test: Test) -> str:
+    """In how many commits a test was not there, and that the answer may be the commit which brought it."""
+    text = 'it was not there in ' + counted(len(test.missing), 'commit')
     name = ending.named(test) if test.status == 0 else None
     if name and any(parent in test.missing for parent in ending.parents_of(name)):
-        return '; the commit that was found is the first one that has it'
-    return ''
+        text += '; the commit that was found is the first one that has it'
+    return text
 
 
 def heading(ending: Ending) -> str:

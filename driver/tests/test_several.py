@@ -220,6 +220,21 @@ class Several(unittest.TestCase):
         self.assertRegex(got.stderr, 'the build of [0-9a-f]{12} is no longer needed')
         repo.check_left()
 
+    def test_not_there(self) -> None:
+        """A test that is not there in old commits: a line says so, also where the answer is of kept outcomes, and where there is one test."""
+        repo = Repository(self, 12)
+        with open(repo.room + '/list', 'w', encoding='utf-8') as file:
+            file.write('new\nold\n')
+        test = ['--', 'sh', '-c', '[ $0 = new ] || exec test $(cat number) -lt 9; test $(cat number) -ge 7 || exit 5; exit 1']
+        for words, name in ((['--tests', '../list', *repo.ends(), *test, '{}'], 'new'), ([*repo.ends(), *test, 'new'], 'git farmdawn: the test')):
+            told = []
+            for _ in range(2):
+                got = repo.search('--missing', '5=good', *words)
+                self.assertEqual(got.returncode, 0, got.stderr)
+                told += re.findall(f'(?m)^{name}: it was not there in [0-9]+ commits?; the commit that was found is the first one that has it$', got.stderr)
+            self.assertEqual(len(told), 2, told)
+            self.assertEqual(told[0], told[1])
+
     def test_refused(self) -> None:
         """Lines that search for nothing, each with what may help."""
         repo = Repository(self, 2)
