@@ -211,14 +211,19 @@ class Several(unittest.TestCase):
             self.assertIn(f'{repo.name("c4")[:12]} is the first bad commit of 4\n', got.stderr)
 
     def test_needless_build(self) -> None:
-        """A build that no search asks for any more is ended."""
+        """A build that no search asks for any more is ended: where there is one test, and where there are two."""
         repo = Repository(self, 12)
-        build = f'n=$(cat number); [ "$n" -lt 8 ] || {{ touch {repo.room}/began; sleep 600; }}'
-        test = f'n=$(cat number); while [ ! -e {repo.room}/began ]; do sleep 0.1; done; [ "$n" -lt 2 ]'
-        got = repo.search('--trust-ends', '--workers', '3', '--build', build, *repo.ends(), '--', 'sh', '-c', test, env={**ENV, 'FARMDAWN_NEEDED': '0'})
-        self.assertEqual(got.returncode, 0, got.stderr)
-        self.assertRegex(got.stderr, 'the build of [0-9a-f]{12} is no longer needed')
-        repo.check_left()
+        began = repo.room + '/began'
+        with open(repo.room + '/list', 'w', encoding='utf-8') as file:
+            file.write('2\n3\n')
+        build = f'n=$(cat number); [ "$n" -lt 8 ] || {{ touch {began}; sleep 600; }}'
+        test = ['--', 'sh', '-c', f'n=$(cat number); while [ ! -e {began} ]; do sleep 0.1; done; [ "$n" -lt "$0" ]']
+        for words in ([*repo.ends(), *test, '2'], ['--tests', repo.room + '/list', *repo.ends(), *test, '{}']):
+            got = repo.search('--trust-ends', '--workers', '4', '--build', build, *words, env={**ENV, 'FARMDAWN_NEEDED': '0'})
+            self.assertEqual(got.returncode, 0, got.stderr)
+            self.assertRegex(got.stderr, 'the build of [0-9a-f]{12} is no longer needed')
+            repo.check_left()
+            os.unlink(began)
 
     def test_not_there(self) -> None:
         """A test that is not there in old commits: a line says so, also where the answer is of kept outcomes, and where there is one test."""
