@@ -8,11 +8,17 @@ import re
 import signal
 import stat
 import subprocess
+import sys
+import types
 import unittest
 from typing import List
 
-from helpers import ENGINE, ENV, LONG, SECONDS, Repository, needs_engine, wait_until
-from test_ends_random import is_small_disk
+sys.path.insert(0, os.path.dirname(os.path.dirname(os.path.abspath(__file__))))
+
+from git_farmdawn.facts import Row                              # noqa: E402
+from git_farmdawn.record import pays                            # noqa: E402
+from helpers import ENGINE, ENV, LONG, SECONDS, Repository, needs_engine, wait_until    # noqa: E402
+from test_ends_random import is_small_disk                      # noqa: E402
 
 # an engine that looks, at each outcome that it is told, whether so many outcomes are kept
 WATCHED = '''#!/usr/bin/env python3
@@ -65,6 +71,26 @@ def open_lines(path: str) -> List[str]:
     """The lines of a file."""
     with open(path, encoding='utf-8') as file:
         return file.read().splitlines()
+
+
+# workers, searches that go on, seconds of a build and of the test, both None where none has ended: whether such a test is run ahead
+AHEAD = (
+    (4, 4, 20.0, 5.0, True), (4, 4, 20.0, 5.1, False), (4, 4, 2.0, 0.9, True), (4, 4, 2.0, 1.1, False),      # a quarter, or a second
+    (3, 4, 20.0, 300.0, True), (4, 3, 20.0, 300.0, False),                                                  # fewer workers than searches
+    (4, 4, None, 300.0, True), (4, 4, 20.0, None, True),                                                    # not known yet
+)
+
+
+class Ahead(unittest.TestCase):
+    """Which tests are run where a commit stands built that their searches may ask for later."""
+
+    def test_rule(self) -> None:
+        """By what a build takes, and the test."""
+        for workers, searches, build, seconds, due in AHEAD:
+            rows = [] if seconds is None else [Row('a', 0, 1.0, 1.0 + seconds, 0)]
+            tests = [types.SimpleNamespace(status=None, rows=rows) for _ in range(searches)] + [types.SimpleNamespace(status=0, rows=[])]
+            builds = [] if build is None else [Row('a', 0, 1.0, 1.0 + build, 0), Row('b', 0, 1.0, 900.0, None)]
+            self.assertEqual(pays(tests[0], tests, builds, workers), due, (workers, searches, build, seconds))      # type: ignore[arg-type]
 
 
 @needs_engine
