@@ -2,6 +2,8 @@
 from __future__ import annotations
 
 import os
+import re
+import shlex
 import sys
 import tempfile
 import unittest
@@ -57,6 +59,16 @@ SHORT = (
     (['build', 'outputs', '..', '\xe9'], ['build-2', 'outputs-2', 'test', 'test-2']),
     (['x' * 60 + 'end'], ['x' * 37 + 'end']),
 )
+# the rows of docs/SEVERAL.md, for a testcase as the runner writes it
+RUNNERS = {
+    'pytest': ('tests/a.py::B::c[1]', 'tests.a.B', 'c[1]', ['pytest', 'tests/a.py::B::c[1]']),
+    "Maven's surefire": ('org.x.FooTest::testBar', 'org.x.FooTest', 'testBar', ['mvn', '-q', 'test', '-Dtest=org.x.FooTest#testBar']),
+    'Gradle': ('org.x.FooTest::testBar', 'org.x.FooTest', 'testBar', ['gradle', 'test', '--tests', 'org.x.FooTest.testBar']),
+    'gotestsum': ('example.org/shop/cart::TestAdd', 'example.org/shop/cart', 'TestAdd', ['go', 'test', 'example.org/shop/cart', '-run', '^TestAdd$']),
+    'cargo nextest': ('shop::cart::add', 'shop', 'cart::add', ['cargo', 'test', 'cart::add', '--', '--exact']),
+    'CTest': ('add', 'add', 'add', ['ctest', '-R', '^add$', '--no-tests=error']),
+}
+PAGE = os.path.join(os.path.dirname(os.path.dirname(os.path.dirname(os.path.abspath(__file__)))), 'docs', 'SEVERAL.md')
 MISSING = (('5=skip', {5: 125}), ('4,5=good', {4: 0, 5: 0}), ('127=bad', {127: 1}))
 
 
@@ -113,6 +125,17 @@ class Lists(unittest.TestCase):
             with self.subTest(words):
                 lists.check_command(words)
                 self.assertEqual(lists.command_of(words, Listed(name, parts)), due)
+
+    def test_runners(self) -> None:
+        """The commands that the page has for the runners of tests."""
+        with open(PAGE, encoding='utf-8') as file:
+            table = file.read().split('| Runner | Command |')[1].split('\n\n')[0]
+        rows = dict(re.findall('^[|] ([^|`]+) [|] `([^`]+)`', table, re.M))
+        self.assertEqual(sorted(rows), sorted(RUNNERS))
+        for runner, (name, place, part, due) in RUNNERS.items():
+            words = shlex.split(rows[runner])
+            lists.check_command(words)
+            self.assertEqual(lists.command_of(words, Listed(name, {'class': place, 'name': part})), due)
 
     def test_short_names(self) -> None:
         """Names for files, each another one."""
