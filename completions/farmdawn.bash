@@ -78,11 +78,11 @@ _git_farmdawn() {
     --check:*=* | --retest:*=* | --path:*=* | --copy:*=* | --certificate:*=* | --tests:*=* | --tests-from:*=* | --replay:*=*) ;;
     *:--check | *:--retest | *:--path | *:--copy | *:--certificate | *:--tests | *:--tests-from | *:--replay) ;; # files, as no word is offered
     *:--report | *:--log-dir | *:--state | *:--pool) mapfile -t COMPREPLY < <(compgen -d -- "$cur") ;;
-    *:--workers | *:-j | *:--term-new | *:--term-old | *:--retry | *:--repeat | *:--noise | *:--sure | *:--timeout | *:--deadline | *:--log-limit | *:--build | *:--build-timeout | *:--missing | *:--keep | *:--test)
+    *:--workers | *:-j | *:--term-new | *:--term-old | *:--retry | *:--repeat | *:--noise | *:--sure | *:--timeout | *:--deadline | *:--log-limit | *:--build | *:--build-timeout | *:--ended | *:--missing | *:--keep | *:--test)
         compopt +o default +o bashdefault
         ;;
     *:--skip) __git_complete_refs ;;
-    -*) __gitcomp '--help --version --workers --first-parent --term-new --term-old --skip --path --check-ends --trust-ends --confirm --retry --repeat --noise --sure --timeout --deadline --copy --submodules --build --build-timeout --test --tests --tests-from --missing --together --pool --keep --clean --state --log-dir --log-limit --replay --quiet --report --certificate --check --retest --fresh --prune' ;;
+    -*) __gitcomp '--help --version --workers --first-parent --term-new --term-old --skip --path --check-ends --trust-ends --confirm --retry --repeat --noise --sure --timeout --deadline --copy --submodules --build --build-timeout --ended --test --tests --tests-from --missing --together --pool --keep --clean --state --log-dir --log-limit --replay --quiet --report --certificate --check --retest --fresh --prune' ;;
     *) __git_complete_refs ;;
     esac
 }

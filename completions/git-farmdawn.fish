@@ -51,6 +51,7 @@ __git_farmdawn_complete -l clean -d 'remove files that git ignores before each c
 __git_farmdawn_complete -l together -d 'run the tests of a commit in its checkout at once'
 __git_farmdawn_complete -l missing -x -d 'what a status of a runner that finds no test stands for, as 4,5=skip'
 __git_farmdawn_complete -l build-timeout -x -d 'end a build that takes longer, and skip its commit'
+__git_farmdawn_complete -l ended -x -d 'run this where a test or a build did not end by itself'
 __git_farmdawn_complete -l state -x -a '(__fish_complete_directories)' -d 'keep outcomes, outputs and the log there'
 __git_farmdawn_complete -l log-dir -x -a '(__fish_complete_directories)' -d 'keep the output of each test there'
 __git_farmdawn_complete -l log-limit -x -d 'keep so much of each output, as 500k or 10M'

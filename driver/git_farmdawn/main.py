@@ -112,11 +112,19 @@ class Program:
 
     def open_run(self, repo: Repository) -> None:
         """The folder of the run, and who removes it where this process is killed."""
+        from .ended import run_noted
         from .guardian import Guardian
         from .run import Run, remove_run
         run = self.run = Run(repo)
         state = run.state
-        guardian = self.guardian = Guardian(state + '/lock', lambda: remove_run(repo.gitdir, state))
+
+        def clean() -> None:
+            """What is done where this process is gone."""
+            try:
+                run_noted(state, repo.test_env)
+            finally:
+                remove_run(repo.gitdir, state)
+        guardian = self.guardian = Guardian(state + '/lock', clean)
         self.loop.child_ended = guardian.replace
 
     def search_for(self, line: Line, repo: Repository) -> int:

@@ -8,7 +8,7 @@ from .words import ME, Stop, quoted
 
 FLAGS = ('--first-parent', '--check-ends', '--trust-ends', '--submodules', '--together', '--clean', '--fresh', '--quiet')
 VALUES = ('--workers', '--term-new', '--term-old', '--skip', '--path', '--timeout', '--deadline', '--copy', '--build', '--tests',
-          '--tests-from', '--missing', '--build-timeout', '--pool', '--keep',
+          '--tests-from', '--missing', '--build-timeout', '--ended', '--pool', '--keep',
           '--state', '--log-dir', '--log-limit', '--replay', '--certificate', '--report')
 # their value stands behind = alone, so that no word that follows is taken for it; and what they have without one
 MAY_HAVE_VALUE = {'--confirm': '3'}

@@ -71,6 +71,7 @@ class Settings:
         self.is_list = False                        # whether the tests are those of a list, and no lines of sh
         self.missing: Dict[int, int] = {}           # what a status of a runner that finds no test stands for
         self.build_timeout: Optional[int] = None
+        self.ended: Optional[str] = None            # a line of sh
         self.typed: Dict[str, List[str]] = {}       # the words of a test as they were typed
         self.watch, self.needed = seconds_of_environment()
         self.parent: Optional[int] = None           # the process of git that started this one
@@ -145,7 +146,7 @@ class Filler:
         if not value and option != '--path':
             raise values.wants_value(option)
         simple = {'--term-new': 'term_new', '--term-old': 'term_old', '--log-dir': 'log_dir', '--report': 'report',
-                  '--certificate': 'certificate'}
+                  '--certificate': 'certificate', '--ended': 'ended'}
         if option in simple:
             setattr(settings, simple[option], value)
         elif option == '--workers':

@@ -10,6 +10,7 @@ from typing import TYPE_CHECKING, Callable, Dict, Generator, List, Optional, Uni
 from .checkouts import NoCheckout
 from .claims import Claim, Job, Preparation, Slot
 from .copies import NotBrought
+from .ended import Ended
 from .facts import FIRST_STOP, SKIP
 from .left import signs_of
 from .loop import Cancelled
@@ -34,6 +35,7 @@ class Trials:
     def __init__(self, settings: Settings, run: Run, voice: Telling) -> None:
         self.settings, self.run, self.voice, self.repo = settings, run, voice, run.repo
         self.built: Optional[Outcomes] = None
+        self.ended = Ended(settings.ended, run.state)
         self.config = signs_of(self.repo.gitdir + '/config')
 
     # -- what prepares for tests ---------------------------------------------------
@@ -161,20 +163,26 @@ class Trials:
             self.note(log, f'no folder {self.repo.prefix} in this commit')
             return SKIP
         os.makedirs(slot.build, exist_ok=True)
+        env = self.environment(slot, job, cwd)
+        self.ended.note(job.seat, env)
         try:
-            child = job.child = self.start(slot, job, cwd, words, log)
+            child = job.child = self.start(slot, job, Command(words, env, cwd, log))
         except OSError as fault:
+            self.ended.forget(job.seat)
             self.note(log, f'{words[0]}: {fault.strerror}')
             return 127 if fault.errno == errno.ENOENT else 126
         seconds = self.seconds_of(job)
         end_late = self.limit(job, child, seconds)
+        was_ended = True
         try:
             yield child
+            was_ended = job.at_limit or (child.status or 0) < 0
         finally:
             end_late()
             if child.status is None:
                 yield from child.end()
             yield from slot.end_leftovers(job.seat)
+            yield from self.run_ended(job, env, log, was_ended)
         if job.at_limit:
             self.note(log, f'{job.commit} took longer than {seconds} s and is skipped')
             slot.ready, slot.broken = '', True          # as where it is ended for another reason
@@ -196,21 +204,32 @@ class Trials:
             env['PWD'] = cwd
         return env
 
-    def start(self, slot: Slot, job: Job, cwd: str, words: List[str], log: int) -> Child:
+    def start(self, slot: Slot, job: Job, command: Command) -> Child:
         """Starts it with the locks of the run and of the job open. A script without a first line #! is one of sh."""
-        env, lock = self.environment(slot, job, cwd), slot.open_lock(job.seat)
+        lock = slot.open_lock(job.seat)
         keep = [lock] if self.run.lock is None else [self.run.lock, lock]
         if slot.place is not None:
             keep.append(slot.place.lock)
+        command = command._replace(keep=keep)
         try:
             try:
-                return Child(slot.shop.loop, slot.shop.keeper, Command(words, env, cwd, log, keep))
+                return Child(slot.shop.loop, slot.shop.keeper, command)
             except OSError as fault:
                 if fault.errno != errno.ENOEXEC:
                     raise
-                return Child(slot.shop.loop, slot.shop.keeper, Command(['/bin/sh', *words], env, cwd, log, keep))
+                return Child(slot.shop.loop, slot.shop.keeper, command._replace(words=['/bin/sh', *command.words]))
         finally:
             os.close(lock)
+
+    def run_ended(self, job: Job, env: Dict[str, str], log: int, was_ended: bool) -> Generator[Union[Child, float], object, None]:
+        """Runs the command of --ended behind a test or a build that did not end by itself."""
+        child = job.child
+        if was_ended and child is not None and self.ended.command is not None:
+            try:
+                yield from self.ended.run(child.loop, child.keeper, log, env)
+            except OSError as fault:
+                self.voice.once('ended', f'--ended, run for {job.commit[:12]}: {fault.strerror or fault}')
+        self.ended.forget(job.seat)
 
     def limit(self, job: Job, child: Child, seconds: Optional[int]) -> Callable[[], None]:
         """Has a command ended that takes longer; gives what is called when it has ended before."""

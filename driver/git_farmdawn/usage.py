@@ -40,6 +40,7 @@ git's own. Options may be shortened as far as they are clear, and take their val
   --together         runs the tests of a commit in its checkout at once, and not one after the other
   --missing STATUS,..=good|bad|skip   what a commit is where the runner ends so, as it finds no test
   --build-timeout TIME   a build that takes longer is ended, and its commit skipped (that of --timeout)
+  --ended COMMAND    is run by sh where a test or a build did not end by itself, to end its container
   --state FOLDER     keeps outcomes, outputs and the log there, so that they can be carried to another clone
   --log-dir FOLDER   keeps the output of each test there, by commit
   --log-limit SIZE   keeps so much of it, as 500k, 10M (which it is without) or 2G; the rest is cut out of the middle

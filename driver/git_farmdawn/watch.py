@@ -8,6 +8,7 @@ from typing import TYPE_CHECKING, Optional
 from . import several, telling
 from .claims import Claim, Job
 from .confirm import Confirming
+from .ended import LONGEST
 from .evidence import WrongEnd, unseen, wrong_of
 from .facts import Progress, Running, agrees
 from .loop import Cancelled
@@ -191,7 +192,7 @@ class Watch:
         search.places.end_all()
         if search.beside is not None:
             search.beside.cancel('end')
-        until = time.monotonic() + LONGEST_END
+        until = time.monotonic() + LONGEST_END + (LONGEST if self.settings.ended else 0)
         while (search.places.jobs() or search.beside is not None and not search.beside.over) and time.monotonic() < until:
             self.loop.turn(0.05)
         lock = search.run.state + '/lock'

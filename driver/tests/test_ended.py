@@ -1,0 +1,100 @@
+"""--ended COMMAND: what no process of a test is, as a container, ends with it all the same; tried with a stand-in for an engine."""
+from __future__ import annotations
+
+import os
+import signal
+import subprocess
+import unittest
+from typing import Dict, List, Tuple
+
+from helpers import ENV, Repository, needs_engine, wait_until
+
+HERE = os.path.dirname(os.path.abspath(__file__))
+NAME = 'fd-$FARMDAWN_WORKER-$FARMDAWN_COMMIT'
+ENDED = ('--ended', f'podman rm -f -t 0 {NAME}')
+RUNS = f'exec podman run --rm --name {NAME} -v "$FARMDAWN_WORKTREE:/src" -w /src debian sh -c "%s"'
+LONG = 'test $(cat number) -gt 10 || test $(cat number) -lt 3 || sleep 600'    # from c3 to c10
+
+
+def engine_of_containers(case: unittest.TestCase, room: str) -> Dict[str, str]:
+    """An environment that has `podman`: the stand-in, whose service runs as long as the test."""
+    os.makedirs(room + '/bin')
+    os.makedirs(room + '/containers')
+    os.symlink(os.path.join(HERE, 'containers.py'), room + '/bin/podman')
+    env = {**ENV, 'PATH': room + '/bin:' + ENV['PATH'], 'CONTAINERS': room + '/containers'}
+    service = subprocess.Popen([room + '/bin/podman', 'serve'], env=env, start_new_session=True, stdin=subprocess.DEVNULL, stdout=subprocess.DEVNULL)
+
+    def end() -> None:
+        """Ends the service, and what it started."""
+        subprocess.run([room + '/bin/podman', 'rm', '-f', *running(env)], env=env, check=True)
+        service.kill()
+        service.wait()
+    case.addCleanup(end)
+    return env
+
+
+def running(env: Dict[str, str]) -> List[str]:
+    """The names of the containers that run."""
+    return subprocess.run(['podman', 'ps'], env=env, stdout=subprocess.PIPE, text=True, check=True).stdout.split()
+
+
+@needs_engine
+class Ended(unittest.TestCase):
+    """Each way in which a test ends that does not end by itself."""
+
+    def begin(self, *words: str) -> Tuple[Repository, Dict[str, str], subprocess.Popen[str]]:
+        """A search whose containers do not end by themselves, with two of them under way."""
+        repo = Repository(self)
+        env = engine_of_containers(self, repo.room)
+        process = repo.begin('--workers', '2', *words, *repo.ends(), '--', 'sh', '-c', RUNS % LONG, env=env)
+        wait_until(lambda: len(running(env)) == 2 or process.poll() is not None, 'two containers')
+        self.assertIsNone(process.poll())
+        return repo, env, process
+
+    def test_signals(self) -> None:
+        """A signal ends them; without the command they live on; and where the driver is killed the guardian runs it."""
+        for words, number, left in (((), signal.SIGINT, 2), (ENDED, signal.SIGINT, 0), (ENDED, signal.SIGTERM, 0), (ENDED, signal.SIGKILL, 0)):
+            with self.subTest(words=words, number=number.name):
+                repo, env, process = self.begin(*words)
+                process.send_signal(number)
+                process.communicate(timeout=100)
+                folder = repo.path + '/.git/farmdawn'
+                wait_until(lambda: not [name for name in os.listdir(folder) if name.startswith('run.')], 'the end of the folder')
+                self.assertEqual(len(running(env)), left)
+                repo.check_left()
+
+    def test_searches(self) -> None:
+        """At a limit, where nobody needs them any more, and at a deadline; a build as well as a test."""
+        repo_name = Repository(self).name
+        hangs = 'test $(cat number) != 6 || sleep 600; test $(cat number) -lt 8'
+        rows: List[Tuple[Tuple[str, ...], str, int, str]] = [
+            (('--timeout', '8s', '--trust-ends', '--workers', '1'), RUNS % hangs, 0, repo_name('c8')),
+            (('--workers', '3', '--trust-ends'), RUNS % 'test $(cat number) -ge 6 || sleep 600; test $(cat number) -lt 7', 0, repo_name('c7')),
+            (('--deadline', '8s', '--trust-ends', '--workers', '2'), RUNS % LONG, 24, ''),
+            (('--build-timeout', '8s', '--trust-ends', '--workers', '1', '--build', RUNS % hangs.split(';', 1)[0]), 'test $(cat number) -lt 8', 0, repo_name('c8'))]
+        for words, command, status, answer in rows:
+            with self.subTest(words=words):
+                repo = Repository(self)
+                env = engine_of_containers(self, repo.room)
+                got = repo.search(*ENDED, *words, *repo.ends(), '--', 'sh', '-c', command, env={**env, 'FARMDAWN_NEEDED': '0'})
+                self.assertEqual(got.returncode, status, got.stderr)
+                self.assertIn(answer, got.stdout)
+                self.assertEqual(running(env), [])
+                repo.check_left()
+
+    def test_command(self) -> None:
+        """It is run where a test was ended alone, in its checkout, with the names of the test; where it fails, a line tells it once."""
+        repo = Repository(self)
+        note = f'pwd >>{repo.room}/said; echo "$FARMDAWN_COMMIT $FARMDAWN_WORKER $FARMDAWN_WORKTREE" >>{repo.room}/said; exit 3'
+        words = ('--workers', '1', '--trust-ends', '--timeout', '1s')
+        got = repo.search(*words, '--ended', note, *repo.ends(), '--', 'sh', '-c', 'test $(cat number) != 6 || sleep 600; test $(cat number) -lt 8')
+        self.assertEqual(got.returncode, 0, got.stderr)
+        with open(repo.room + '/said', encoding='utf-8') as file:
+            folder, names = file.read().splitlines()
+        self.assertEqual(names, f'{repo.name("c6")} 0 {folder}')
+        self.assertEqual(got.stderr.count(f'--ended, run for {repo.name("c6")[:12]}: it ended with 3'), 1, got.stderr)
+        repo.check_left()
+
+
+if __name__ == '__main__':
+    unittest.main()
