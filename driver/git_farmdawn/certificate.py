@@ -247,8 +247,8 @@ def run_check(checker: Checker, mirror: Mirror, answer: Answer) -> None:
     program, shown = checker.farmdawn, checker.shown
     try:
         write_whole(os.path.join(checker.folder, 'certificate'), mirror.turned(answer.certificate()))
-        done = subprocess.run([program, 'check', 'certificate'], cwd=checker.folder, input=mirror.stream, stdout=subprocess.PIPE,
-                              check=False)
+        done = subprocess.run(['farmdawn', 'check', 'certificate'], executable=program, cwd=checker.folder, input=mirror.stream,
+                              stdout=subprocess.PIPE, check=False)
     except OSError as fault:
         raise Stop(14, '%s cannot be run in %s: %s' % (program, checker.folder, fault.strerror)) from None
     if done.returncode == 20:

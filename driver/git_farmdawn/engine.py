@@ -40,9 +40,11 @@ class Engine:
         self.lines: List[bytes] = []
         self.names = LongNames()
         self.told = os.open(os.path.join(folder, 'engine.told'), os.O_RDWR | os.O_CREAT | os.O_TRUNC | os.O_CLOEXEC, 0o600)
-        # a session of its own: what a terminal sends is for the driver, which ends the engine by closing its input
-        self.popen = subprocess.Popen([program, 'serve', '--original-names'], stdin=subprocess.PIPE, stdout=subprocess.PIPE,
-                                      stderr=self.told, bufsize=0, cwd=folder, env=dict(env), start_new_session=True)
+        # a session of its own: what a terminal sends is for the driver, which ends the engine by closing its input. By its plain name:
+        # the program takes only words that are UTF-8, and its path may have any bytes
+        self.popen = subprocess.Popen(['farmdawn', 'serve', '--original-names'], executable=program, stdin=subprocess.PIPE,
+                                      stdout=subprocess.PIPE, stderr=self.told, bufsize=0, cwd=folder, env=dict(env),
+                                      start_new_session=True)
         assert self.popen.stdin is not None and self.popen.stdout is not None
         self.to, self.out = self.popen.stdin.fileno(), self.popen.stdout.fileno()
         os.set_blocking(self.to, False)

@@ -81,7 +81,7 @@ class Program:
             os.write(1, USAGE.encode())
             return 0
         if line.action == 'version':
-            return subprocess.run([os.environ.get('FARMDAWN') or 'farmdawn', '--version']).returncode
+            return subprocess.run(['farmdawn', '--version'], executable=os.environ.get('FARMDAWN') or 'farmdawn').returncode
         repo = Repository()
         if line.action == 'prune':
             from .run import prune
@@ -194,7 +194,7 @@ class Program:
         if settings.report is None or self.ending is None or self.watch is None:
             return
         from .report import Report
-        version = subprocess.run([settings.farmdawn, '--version'], stdin=subprocess.DEVNULL, stdout=subprocess.PIPE).stdout
+        version = subprocess.run(['farmdawn', '--version'], executable=settings.farmdawn, stdin=subprocess.DEVNULL, stdout=subprocess.PIPE).stdout
         report = Report(settings.report, search, version.decode('ascii', 'replace').replace('farmdawn ', '').strip())
         self.ending.report = self.watch.report = report
 

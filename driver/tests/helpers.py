@@ -50,7 +50,8 @@ class Repository:
 
     def apart(self, more: Dict[str, Any]) -> Dict[str, Any]:
         """How a command is started: in the repository, with the environment of tests, and with what is named here."""
-        return {'cwd': self.path, 'env': ENV, 'stdout': subprocess.PIPE, 'stderr': subprocess.PIPE, 'text': True, **more}
+        return {'cwd': self.path, 'env': ENV, 'stdout': subprocess.PIPE, 'stderr': subprocess.PIPE, 'text': True,
+                'errors': 'surrogateescape', **more}
 
     def run(self, *words: str, **more: Any) -> subprocess.CompletedProcess[str]:
         """A command in the repository."""

@@ -5,7 +5,7 @@ import os
 import unittest
 from typing import Dict, NamedTuple, Sequence
 
-from helpers import ENV, Repository, needs_engine
+from helpers import ENGINE, ENV, Repository, needs_engine
 
 BAD_FROM_7 = '[ $(cat number) -lt 7 ]'
 SCRIPT = f"echo '{BAD_FROM_7}' >"
@@ -114,6 +114,15 @@ class Bare(unittest.TestCase):
         repo = Repository(self)
         repo.sh('git clone -q --bare . ../bare.git && git -C ../bare.git config extensions.worktreeConfig true')
         got = repo.search(*repo.ends(), *sh(BAD_FROM_7), cwd=repo.room + '/bare.git')
+        self.assertEqual(got.stdout.splitlines()[-1:], [repo.name('c7') + ' is the first bad commit'], got.stderr)
+
+    def test_program(self) -> None:
+        """The program, which takes only words that are UTF-8, may stand in a folder of any name."""
+        repo = Repository(self)
+        folder = os.fsdecode(os.fsencode(repo.room) + b'/n\xff')
+        os.mkdir(folder)
+        os.symlink(os.path.realpath(ENGINE), folder + '/farmdawn')
+        got = repo.search(*repo.ends(), *sh(BAD_FROM_7), env={**ENV, 'FARMDAWN': folder + '/farmdawn'})
         self.assertEqual(got.stdout.splitlines()[-1:], [repo.name('c7') + ' is the first bad commit'], got.stderr)
 
     def test_submodules(self) -> None:
