@@ -49,7 +49,7 @@ th, td { padding: .25rem .6rem .25rem 0; border-bottom: 1px solid var(--line); v
 td, th { white-space: nowrap } td.what { white-space: normal; width: 100% }
 td.number, th.number { text-align: right; font-variant-numeric: tabular-nums }
 tr:target { background: var(--plate) }
-table + .kind, .drawing + .kind, pre + .kind { margin-top: .5rem }
+table + .kind, .drawing + .kind, pre + .kind, dl + .kind { margin-top: .5rem }
 footer { color: var(--soft); font-size: .85rem; margin-top: 2rem }
 @media (max-width: 45rem) {
   dl { gap: .15rem .6rem }
@@ -58,7 +58,7 @@ footer { color: var(--soft); font-size: .85rem; margin-top: 2rem }
   td { border: 0; padding: 0; font-size: .8rem } td:empty { display: none }
   td:first-child, td.what { font-size: .9rem } td:first-child { min-width: 5.2rem }
   td.what { flex: 1 1 calc(100% - 7.5rem) } td.plain { display: none }
-  .matrix tr { display: block }
+  .matrix tr, .matrix td { display: block; white-space: normal }
   td[data-is]::before { content: attr(data-is) " "; color: var(--soft) }
 }
 """
