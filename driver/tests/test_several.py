@@ -11,6 +11,7 @@ import subprocess
 import sys
 import types
 import unittest
+import xml.etree.ElementTree as ElementTree
 from typing import List
 
 sys.path.insert(0, os.path.dirname(os.path.dirname(os.path.abspath(__file__))))
@@ -320,6 +321,19 @@ class Several(unittest.TestCase):
         self.assertEqual(found[repo.name('c2')], second)
         self.assertEqual(len(found[repo.name('c3')]), 66 - len(second) - 6)
         self.assertEqual([one['test'] for one in facts['searches'] if sorted(one['candidates']) == sorted([repo.name('c2'), repo.name('c3')])], ['t7', 't17', 't27', 't37', 't47', 't57'])
+
+    def test_report_for_a_build_server(self) -> None:
+        """Each test that failed there stands in junit.xml under its own class and name, and fails by its commit; also in its own folder."""
+        repo = Repository(self, 4)
+        with open(repo.room + '/junit.xml', 'w', encoding='utf-8') as file:
+            file.write('<testsuite><testcase classname="a.B" name="2"><failure/></testcase><testcase classname="a.C" name="4"><error/></testcase></testsuite>')
+        got = repo.search('--tests-from', '../junit.xml', '--report', '../report', *repo.ends(), '--', 'sh', '-c', 'test $(cat number) -lt "$0"', '{name}')
+        self.assertEqual(got.returncode, 0, got.stderr)
+        for folder, due in (('', [('a.B', '2', 'c2'), ('a.C', '4', 'c4')]), ('/a.C-4', [('a.C', '4', 'c4')])):
+            cases = list(ElementTree.parse(f'{repo.room}/report{folder}/junit.xml').iter('testcase'))
+            self.assertEqual([(case.get('classname'), case.get('name')) for case in cases], [row[:2] for row in due])
+            for case, row in zip(cases, due):
+                self.assertIn('first bad commit: ' + repo.name(row[2]), case[0].get('message', ''))
 
     def test_kept_before_told(self) -> None:
         """An outcome is kept before the engine is told of it."""
