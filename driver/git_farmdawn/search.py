@@ -362,17 +362,21 @@ class Search:
                                      f'something hang? The last output is in {claim.log}')
 
     def tell_left(self, test: Test) -> None:
-        """How many commits are left, where that has changed."""
+        """How many commits are left, where that has changed. Of several tests the live line says how far all are, where there is one."""
         if test.wrong is not None or self.settings.quiet or test.left is None or test.left == test.told_left or test.status is not None:
             return
         test.told_left = test.left
         left, away = test.left
+        if test.name:
+            if not self.voice.live:
+                self.voice.line(f'{telling.left_text(left, away, None)}  [{test.name}]')
+            return
         ended = test.ended()
         seconds = None
         if ended:
             spent = sum(row.ended - row.began for row in [*ended, *self.builds])
             seconds = telling.estimate_seconds(telling.rounds(left - away), spent, len(ended), self.settings.workers)
-        self.voice.line(telling.left_text(left, away, seconds) + (f'  [{test.name}]' if test.name else ''))
+        self.voice.line(telling.left_text(left, away, seconds))
 
     def log_lines(self, test: Test, with_answer: bool = True) -> Iterator[bytes]:
         """The log of a search as it is printed, behind the one that it goes on from, and its answer."""

@@ -300,6 +300,8 @@ class Several(unittest.TestCase):
                 self.assertNotIn('[8]', ''.join(line for line in lines if line.startswith(('good', 'bad'))))
                 os.unlink(hold)
         self.assertEqual(process.wait(SECONDS), 1, lines)
+        left = [line for line in lines if re.search('commits? left, ', line)]
+        self.assertTrue(left and all(re.search('about [0-9]+ rounds?  \\[', line) for line in left), left)
         self.assertEqual([line for line in lines if line.startswith('found')],
                          [f'found {repo.name(name)[:12]}  change {number}  [{number}]\n' for name, number in (('c3', 3), ('c8', 8))])
         assert process.stdout is not None

@@ -251,6 +251,18 @@ class Terminal(unittest.TestCase):
         for due in ('its test ended with 1', '    checking', 'its parent %s was good' % repo.name('c6')[:12], 'needed) in '):
             self.assertIn(due, text)
 
+    def test_several(self) -> None:
+        """The live line says how many tests are left; their commits stand there as they are found, and at the end. One test's rest does not."""
+        repo = Repository(self)
+        words = ['-j', '2', '--trust-ends', '--test', 'early', 'sleep 1.2; [ $(cat number) -lt 3 ]', '--test', 'late', 'sleep 1.2; [ $(cat number) -lt 9 ]']
+        text, status = on_terminal(repo, [*words, 'c12', 'c1'], 100)
+        self.assertEqual(status, 0, text)
+        self.assertRegex(text, r'\[[#-]{10}\] [12] of 2 tests left')
+        for name, commit in (('early', 'c3'), ('late', 'c9')):
+            self.assertIn('\033[1mfound\033[m %s  ' % repo.name(commit)[:12], text)
+            self.assertIn('\033[1m%s is the first bad commit of %s\033[m' % (repo.name(commit)[:12], name), text)
+        self.assertNotIn('commits left', text)
+
 
 if __name__ == '__main__':
     unittest.main()
