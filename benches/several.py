@@ -4,14 +4,14 @@
 benches/several.py [--workers 4,16] [--seeds 1,2,3] [--minute SECONDS] [--way bisect,apart,at-once,one,together]
 
 A build takes 17 to 23 minutes, by its commit, and a test one to three, by its name: so a build is ten tests long. A minute is a fifth of a
-second. Builds and tests are commands that sleep, so that processors that others share change little. `git bisect run` builds each time.
+second. Builds and tests are commands that wait, so that processors that others share change little. `git bisect run` builds each time.
 Prints a row for each way, the means over the seeds:
  bisect    git bisect run for each test, one after the other
  apart     git farmdawn for each test, one after the other, with all workers
  at-once   git farmdawn for each test, as many at once as there are workers, which share nothing
  one       one search for all tests
  together  the same with --together
-with the hours by the clock, the hours for which workers slept, and how many builds and tests were begun. Ends with status 1 where the ways
+with the hours by the clock, the hours for which workers built and tested, and how many builds and tests were begun. Ends with status 1 where the ways
 come to other answers than the commits that broke the tests. FARMDAWN is a program with `serve`; without it, that is the model."""
 import argparse
 import collections
@@ -33,20 +33,25 @@ COMMITS, TESTS, CULPRITS = 300, 12, 5
 MINUTES = {"build": (17, 23), "test": (1, 3)}
 WAYS = {"bisect": "`git bisect run`, one after the other", "apart": "`git farmdawn`, one after the other", "at-once": "`git farmdawn`, all at once",
         "one": "one search", "together": "one search, `--together`"}
-# sleeps so many seconds, and notes for how long, also where it is ended
-WORK = """#!/bin/bash
-since=$EPOCHREALTIME
-trap 'kill $! 2>/dev/null; echo "$1 $since $EPOCHREALTIME" >>"$NOTES"' EXIT
+# waits so many seconds, and notes for how long, also where it is ended; by words of bash alone, which start no process
+WORK = """since=$EPOCHREALTIME
+trap 'echo "$kind $since $EPOCHREALTIME" >>"$NOTES"' EXIT
 trap 'exit 143' TERM
-sleep "$2" &
-wait
+read -rt "$seconds" <>ROOM/never
 """
-BUILD = """#!/bin/sh
-exec "$(dirname "$0")/work" build "$(sed -n "s/^$(cat number) //p" "$(dirname "$0")/builds")"
+BUILD = """#!/bin/bash
+read -r number <number
+mapfile -t builds <ROOM/builds
+kind=build seconds=${builds[number]}
+. ROOM/work
+exit 0
 """
-TEST = """#!/bin/sh
-"$(dirname "$0")/work" test "$(sed -n "s/^$1 //p" "$(dirname "$0")/seconds")"
-[ "$(cat number)" -lt "$(sed -n "s/^$1 //p" "$(dirname "$0")/culprits")" ]
+TEST = """#!/bin/bash
+read -r number <number
+kind=test
+while read -r name seconds culprit && [ "$name" != "$1" ]; do :; done <ROOM/tests
+. ROOM/work
+[ "$number" -lt "$culprit" ]
 """
 
 
@@ -64,18 +69,15 @@ class Scene:
         distinct = choice.sample(range(1, COMMITS + 1), CULPRITS)
         culprits = distinct + [choice.choice(distinct) for _ in range(TESTS - CULPRITS)]
         self.tests = {f"t{number:02}": culprit for number, culprit in enumerate(culprits, 1)}
-        self.table("culprits", self.tests)
-        self.table("seconds", {test: self.seconds(choice, "test") for test in self.tests})
-        self.table("builds", {n: self.seconds(choice, "build") for n in range(COMMITS + 1)})
+        self.write("tests", "".join(f"{test} {self.seconds(choice, 'test')} {culprit}\n" for test, culprit in self.tests.items()))
+        self.write("builds", "".join(self.seconds(choice, "build") + "\n" for _ in range(COMMITS + 1)))
         self.write("list", "".join(test + "\n" for test in self.tests))
         for name, text in (("work", WORK), ("test", TEST), ("build", BUILD)):
-            self.write(name, text)
+            self.write(name, text.replace("ROOM", room))
+        os.mkfifo(os.path.join(room, "never"))
 
     def seconds(self, choice, kind):
         return "%.3f" % (self.minute * choice.uniform(*MINUTES[kind]))
-
-    def table(self, name, rows):
-        self.write(name, "".join(f"{key} {value}\n" for key, value in rows.items()))
 
     def write(self, name, text):
         with open(os.path.join(self.room, name), "w") as file:

@@ -3,7 +3,6 @@
 commits, reckoned and not run.
 
 benches/several_rule.py [SEARCHES]
-benches/several_rule.py ways [SEARCHES]: what the searches cost in one, and one after the other
 
 300 commits, 12 tests that five commits broke. A pick is that of the search with fewest tests under way, and of its commits the most
 probable one. A test that waits is given back where its search has come to ask for other commits, and so is a build. Behind a build, and
@@ -178,35 +177,7 @@ class Farm:
             self.end_one()
 
 
-def apart(seed, workers, scene):
-    """The same searches one after the other, which share nothing."""
-    found = []
-    for number in range(TESTS):
-        farm = Farm(random.Random(seed), workers, scene, 0, False)
-        farm.searches, farm.minutes = [farm.searches[number]], [farm.minutes[number]]
-        found.append(farm.run())
-    return tuple(map(sum, zip(*found)))
-
-
-def means(found):
-    return "| {:.1f} | {:.0f} | {:.0f} | {:.0f} |".format(*(statistics.mean(column) for column in zip(*found)))
-
-
-def ways(searches, scene=SCENES[0]):
-    """What the searches cost together, and one after the other; with one worker these are git bisect run."""
-    print("| Way | Workers | Hours | Hours of work | Builds | Tests |\n|---|---|---|---|---|---|")
-    for workers in (1, 4, 16):
-        print(f"| one after the other | {workers}", means([apart(seed, workers, scene) for seed in range(searches)]), flush=True)
-    for workers in (4, 16):
-        for together in (False, True):
-            found = [Farm(random.Random(seed), workers, scene, None, together).run() for seed in range(searches)]
-            print(f"| one search{', --together' if together else ''} | {workers}", means(found), flush=True)
-
-
 def main():
-    if sys.argv[1:2] == ["ways"]:
-        ways(int(sys.argv[2]) if len(sys.argv) > 2 else 20)
-        return
     searches = int(sys.argv[1]) if len(sys.argv) > 1 else 20
     print("| Build, tests | Workers | Together | Share | Hours | Hours of work | Builds | Tests |\n|---|---|---|---|---|---|---|---|")
     for scene in SCENES:
