@@ -3,6 +3,8 @@
 commits, reckoned and not run.
 
 benches/several_rule.py [SEARCHES]
+benches/several_rule.py ways [SEARCHES]: what the searches cost in one, one after the other, and as many at once as there are workers; tests
+of one to three minutes, as benches/several.py has them
 
 300 commits, 12 tests that five commits broke. A pick is that of the search with fewest tests under way, and of its commits the most
 probable one. A test that waits is given back where its search has come to ask for other commits, and so is a build. Behind a build, and
@@ -177,7 +179,50 @@ class Farm:
             self.end_one()
 
 
+def each(seed, workers, scene):
+    """The same searches, each alone."""
+    found = []
+    for number in range(TESTS):
+        farm = Farm(random.Random(seed), workers, scene, 0, False)
+        farm.searches, farm.minutes = [farm.searches[number]], [farm.minutes[number]]
+        found.append(farm.run())
+    return found
+
+
+def apart(seed, workers, scene):
+    """The searches one after the other, which share nothing."""
+    return tuple(map(sum, zip(*each(seed, workers, scene))))
+
+
+def at_once(seed, workers, scene):
+    """As many searches at once as there are workers, which share nothing."""
+    found, ends = each(seed, max(1, workers // TESTS), scene), [0.0] * min(workers, TESTS)
+    for hours, *_ in found:
+        heapq.heapreplace(ends, ends[0] + hours)
+    return (max(ends), *(sum(column) for column in list(zip(*found))[1:]))
+
+
+def means(found):
+    return "| {:.1f} | {:.0f} | {:.0f} | {:.0f} |".format(*(statistics.mean(column) for column in zip(*found)))
+
+
+def ways(searches, scene=(20, 1, 3)):
+    """What the searches cost together, one after the other, and at once; one after the other with one worker is git bisect run."""
+    print("| Way | Workers | Hours | Hours of work | Builds | Tests |\n|---|---|---|---|---|---|")
+    for workers in (1, 4, 16):
+        print(f"| one after the other | {workers}", means([apart(seed, workers, scene) for seed in range(searches)]), flush=True)
+    for workers in (4, 16):
+        print(f"| all at once | {workers}", means([at_once(seed, workers, scene) for seed in range(searches)]), flush=True)
+    for workers in (4, 16):
+        for together in (False, True):
+            found = [Farm(random.Random(seed), workers, scene, None, together).run() for seed in range(searches)]
+            print(f"| one search{', --together' if together else ''} | {workers}", means(found), flush=True)
+
+
 def main():
+    if sys.argv[1:2] == ["ways"]:
+        ways(int(sys.argv[2]) if len(sys.argv) > 2 else 20)
+        return
     searches = int(sys.argv[1]) if len(sys.argv) > 1 else 20
     print("| Build, tests | Workers | Together | Share | Hours | Hours of work | Builds | Tests |\n|---|---|---|---|---|---|---|---|")
     for scene in SCENES:

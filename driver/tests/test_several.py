@@ -186,7 +186,7 @@ class Several(unittest.TestCase):
         os.mkdir(state)
         if not is_small_disk(state):
             self.skipTest('no small disk can be made here')
-        self.addCleanup(subprocess.run, ['umount', '-l', state])
+        self.addCleanup(lambda: subprocess.run(['umount', '-l', state], check=False))
         with open(repo.room + '/list', 'w', encoding='utf-8') as file:
             file.write('5\n12\n17\n')
         with open(repo.room + '/fills', 'w', encoding='utf-8'):
