@@ -31,9 +31,9 @@ def engine_in(room: str) -> Dict[str, str]:
     return {**ENV, 'FARMDAWN': path}
 
 
-def blocks() -> Iterator[List[Tuple[str, str]]]:
+def blocks(page: str) -> Iterator[List[Tuple[str, str]]]:
     """The commands of each block with what the page shows of them."""
-    with open(PAGE, encoding='utf-8') as file:
+    with open(page, encoding='utf-8') as file:
         text = file.read()
     for block in re.findall('^```console\n(.*?)^```', text, re.M | re.S):
         yield re.findall(r'^\$ (.*)\n((?:(?!\$ ).*\n)*)', block, re.M)
@@ -55,7 +55,7 @@ class Page(unittest.TestCase):
         with tempfile.TemporaryDirectory(dir=ROOM) as room:
             repository, env = os.path.join(room, 'practice'), engine_in(room)
             subprocess.run(['sh', os.path.join(TOP, 'docs', 'practice.sh'), repository], env=env, stdout=subprocess.DEVNULL, check=True)
-            for block in blocks():
+            for block in blocks(PAGE):
                 for command, shown in block:
                     with self.subTest(command):
                         done = subprocess.run(['sh', '-c', command], cwd=repository, env=env, stdout=subprocess.PIPE, stderr=subprocess.PIPE, text=True,
