@@ -20,7 +20,7 @@ FIELDS = {
     "ended": (int, float, NONE), "workers": int, "host": TEXT, "commits": int, "tests": list, "log": list,
 }
 TEST = {
-    "commit": TEXT, "subject": TEXT, "worker": (int, NONE), "began": (int, float, NONE), "ended": (int, float, NONE), "status": (int, NONE),
+    "commit": TEXT, "subject": TEXT, "worker": (int, NONE), "host": (TEXT, NONE), "began": (int, float, NONE), "ended": (int, float, NONE), "status": (int, NONE),
     "outcome": TEXT, "run": int, "kept": bool, "used": bool, "log": (TEXT, NONE),
 }
 MORE = {

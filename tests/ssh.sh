@@ -111,6 +111,8 @@ test_hosts() {
     expect 'which was tried twice' [ "$(grep -c 'on lost was lost' err)" -eq 2 ]
     timeout 60 farmdawn-ssh --slots slots --tries 2 lost lost lost:2 there -- sh -c 'exit 9' name
     expect 'another host tests it' [ $? -eq 9 ]
+    FARMDAWN_HOST_FILE=host timeout 60 farmdawn-ssh --slots slots --tries 2 lost there -- true name
+    expect 'and is named for the report' [ "$(cat host)" = there ]
     timeout 60 farmdawn-ssh --slots slots --tries 3 lost1 lost2 -- true name 2>err
     expect 'a test that is lost on two' [ $? -eq 255 ]
     expect 'in turns' [ "$(sed 's/.* on \(.*\) was lost/\1/' err | tr '\n' ' ')" = 'lost1 lost2 lost1 ' ]

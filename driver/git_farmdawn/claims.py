@@ -36,6 +36,7 @@ class Claim(Job):
         self.needless = self.is_end = self.missing = self.is_first = False
         self.is_wanted = False          # whatever its search asks for: of an end, or one that is tested again
         self.run = 1                    # above it the commit has an outcome, and is tested again
+        self.host = ''                  # the machine that the command told
 
 
 class Preparation(Job):

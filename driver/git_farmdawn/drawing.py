@@ -20,7 +20,8 @@ PATTERNS = (('good', ''), ('bad', 'M-2 2 2-2M-2 10 10-2M6 10 10 6'), ('skipped',
             ('lost', 'M4 0v8'))
 PLAIN = {'good': '#0072b2', 'bad': '#c94f00', 'skipped': '#6f7378', 'stopped': '#9c3d78', 'lost': '#9c3d78'}   # without a style
 MOST_CELLS = 160
-CELL, GAP = 9, 4
+CELLS = range(9, 25)                    # columns of pixels for a cell, by how many there are
+WIDTH, GAP = 700, 4
 
 
 def plain(text: str) -> str:
@@ -98,21 +99,24 @@ def strip(facts: Facts, place: Dict[str, int], known: Dict[str, int]) -> List[st
     if len(cells) < 2:
         return []
     name = facts['answer']['name'] if facts['answer'] else ''
-    contradicts = {one['commit'] for one in facts['contradictions']}
-    out, x, last = [], 0, cells[0].at - 1
+    contradicts, candidates = {one['commit'] for one in facts['contradictions']}, {one['name'] for one in facts['candidates']}
+    wide = max(CELLS[0], min(CELLS[-1], WIDTH // len(cells) - GAP))
+    out, x, last = [], 1, cells[0].at - 1
     for cell in cells:
         x += 0 if cell.at == last + 1 else GAP
         if cell.commit == name:
             out.append('<path d="M%d 0v30" class="boundary"/>' % (x - 1))
-        kind = cell.outcome + (' doubt' if cell.commit in contradicts else '')
-        title = '<title>%s %s%s</title>' % (cell.commit[:NAME], cell.outcome, ': contradicts' if cell.commit in contradicts else '')
-        bar = '<rect x="%d" y="6" width="%d" height="18" class="%s" fill="%s"/>' % (x, CELL - 1, kind, filling(cell.outcome))
+        kind = cell.outcome + (' doubt' if cell.commit in contradicts | candidates else '')
+        why = ': contradicts' if cell.commit in contradicts else ': may be the first one' if cell.commit in candidates else ''
+        title = '<title>%s %s%s</title>' % (cell.commit[:NAME], cell.outcome, why)
+        bar = '<rect x="%d" y="6" width="%d" height="18" class="%s" fill="%s"/>' % (x, wide - 1, kind, filling(cell.outcome))
         out.append('<a href="#t%d" tabindex="-1">%s%s</a>' % (cell.number, title, bar) if cell.number else bar)
-        x, last = x + CELL, cell.at
-    words = {cell.outcome for cell in cells}
-    return (['<h2>The history</h2>', *legend(sorted(words), 'the line stands before the first %s commit' % page_text(facts['terms']['new'])
-                                             if name else ''),
-             '<svg class="strip" width="%d" height="30" role="img"><title>Outcomes from the oldest commit to the newest one</title>' % (x + 1)]
+        x, last = x + wide, cell.at
+    new = page_text(facts['terms']['new'])
+    text = 'the line stands before the first %s commit' % new if name else 'framed: may be the first %s one' % new if candidates else ''
+    return (['<h2>The history</h2>', *legend(sorted({cell.outcome for cell in cells}), text),
+             '<svg class="strip" width="%d" height="30" viewBox="0 0 %d 30" preserveAspectRatio="xMinYMid meet" role="img">'
+             '<title>Outcomes from the oldest commit to the newest one</title>' % (x + 1, x + 1)]
             + out + ['</svg>', '<p class="kind">From the oldest commit to the newest one; commits without an outcome are left out.</p>'])
 
 
@@ -157,8 +161,9 @@ def bar_of(number: int, one: TestFact, scale: Scale) -> str:
     """The bar of a test."""
     began = one['began'] or scale.first
     spent = max(0.0, (one['ended'] or scale.now) - began)
-    title = '%s %s: %s, worker %d, from %.1f s for %s' % (one['commit'][:NAME], page_text(one['subject']), one['outcome'],
-                                                          one['worker'] or 1, began - scale.first, span(spent))
+    where = 'worker %d%s' % (one['worker'] or 1, ' on ' + page_text(one['host']) if one['host'] else '')
+    title = '%s %s: %s, %s, from %.1f s for %s' % (one['commit'][:NAME], page_text(one['subject']), one['outcome'],
+                                                   where, began - scale.first, span(spent))
     return ('<a href="#t%d" tabindex="-1"><rect x="%.3f%%" y="%d" width="%.3f%%" height="%d" class="%s%s" fill="%s"><title>%s</title></rect></a>'
             % (number, (began - scale.first) / scale.total * 100, ((one['worker'] or 1) - 1) * scale.row + 2,
                spent / scale.total * 100, scale.row - 4, one['outcome'], ' needless' if is_needless(one) else '', filling(one['outcome']), title))

@@ -18,6 +18,7 @@ class Row(NamedTuple):
     at_limit: bool = False      # whether it took longer than --timeout
     ran: bool = True            # not where a build failed that several tests share
     run: int = 1                # above it the commit was tested again
+    host: str = ''              # the machine, where the command told one
 
 
 class Running(NamedTuple):

@@ -19,6 +19,7 @@ if TYPE_CHECKING:
 SHOW = ('-c', 'log.showSignature=false', '-c', 'core.quotePath=false', 'show', '--no-color', '--no-notes')
 CHANGE = SHOW + ('--no-ext-diff', '--no-textconv', '--format=', '--diff-merges=first-parent')
 MOST_LINES, MOST_BYTES, OPEN_LINES = 2000, 200000, 120
+MOST_LISTED = 100                       # commits of which one is the first bad one
 MOST_TOLD = 10                          # commits with their odds
 PLACES = re.compile(r'[+]{3} |--- |diff |index |(new|deleted) file mode |@@|\\')
 
@@ -63,6 +64,8 @@ class Page:
         facts, answer = self.facts, self.facts['answer']
         if answer:
             title = 'First %s commit: %s %s' % (page_text(facts['terms']['new']), answer['name'][:NAME], page_text(answer['subject']))
+        elif facts['candidates']:
+            title = 'First %s commit: one of %d' % (page_text(facts['terms']['new']), len(facts['candidates']))
         else:
             title = 'No answer: ' + page_text(facts['reason'] or '')
         return ['<!DOCTYPE html>\n<html xmlns="http://www.w3.org/1999/xhtml" lang="en">\n<head>\n<meta charset="utf-8"/>\n'
@@ -94,16 +97,18 @@ class Page:
 
     def no_verdict(self) -> List[str]:
         """Why there is none, or the commits of which one is it."""
-        facts = self.facts
-        out = ['<header class="verdict none">\n<p class="kind">%s</p>\n<h1>%s</h1>' %
-               ('The search runs' if facts['state'] == 'running' else 'No answer', page_text(facts['reason'] or ''))]
-        if facts['candidates']:
-            out.append('<p>One of %s:</p>\n<ul>' % counted(len(facts['candidates']), 'commit'))
-            out += ['<li><span class="name">%s</span> %s%s</li>' % (
-                one['name'][:NAME], page_text(one['subject']),
-                ' (%s)' % one['outcome'] if one['outcome'] else '') for one in facts['candidates'][:100]]
-            out.append('</ul>')
-        return out + ['</header>']
+        facts, listed = self.facts, self.facts['candidates']
+        if not listed:
+            kind = 'The search runs' if facts['state'] == 'running' else 'No answer'
+            return ['<header class="verdict none">\n<p class="kind">%s</p>\n<h1>%s</h1>\n</header>' % (kind, page_text(facts['reason'] or ''))]
+        out = ['<header class="verdict">\n<p class="kind">First %s commit</p>\n<h1>One of %s</h1>\n<ul>'
+               % (page_text(facts['terms']['new']), counted(len(listed), 'commit'))]
+        out += ['<li><span class="name">%s</span> %s%s</li>' % (one['name'][:NAME], page_text(one['subject']),
+                                                              ' (%s)' % one['outcome'] if one['outcome'] else '')
+                for one in listed[:MOST_LISTED]]
+        if len(listed) > MOST_LISTED:
+            out.append('<li>and %d more, which <a href="result.json">result.json</a> has</li>' % (len(listed) - MOST_LISTED))
+        return out + ['</ul>\n<p class="kind">%s</p>\n</header>' % page_text(facts['reason'] or '')]
 
     def row_of(self, name: str) -> Optional[TestFact]:
         """The test of a commit that has an outcome."""
@@ -120,8 +125,8 @@ class Page:
         """How the fault is seen, and how it is searched again."""
         lines = self.facts['again']
         rows = [('To see it', lines['see']), ('To search again', lines['search'])]
-        told = ['<dt>%s</dt><dd><code>%s</code></dd>' % (name, page_text(line)) for name, line in rows if line]
-        return ['<h2>How to run it again</h2>\n<dl>' + ''.join(told) + '</dl>']
+        return ['<h2>How to run it again</h2>\n<dl class="lines">' + ''.join('<dt>%s</dt><dd><code>%s</code></dd>' % (name, page_text(line))
+                                                                for name, line in rows if line) + '</dl>']
 
     def doubts(self) -> List[str]:
         """What speaks against the answer, and whether the ends were tested."""
@@ -204,13 +209,15 @@ class Page:
 
     def table(self) -> List[str]:
         """A row for each test."""
-        out = ['<table>\n<thead><tr><th>Outcome</th><th>Commit</th><th>Subject</th><th class="number">Time</th><th>Output</th></tr>'
-               '</thead>\n<tbody>']
+        hosts = any(one['host'] for one in self.facts['tests'])
+        out = ['<table>\n<thead><tr><th>Outcome</th><th>Commit</th><th>Subject</th>%s<th class="number">Time</th><th>Output</th></tr>'
+               '</thead>\n<tbody>' % ('<th>Host</th>' if hosts else '')]
         for number, one in enumerate(self.facts['tests'], 1):
             spent = '' if one['began'] is None else span((one['ended'] or time.time()) - one['began'])
             note = (' (known)' if one['kept'] else ' (taken back)' if was_taken_back(self.test, one) else ' (needless)' if is_needless(one)
                     else ' (run %d)' % one['run'] if one['run'] > 1 else '')
             link = '<a href="%s" aria-label="output of %s">output</a>' % (one['log'], one['commit'][:NAME]) if one['log'] else ''
-            out.append('<tr id="t%d"><td>%s%s</td><td class="name">%s</td><td class="what">%s</td><td class="number">%s</td><td>%s</td></tr>'
-                       % (number, one['outcome'], note, one['commit'][:NAME], page_text(one['subject']), spent, link))
+            host = '<td>%s</td>' % page_text(one['host'] or '') if hosts else ''
+            out.append('<tr id="t%d"><td>%s%s</td><td class="name">%s</td><td class="what">%s</td>%s<td class="number">%s</td><td>%s</td></tr>'
+                       % (number, one['outcome'], note, one['commit'][:NAME], page_text(one['subject']), host, spent, link))
         return out + ['</tbody>\n</table>']

@@ -27,6 +27,7 @@ class TestFact(TypedDict):
     commit: str
     subject: str
     worker: Optional[int]
+    host: Optional[str]
     began: Optional[float]
     ended: Optional[float]
     status: Optional[int]
@@ -167,7 +168,7 @@ class Collector:
 
     def row(self, commit: str, status: Optional[int], outcome: str, is_used: bool) -> TestFact:
         """A test without its times."""
-        return {'commit': commit, 'subject': self.subject(commit), 'worker': None, 'began': None, 'ended': None, 'status': status,
+        return {'commit': commit, 'subject': self.subject(commit), 'worker': None, 'host': None, 'began': None, 'ended': None, 'status': status,
                 'outcome': outcome, 'run': 1, 'kept': True, 'used': is_used and status is not None, 'log': None}
 
     def counts(self, row: Row, outcome: str) -> bool:
@@ -191,7 +192,7 @@ class Collector:
         for row in test.rows:
             outcome = 'ended' if row.status is None else outcome_of(row.status)
             one = self.row(row.commit, row.status, outcome, row.commit in marked and self.counts(row, outcome))
-            one.update({'run': row.run, 'worker': row.place + 1, 'kept': False,
+            one.update({'run': row.run, 'worker': row.place + 1, 'host': row.host or None, 'kept': False,
                         'began': self.at(row.began), 'ended': self.at(row.ended)})
             made.append(one)
         for claim in now if running else []:

@@ -85,6 +85,6 @@ def options_of(search: Search) -> List[str]:
             words += [option, quoted(value[0] if isinstance(value, list) else str(value))]
     for status, meant in settings.missing.items():
         words += ['--missing', '%d=%s' % (status, next(word for word, meaning in MEANINGS.items() if meaning == meant))]
-    for path in settings.paths:
-        words += ['--path', quoted(path[len(TOP):])]
-    return words
+    for option, values in (('--path', [path[len(TOP):] for path in settings.paths]), ('--skip', settings.skips), ('--copy', settings.copies)):
+        words += [word for value in values for word in (option, quoted(value))]
+    return words + (['--submodules'] if settings.submodules else [])

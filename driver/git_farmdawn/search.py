@@ -298,7 +298,7 @@ class Search:
         assert slot is not None
         if claim.log:
             cut_log(claim.log, self.settings.log_limit)
-        row = Row(claim.commit, slot.number, claim.began, time.monotonic(), status, claim.at_limit, run=claim.run)
+        row = Row(claim.commit, slot.number, claim.began, time.monotonic(), status, claim.at_limit, run=claim.run, host=claim.host)
         if status is None:
             claim.test.note(row)
             self.give_back(claim, row, task.cancelled == 'needless')

@@ -52,7 +52,7 @@ tr:target { background: var(--plate) }
 table + .kind, .drawing + .kind, pre + .kind, dl + .kind { margin-top: .5rem }
 footer { color: var(--soft); font-size: .85rem; margin-top: 2rem }
 @media (max-width: 45rem) {
-  dl { gap: .15rem .6rem }
+  dl { gap: .15rem .6rem } dl.lines { display: block } dl.lines dd { margin-bottom: .5rem }
   thead { position: absolute; left: -100rem }
   tr { display: flex; flex-wrap: wrap; gap: 0 .7rem; padding: .4rem 0; border-bottom: 1px solid var(--line) }
   td { border: 0; padding: 0; font-size: .8rem } td:empty { display: none }

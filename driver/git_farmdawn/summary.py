@@ -93,11 +93,13 @@ def table(facts: Facts) -> List[str]:
     rows = [one for one in facts['tests'] if one['used']]
     if not rows:
         return []
+    hosts = any(one['host'] for one in rows)
     out = ['%s, %s on %s' % (counted(len(facts['tests']), 'test'), counted(facts['workers'], 'worker'), code(facts['host'])), '',
-           '| outcome | commit | took |', '|---|---|---|']
+           '| outcome | commit | took |' + (' on |' if hosts else ''), '|---|---|---|' + ('---|' if hosts else '')]
     for one in rows[:MOST_ROWS]:
         took = '' if one['began'] is None or one['ended'] is None else span(one['ended'] - one['began'])
-        out.append('| %s | %s | %s |' % (one['outcome'], named(one['commit'], one['subject']), took))
+        on = ' %s |' % code(one['host'] or '-') if hosts else ''
+        out.append('| %s | %s | %s |%s' % (one['outcome'], named(one['commit'], one['subject']), took, on))
     return out
 
 

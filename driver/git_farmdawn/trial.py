@@ -12,10 +12,12 @@ from .claims import Claim, Job, Preparation, Slot
 from .copies import NotBrought
 from .ended import Ended
 from .facts import FIRST_STOP, SKIP
+from .folders import content
 from .left import signs_of
 from .loop import Cancelled
 from .outputs import NoRoom, has_room, kind_of_log
 from .process import Child, Command
+from .telling import shown
 from .words import ME
 
 if TYPE_CHECKING:
@@ -25,6 +27,7 @@ if TYPE_CHECKING:
     from .telling import Telling
 
 NOT_BELIEVED = 255
+LONGEST_HOST = 60                       # columns of the name of a machine
 LATE = 5                                # seconds between TERM and KILL for a test at its limit
 Steps = Generator[Union[Child, float], object, int]
 
@@ -109,7 +112,10 @@ class Trials:
         try:
             if claim.is_first:          # what others that run there are changing now is none of it
                 slot.note()
-            status = yield from self.run_often(slot, claim, log)
+            try:
+                status = yield from self.run_often(slot, claim, log)
+            finally:
+                claim.host = shown(content(self.host_file(claim)).split(b'\n')[0], LONGEST_HOST)
             return self.look_for_missing(claim, self.look_behind(slot, claim, status, log), log)
         except Cancelled:
             # what was ended in the middle has left half of something: the folder is made anew
@@ -164,6 +170,8 @@ class Trials:
             return SKIP
         os.makedirs(slot.build, exist_ok=True)
         env = self.environment(slot, job, cwd)
+        if os.path.lexists(self.host_file(job)):
+            os.unlink(self.host_file(job))
         self.ended.note(job.seat, env)
         try:
             child = job.child = self.start(slot, job, Command(words, env, cwd, log))
@@ -196,10 +204,15 @@ class Trials:
             return self.settings.build_timeout
         return self.settings.timeout
 
+    def host_file(self, job: Job) -> str:
+        """The file in which a command names the machine that it runs its test on, where that is another one."""
+        return os.path.join(self.run.state, 'host-%d' % job.seat)
+
     def environment(self, slot: Slot, job: Job, cwd: str) -> Dict[str, str]:
-        """What a test finds in its environment: the caller's, and four words of ours."""
+        """What a test finds in its environment: the caller's, and five words of ours."""
         env = dict(self.repo.test_env, FARMDAWN_WORKTREE=slot.folder, FARMDAWN_COMMIT=job.commit,
-                   FARMDAWN_WORKER=str(job.seat), FARMDAWN_BUILD=slot.build)
+                   FARMDAWN_WORKER=str(job.seat), FARMDAWN_BUILD=slot.build,
+                   FARMDAWN_HOST_FILE=self.host_file(job))
         if 'PWD' in env:
             env['PWD'] = cwd
         return env

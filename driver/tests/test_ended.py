@@ -1,6 +1,7 @@
 """--ended COMMAND: what no process of a test is, as a container, ends with it all the same; tried with a stand-in for an engine."""
 from __future__ import annotations
 
+import json
 import os
 import signal
 import subprocess
@@ -94,6 +95,24 @@ class Ended(unittest.TestCase):
         self.assertEqual(names, f'{repo.name("c6")} 0 {folder}')
         self.assertEqual(got.stderr.count(f'--ended, run for {repo.name("c6")[:12]}: it ended with 3'), 1, got.stderr)
         repo.check_left()
+
+
+@needs_engine
+class Hosts(unittest.TestCase):
+    """The machine that a command runs its test on."""
+
+    def test_hosts(self) -> None:
+        """What the command writes into the file stands in the report, in one line, and no test has that of another one."""
+        repo = Repository(self)
+        command = 'test -e "$FARMDAWN_HOST_FILE" && exit 9; n=$(cat number); [ $((n % 2)) = 0 ] || printf "node$n\\a\\nmore\\n" >"$FARMDAWN_HOST_FILE"; test $n -lt 7'
+        got = repo.search('--report', repo.room + '/report', '--trust-ends', *repo.ends(), '--', 'sh', '-c', command)
+        self.assertEqual(got.returncode, 0, got.stderr)
+        with open(repo.room + '/report/result.json', encoding='utf-8') as file:
+            tests = json.load(file)['tests']
+        for one in tests:
+            number = int(one['subject'].split()[1])
+            self.assertEqual(one['host'], 'node%d?' % number if number % 2 and one['status'] is not None else None)
+        self.assertTrue(any(one['host'] for one in tests))
 
 
 if __name__ == '__main__':

@@ -70,7 +70,8 @@ def make_search(room: str, texts: List[str], answer: Optional[int]) -> Any:
                                     subject={name: os.fsencode(text) for name, text in zip(order, texts)}, left=len(order) - 1, added_bad=None)
     settings = types.SimpleNamespace(bad=order[-1], goods=[order[0]], terms=('bad', 'good'), first_parent=False, paths=[], workers=3, typed={},
                                      term_new=None, term_old=None, timeout=None, noise=None, retry=0, repeat=1, is_list=False, missing={},
-                                     build_timeout=None, build=['/bin/sh', '-c', 'make'], cases={})
+                                     build_timeout=None, build=['/bin/sh', '-c', 'make'], cases={}, skips=[], copies=[],
+                                     submodules=False)
     return types.SimpleNamespace(tests=[test], history=history, settings=settings, repo=Repo(room), began=1.0, voice=None, running=lambda: [],
                                  log_lines=lambda one, with_answer=True: one.log + (one.answer if with_answer else []))
 
@@ -142,6 +143,34 @@ class Pages(Room):
         for line in text.split('\n')[1:]:
             line = re.sub(r'(?<!`)(`+)(?!`).*?(?<!`)\1(?!`)', '', line)
             self.assertNotRegex(re.sub(r'\\.|^## |^- |^\||\|$|\| |\|---.*|\[\]\(https[^ )]*\)', '', line), r'[<>`*_\[|]')
+
+    def test_candidates(self) -> None:
+        """Where skips leave several commits, they are the verdict, stand framed in the history, and the line that searches again has the skips."""
+        search = make_search(self.room, ['change %d' % at for at in range(8)], 4)
+        test, (first, second) = search.tests[0], search.history.order[4:6]
+        test.known[first], test.status = 125, 2
+        test.answer = [b"There are only 'skip'ped commits left to test.", b'The first bad commit could be any of:', first.encode(), second.encode(),
+                       b'We cannot bisect more!']
+        search.settings.skips, search.settings.copies, search.settings.submodules = [first], ['a b'], True
+        facts = Collector(search, test, '0.1.0').collect(2, '', True)
+        page, summary = Page(facts, search, test).text(), summary_of(facts)
+        self.assertEqual([(one['name'], one['outcome']) for one in facts['candidates']], [(first, 'skipped'), (second, 'bad')])
+        self.assertIn('<p class="kind">First bad commit</p>\n<h1>One of 2 commits</h1>', page)
+        self.assertEqual((page.count(': may be the first one</title>'), page.count(' doubt" fill=')), (2, 2))
+        self.assertIn('## One of 2 commits', summary)
+        for words in ("--skip %s --copy 'a b' --submodules " % first,):
+            self.assertIn(words, facts['again']['search'])
+
+    def test_hosts(self) -> None:
+        """The machine that a command told of stands in each form; without one there is no column of it."""
+        search = make_search(self.room, ['change %d' % at for at in range(8)], 4)
+        for host, count in (('', 0), ('node<7>', len(search.tests[0].rows))):
+            search.tests[0].rows = [row._replace(host=host) for row in search.tests[0].rows]
+            facts = Collector(search, search.tests[0], '0.1.0').collect(0, '', True)
+            self.assertEqual({one['host'] for one in facts['tests'] if not one['kept']}, {host or None})
+            page = Page(facts, search, search.tests[0]).text()
+            self.assertEqual([page.count('<td>node&lt;7&gt;</td>'), page.count('on node&lt;7&gt;, from')], [count, count])
+            self.assertEqual((page.count('<th>Host</th>'), summary_of(facts).count('| `node<7>` |')), (bool(host), count and count - 1))
 
     def test_begin(self) -> None:
         """The page, the summary and JUnit begin with what failed."""
