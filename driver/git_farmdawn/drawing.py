@@ -21,7 +21,7 @@ PATTERNS = (('good', ''), ('bad', 'M-2 2 2-2M-2 10 10-2M6 10 10 6'), ('skipped',
 PLAIN = {'good': '#0072b2', 'bad': '#c94f00', 'skipped': '#6f7378', 'stopped': '#9c3d78', 'lost': '#9c3d78'}   # without a style
 MOST_CELLS = 160
 CELLS = range(9, 25)                    # columns of pixels for a cell, by how many there are
-WIDTH, GAP = 700, 4
+WIDTH, PIECE, GAP = 700, 330, 4         # of all, of what a telephone has in a line, between two
 
 
 def plain(text: str) -> str:
@@ -94,30 +94,42 @@ def cells_of(facts: Facts, place: Dict[str, int], known: Dict[str, int]) -> List
 
 
 def strip(facts: Facts, place: Dict[str, int], known: Dict[str, int]) -> List[str]:
-    """The history from the good commits to the bad one: a cell for each commit that has an outcome, with the answer marked."""
+    """The history from the good commits to the bad one: a cell for each commit that has an outcome,
+    with the answer marked. It is drawn in pieces that stand in as many lines as a page wants."""
     cells = cells_of(facts, place, known)
     if len(cells) < 2:
         return []
-    name = facts['answer']['name'] if facts['answer'] else ''
-    contradicts, candidates = {one['commit'] for one in facts['contradictions']}, {one['name'] for one in facts['candidates']}
+    notes = {one['commit']: ': contradicts' for one in facts['contradictions']}
+    notes.update((one['name'], ': may be the first one') for one in facts['candidates'])
     wide = max(CELLS[0], min(CELLS[-1], WIDTH // len(cells) - GAP))
-    out, x, last = [], 1, cells[0].at - 1
+    many, new = PIECE // (wide + GAP), page_text(facts['terms']['new'])
+    name = facts['answer']['name'] if facts['answer'] else ''
+    text = 'the line stands before the first %s commit' % new if name else ''
+    if facts['candidates']:
+        text = 'framed: may be the first %s one' % new
+    out = ['<h2>The history</h2>', *legend(sorted({cell.outcome for cell in cells}), text),
+           '<p class="strip" role="group" aria-label="Outcomes from the oldest commit to the newest">']
+    out += [piece(cells[at:at + many], wide, name, notes) for at in range(0, len(cells), many)]
+    return out + ['</p>', '<p class="kind">From the oldest commit to the newest one; commits without '
+                  'an outcome are left out%s.</p>' % (', and those that are far away from it'
+                                                      if len(cells) == MOST_CELLS else '')]
+
+
+def piece(cells: List[Cell], wide: int, answer: str, notes: Dict[str, str]) -> str:
+    """Some cells of the strip; notes say why a commit is framed."""
+    out, x, last = [], 2, cells[0].at - 1
     for cell in cells:
         x += 0 if cell.at == last + 1 else GAP
-        if cell.commit == name:
-            out.append('<path d="M%d 0v30" class="boundary"/>' % (x - 1))
-        kind = cell.outcome + (' doubt' if cell.commit in contradicts | candidates else '')
-        why = ': contradicts' if cell.commit in contradicts else ': may be the first one' if cell.commit in candidates else ''
-        title = '<title>%s %s%s</title>' % (cell.commit[:NAME], cell.outcome, why)
-        bar = '<rect x="%d" y="6" width="%d" height="18" class="%s" fill="%s"/>' % (x, wide - 1, kind, filling(cell.outcome))
-        out.append('<a href="#t%d" tabindex="-1">%s%s</a>' % (cell.number, title, bar) if cell.number else bar)
+        if cell.commit == answer:
+            out.append('<path d="M%d 0v30" class="boundary" stroke="#777"/>' % (x - 1))
+        note = notes.get(cell.commit, '')
+        title = '<title>%s %s%s</title>' % (cell.commit[:NAME], cell.outcome, note)
+        bar = '<rect x="%d" y="6" width="%d" height="18" class="%s%s" fill="%s"/>' % (
+            x, wide - 1, cell.outcome, ' doubt' if note else '', filling(cell.outcome))
+        out.append('<a href="#t%d" tabindex="-1">%s%s</a>' % (cell.number, title, bar)
+                   if cell.number else bar)
         x, last = x + wide, cell.at
-    new = page_text(facts['terms']['new'])
-    text = 'the line stands before the first %s commit' % new if name else 'framed: may be the first %s one' % new if candidates else ''
-    return (['<h2>The history</h2>', *legend(sorted({cell.outcome for cell in cells}), text),
-             '<svg class="strip" width="%d" height="30" viewBox="0 0 %d 30" preserveAspectRatio="xMinYMid meet" role="img">'
-             '<title>Outcomes from the oldest commit to the newest one</title>' % (x + 1, x + 1)]
-            + out + ['</svg>', '<p class="kind">From the oldest commit to the newest one; commits without an outcome are left out.</p>'])
+    return '<svg width="%d" height="30">%s</svg>' % (x + 1, ''.join(out))
 
 
 # -- who tested what -----------------------------------------------------------------

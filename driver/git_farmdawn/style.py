@@ -37,7 +37,8 @@ svg { display: block }
 .good { stroke: var(--good) } .bad { stroke: var(--bad) } .skipped { stroke: var(--skipped) } .stopped { stroke: var(--stopped) }
 .lost { stroke: var(--lost) } .ended { stroke: var(--ended); stroke-dasharray: 3 2 } .running { stroke: var(--running) }
 .needless { fill-opacity: .18 }
-.strip { max-width: 100%; height: auto } .boundary { stroke: var(--ink); stroke-width: 2 } rect.doubt { stroke: var(--ink); stroke-width: 2 }
+.strip { margin: 0; font-size: 0 } .strip svg { display: inline-block; margin-bottom: 4px }
+.boundary { stroke: var(--ink); stroke-width: 2 } rect.doubt { stroke: var(--ink); stroke-width: 2 }
 li.doubt { color: var(--removed) }
 .c-good { fill: var(--good) } .c-bad { fill: var(--bad) } .c-skipped { fill: var(--skipped) } .c-stopped { fill: var(--stopped) }
 .m { stroke: var(--mark); stroke-width: 1.6; fill: none } .l-lost { stroke: var(--lost); stroke-width: 1.6 }

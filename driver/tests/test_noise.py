@@ -1,6 +1,7 @@
 """Searches by odds: the odds beside a plain computation over random histories, and whole searches with a test that lies by a plan."""
 from __future__ import annotations
 
+import importlib.util
 import json
 import os
 import random
@@ -15,7 +16,7 @@ sys.path.insert(0, os.path.dirname(os.path.dirname(os.path.abspath(__file__))))
 from git_farmdawn.odds import Noise, Odds, of_hundred           # noqa: E402
 from git_farmdawn.values import share                           # noqa: E402
 from git_farmdawn.words import Stop                             # noqa: E402
-from helpers import Repository, needs_engine                    # noqa: E402
+from helpers import TOP, Repository, needs_engine               # noqa: E402
 from test_confirm import LIES, Noisy                            # noqa: E402
 
 
@@ -184,6 +185,38 @@ class Searches(Noisy):
                       ('--noise', '5%', '--check-ends')):
             self.assertEqual(repo.search(*words, *repo.ends(), '--', 'true').returncode, 1, words)
         self.assertEqual(repo.search('--noise', '5%', *repo.ends(), '--test', 'a', 'true').returncode, 1)
+
+
+class Simulated(unittest.TestCase):
+    """The table of docs/TRUST.md, made by benches/noise.py."""
+
+    def test_table(self) -> None:
+        """The cells at lies of 5 of 100 are what the script says, but for those by odds, which take minutes."""
+        with open(os.path.join(TOP, 'docs', 'TRUST.md'), encoding='utf-8') as file:
+            shown = [line.split(' | ') for line in file if line.startswith(('| 5, 0 |', '| 5, 5 |'))]
+        self.assertEqual([row[1] for row in shown], ['1', '4', '16'] * 2)
+        spec = importlib.util.spec_from_file_location('noise', os.path.join(TOP, 'benches', 'noise.py'))
+        assert spec is not None and spec.loader is not None
+        noise = importlib.util.module_from_spec(spec)
+        spec.loader.exec_module(noise)
+        for row in shown:
+            lies = [int(word) for word in row[0].strip('| ').split(', ')]
+            for name, cell in zip(('plain', 'retry 1', 'repeat 3', 'by itself', 'confirm 3'), row[2:]):
+                with self.subTest(lies=lies, workers=row[1], name=name):
+                    self.assertEqual(noise.cell(name, lies, int(row[1]), 1000), cell)
+
+    def test_manual(self) -> None:
+        """What the manual says of --retry and --repeat is what the table has, with one worker."""
+        with open(os.path.join(TOP, 'docs', 'TRUST.md'), encoding='utf-8') as file:
+            rows = {line.split(' | ')[0][2:]: [float(cell.split(' / ')[0]) for cell in line.split(' | ')[2:5]] for line in file
+                    if re.match(r'\| \d+, \d+ \| 1 \|', line)}
+        with open(os.path.join(TOP, 'man', 'git-farmdawn.1'), encoding='utf-8') as file:
+            text = file.read()
+        for option, at, good, other in (('retry', 1, '5, 0', '0, 30'), ('repeat', 2, '0, 30', '5, 0')):
+            item = text.split('.It Fl -%s ' % option)[1].split('.It ')[0]
+            said = [int(number) for pair in re.findall(r'(\d+) of 100 searches .* in place of (\d+)', item) for number in pair]
+            due = [int(rows[lies][column] + 0.5) for lies in (good, other) for column in (at, 0)]
+            self.assertEqual(said, due, option)
 
 
 if __name__ == '__main__':

@@ -161,6 +161,18 @@ class Pages(Room):
         for words in ("--skip %s --copy 'a b' --submodules " % first,):
             self.assertIn(words, facts['again']['search'])
 
+    def test_history(self) -> None:
+        """Each outcome is a cell, in pieces that a telephone has room for; of many, those near the answer."""
+        for count, answer in ((8, 4), (150, 70), (400, 390)):
+            search = make_search(self.room, ['change'] * count, answer)
+            facts = Collector(search, search.tests[0], '0.1.0').collect(0, '', True)
+            page = Page(facts, search, search.tests[0]).text()
+            pieces = re.findall('<svg width="([0-9]+)" height="30">(.*?)</svg>', page)
+            self.assertEqual(sum(text.count('<rect') for _, text in pieces), min(count - 1, 160))       # one test was ended
+            self.assertLessEqual(max(int(width) for width, _ in pieces), 350)
+            self.assertEqual(page.count('class="boundary"'), 1)
+            self.assertEqual('and those that are far away' in page, count > 160)
+
     def test_hosts(self) -> None:
         """The machine that a command told of stands in each form; without one there is no column of it."""
         search = make_search(self.room, ['change %d' % at for at in range(8)], 4)
