@@ -9,7 +9,7 @@ one test at a time that may come next, whatever their outcomes are. Two kinds of
     repeat 3     good is what was good three times (`--repeat 3`)
     confirm 3    the answer and its parent are tested 3 times more, and what most tests deny is taken back (`--confirm`)
     by itself    the same where an outcome contradicts the answer, or it stands next to an end (without an option)
-    noise        the odds of each commit, until one has 99 of 100 (`--noise P`); a fifth as many searches
+    noise        the odds of each commit, until one has 99 of 100 (`--noise P`); a tenth as many searches, as it computes more
 """
 import os
 import random
@@ -124,6 +124,16 @@ POLICIES = {
 }
 
 
+def cell(name, lies, workers, searches):
+    """The wrong answers of 100 searches, and the tests that one makes."""
+    wrong, tests = 0, 0
+    for seed in range(searches):
+        tester = Tester(seed, lies)
+        wrong += POLICIES[name](tester, workers) != tester.first
+        tests += tester.count
+    return f"{100 * wrong / searches:.1f} / {tests / searches:.0f}"
+
+
 def main(searches="1000", *names):
     names = names or tuple(POLICIES)
     print("| Lies of 100: good ones fail, bad ones pass | Workers |", " | ".join(names), "|")
@@ -132,13 +142,7 @@ def main(searches="1000", *names):
         for workers in WORKERS:
             cells = []
             for name in names:
-                policy, wrong, tests = POLICIES[name], 0, 0
-                number = int(searches) // 5 if name == "noise" else int(searches)  # it computes more
-                for seed in range(number):
-                    tester = Tester(seed, lies)
-                    wrong += policy(tester, workers) != tester.first
-                    tests += tester.count
-                cells.append(f"{100 * wrong / number:.1f} / {tests / number:.0f}")
+                cells.append(cell(name, lies, workers, int(searches) // 10 if name == "noise" else int(searches)))
             print(f"| {lies[0]}, {lies[1]} | {workers} |", " | ".join(cells), "|", flush=True)
 
 
