@@ -4,6 +4,7 @@
 #   FOLDER/lib/farmdawn, the scripts, the manual pages and the shells' completions
 # make uninstall PREFIX=FOLDER: removes what was installed
 # make dist: packs the program that make install or make test built, PROGRAM, into DIST, for machines without the kit
+# make deb: the same as a package of Debian; packaging/Containerfile makes an image of that
 # make test: every proof, must-fail edit, test and program of this checkout
 # make check: the tests of git farmdawn, of the scripts and of the pages
 # make check-model: those of git farmdawn, over a model of what it asks the program (docs/DRIVER.md)
@@ -16,6 +17,8 @@ DIST ?= dist
 PYTHON ?= /usr/bin/python3
 
 SCRIPTS = farmdawn-worktree farmdawn-srun farmdawn-ssh
+# the pages for those who use it; links to others are taken out of them where they are packed
+USERS = USING SEVERAL TRUST CI CONTAINERS PROGRAM SERVE HISTORIES PROVED MEASURED
 PAGES = farmdawn git-farmdawn $(SCRIPTS)
 # what earlier versions installed beside these
 OLD_PARTS = farmdawn-part farmdawn-history farmdawn-progress farmdawn-needed farmdawn-certificate farmdawn-report
@@ -27,7 +30,7 @@ ZSH_COMPLETIONS = $(DESTDIR)$(PREFIX)/share/zsh/site-functions
 FISH_COMPLETIONS = $(DESTDIR)$(PREFIX)/share/fish/vendor_completions.d
 FISH_BEGIN = $(DESTDIR)$(PREFIX)/share/fish/vendor_conf.d/git-farmdawn.fish
 
-.PHONY: demo install install-scripts uninstall dist test check check-model bench
+.PHONY: demo install install-scripts install-pages uninstall dist deb test check check-model bench
 demo:
 	cd crates/farmdawn && rt try --data test.sh=../../demo/test.sh --data broken=../../demo/broken -- \
 		run --workers 4 main v1.0 -- sh test.sh < ../../demo/stream
@@ -51,6 +54,15 @@ install-scripts:
 	done
 	install -D -m 644 completions/git-farmdawn.conf.fish "$(FISH_BEGIN)"
 
+install-pages:
+	install -d -m 755 "$(PAGES_FOLDER)"
+	others=$$(cd docs && echo *.md | tr ' ' '\n' | sed 's/[.]md$$//' | grep -vxE "$$(echo $(USERS) | tr ' ' '|')" | paste -s -d '|') && \
+	for page in $(USERS); do \
+		sed -z -E "s/\[([^][]*)\]\(($$others)[.]md[^)]*\)/\1/g" docs/$$page.md >"$(PAGES_FOLDER)/$$page.md" || exit 1; \
+	done
+	install -m 644 docs/practice.sh "$(PAGES_FOLDER)"
+	install -D -m 644 -t "$(PAGES_FOLDER)/pictures" docs/pictures/*.png
+
 uninstall:
 	for name in $(PAGES) $(OLD_PARTS); do rm -f "$(BIN)/$$name" "$(MAN)/$$name.1"; done
 	for name in farmdawn git-farmdawn; do \
@@ -62,6 +74,9 @@ uninstall:
 
 dist:
 	sh packaging/make-dist "$(PROGRAM)" "$(DIST)"
+
+deb:
+	sh packaging/make-deb "$(PROGRAM)" "$(DIST)"
 
 test:
 	bash .ci/run
