@@ -126,8 +126,9 @@ class Watch:
 
     def subject_of(self, job: Job) -> bytes:
         """What a test is shown by: where there are several its name, else its commit."""
-        if isinstance(job, Claim) and job.test.name:
-            return os.fsencode(job.test.name)
+        claim = job if isinstance(job, Claim) else None
+        if claim and claim.test.name:
+            return os.fsencode(claim.test.name)
         return self.search.history.subject[job.commit]
 
     # -- ends ------------------------------------------------------------------
