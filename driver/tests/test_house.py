@@ -5,6 +5,7 @@ from __future__ import annotations
 
 import ast
 import os
+import re
 import unittest
 from typing import Iterator, Tuple, Union
 
@@ -73,6 +74,15 @@ class House(unittest.TestCase):
                 if isinstance(node, ast.ClassDef) and not ast.get_docstring(node):
                     wrong.append('%s: %d: %s has no text' % (name, node.lineno, node.name))
         self.assertEqual(wrong, [])
+
+    def test_page(self) -> None:
+        """Each method that docs/DRIVER.md names is there."""
+        with open(os.path.join(os.path.dirname(DRIVER), 'docs', 'DRIVER.md'), encoding='utf-8') as file:
+            named = re.findall('`([A-Z][A-Za-z]*[a-z])[.]([a-z_]+)`', file.read())
+        there = {(node.name, item.name) for _, text in modules() for node in ast.walk(ast.parse(text)) if isinstance(node, ast.ClassDef)
+                 for item in functions(node)}
+        self.assertGreater(len(named), 5)
+        self.assertEqual([pair for pair in named if pair not in there], [])
 
     def test_no_print(self) -> None:
         """What is told goes in one piece, and past no buffer: nothing prints, evaluates or starts a thread."""
