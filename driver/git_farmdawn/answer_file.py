@@ -2,19 +2,21 @@
 
     farmdawn-answer 1
     sum SHA-256                     of all lines behind it
-    word WORD                       for each word of the command; a byte that is not printable is \\ and three octal digits
+    word WORD                       for each word of the command; a byte that is not printable
+                                    is \\ and three octal digits
     folder FOLDER                   where the command was run below the top
     term-new TERM, term-old TERM    where they were given
     build WORD                      the line of sh that builds a commit before its test
     retry N, repeat N               where they were given
-    made TIME                       when the answer was found, by the clock of that machine, and in UTC
+    made TIME                       when the answer was found, by the clock of that machine, in UTC
     machine WORD                    what that was: system, release and kind, without its name
     called-bad NAME [STATUS]        with what its test ended, where it was tested
     called-good NAME [STATUS]       for each
     outcome NAME STATUS             for each test that the answer stands on, as they are marked
     against NAME STATUS             for each further outcome that contradicts the answer
-    confirmed NAME OUTCOME N of M   the answer, and each parent of it, that was tested again: N of M tests were good, or bad
-    certificate 1                   and so on to the line `end`, which is the certificate of farmdawn(1)
+    confirmed NAME OUTCOME N of M   the answer, and each parent of it, that was tested again: N of M
+                                    tests were good, or bad
+    certificate 1                   and so on to the line `end`: the certificate of farmdawn(1)
 """
 from __future__ import annotations
 

@@ -317,7 +317,8 @@ def claims_of(answer: Answer) -> List[str]:
     if answer.made or answer.machine:
         lines.append('it claims: made %s on %s' % (answer.made or 'at a time that is not told', answer.machine or 'a machine that is not told'))
     if answer.build is not None or answer.retry or answer.repeat > 1:
-        often = 'a failure counts behind %d others' % answer.retry if answer.retry else 'good is what was good %d times' % answer.repeat
+        often = ('a failure counts behind %d others' % answer.retry if answer.retry else
+                 'good is what was good %d times' % answer.repeat)
         parts = ['built by: ' + answer.build] if answer.build is not None else []
         lines.append('it claims: ' + ', '.join(parts + ([often] if answer.retry or answer.repeat > 1 else [])))
     for name, called in answer.called.items():

@@ -49,7 +49,8 @@ class Confirming:
     """Tests answers again. `turn` is one turn of the loop."""
 
     def __init__(self, search: Search, turn: Callable[[], None]) -> None:
-        self.search, self.settings, self.voice, self.turn = search, search.settings, search.voice, turn
+        self.search, self.settings = search, search.settings
+        self.voice, self.turn = search.voice, turn
         self.wanted = 1 + (TIMES if self.settings.confirm is None else self.settings.confirm)   # tests of a commit
         self.tried: Dict[Tuple[str, str], int] = {}         # tests that began here, by the name of the test and the commit
         self.doubted: Set[str] = set()                      # tests whose answers are to be confirmed

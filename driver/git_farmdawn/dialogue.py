@@ -23,7 +23,8 @@ class Dialogue:
     are forgotten. Neither asks for anything."""
 
     def __init__(self, settings: Settings, run: Run, history: History, tests: List[Test], voice: Telling) -> None:
-        self.settings, self.run, self.history, self.tests, self.voice = settings, run, history, tests, voice
+        self.settings, self.run, self.voice = settings, run, voice
+        self.history, self.tests = history, tests
         self.turn = tests[:MOST_SEARCHES]       # those whose searches are under way
         self.engine: Optional[Engine] = None
         self.restarts = 0

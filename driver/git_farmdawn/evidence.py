@@ -25,15 +25,18 @@ def what_to_do(end: End, status: int, is_swapped: bool = False) -> str:
     """What may be wrong, and what to look at, where a test of an end is not as it was called. `is_swapped` says that the bad
     one comes before the good one."""
     if status == SKIP:
-        return 'its test says that it cannot be tested; --trust-ends takes the ends as they are called'
+        return ('its test says that it cannot be tested; '
+                '--trust-ends takes the ends as they are called')
     if status >= FIRST_STOP:
         return 'a test that ends so stops a search'
     if is_swapped:
-        return 'the bad commit is named first, and the good one behind it; the two seem to be swapped'
+        return ('the bad commit is named first, and the good one behind it; '
+                'the two seem to be swapped')
     if end.is_bad:
-        return 'the command does not fail where it is to fail; does the fault come on this machine, or in this folder?'
-    return 'the command fails here, too: is something missing on this machine, or in a checkout? Else an older commit is to ' \
-           'be called %s; --trust-ends searches all the same' % end.called
+        return ('the command does not fail where it is to fail; '
+                'does the fault come on this machine, or in this folder?')
+    return ('the command fails here, too: is something missing on this machine, or in a checkout? '
+            'Else an older commit is to be called %s; --trust-ends searches all the same' % end.called)
 
 
 class Contradiction(NamedTuple):

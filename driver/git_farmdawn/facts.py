@@ -58,7 +58,9 @@ class End(NamedTuple):
 
 def outcome_of(status: int) -> str:
     """What an exit status says of a commit."""
-    return 'good' if status == 0 else 'skipped' if status == SKIP else 'bad' if status < SKIP else 'stopped'
+    if status == 0:
+        return 'good'
+    return 'skipped' if status == SKIP else 'bad' if status < SKIP else 'stopped'
 
 
 def counts_of(statuses: Sequence[int]) -> Tuple[int, int]:

@@ -68,9 +68,10 @@ class Before:
             return 'put another repository in its place'
         if content(self.own + '/config.worktree') != self.own_config:
             return "changed the worktree's configuration"
-        if signs_of(self.repo.gitdir + '/config') != self.config_signs and self.of_checkouts(content(self.repo.gitdir + '/config')) \
-                != self.of_checkouts(self.config):
-            return f'or somebody else changed {self.repo.gitdir}/config'
+        config = self.repo.gitdir + '/config'
+        if signs_of(config) != self.config_signs and \
+                self.of_checkouts(content(config)) != self.of_checkouts(self.config):
+            return f'or somebody else changed {config}'
         return ''
 
     def of_checkouts(self, text: bytes) -> bytes:

@@ -65,7 +65,9 @@ class Needless:
     def review_build(self, slot: Slot, work: Preparation) -> None:
         """A build that no search may ask for any more is ended when it has run some seconds."""
         search = self.search
-        if slot.preparing is not work or slot.queue or search.ending or self.settings.needed is None or work.task is None:
+        if slot.preparing is not work or slot.queue or search.ending:
+            return
+        if self.settings.needed is None or work.task is None:
             return
         if search.asking(work.commit):
             return                      # it is looked at again behind the next outcome

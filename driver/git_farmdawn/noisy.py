@@ -40,7 +40,8 @@ class Noisy:
     """The search of one test. `turn` is one turn of the loop."""
 
     def __init__(self, search: Search, turn: Callable[[], None]) -> None:
-        self.search, self.settings, self.turn, self.test = search, search.settings, turn, search.tests[0]
+        self.search, self.settings = search, search.settings
+        self.turn, self.test = turn, search.tests[0]
         history = search.history
         ends = {*history.goods, *history.bases}
         assert self.settings.noise is not None

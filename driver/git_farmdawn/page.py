@@ -190,7 +190,8 @@ class Page:
         out = ['<h2>The search</h2>\n<dl>', fact('Repository', facts['remote'] or facts['repository']), fact('Host', facts['host']),
                '<dt>Command</dt><dd><code>%s</code></dd>' % page_text(' '.join(quoted(word) for word in facts['command']))]
         for end in facts['ends']:
-            how = 'not tested' if end['status'] is None else 'its test ended with %d' % end['status']
+            status = end['status']
+            how = 'not tested' if status is None else 'its test ended with %d' % status
             out.append('<dt>%s</dt><dd><span class="name">%s</span> %s (%s)</dd>' %
                        (page_text(end['called']), end['commit'][:NAME], page_text(end['subject']), how))
         out += [fact('Path', path) for path in facts['paths']]

@@ -26,7 +26,8 @@ class Place:
     which the folder is known as ours, and where it is whole, a file with its commit."""
 
     def __init__(self, path: str, lock: int) -> None:
-        self.path, self.build, self.note, self.whole, self.lock = path, path + '.build', path + '.place', path + '.whole', lock
+        self.path, self.lock, self.build = path, lock, path + '.build'
+        self.note, self.whole = path + '.place', path + '.whole'
 
     def is_ours_or_free(self, gitdir: str) -> bool:
         """Whether the name is free, or the folder is one of ours and of this repository."""

@@ -53,7 +53,8 @@ class Run:
             return ''
         room = self.repo.user_env.get('TMPDIR') or '/tmp'
         self.base = os.path.join(room, name or 'root')
-        return f'{parent} cannot be written, so the checkouts are in {room}, and not beside the work tree'
+        return (f'{parent} cannot be written, so the checkouts are in {room}, '
+                'and not beside the work tree')
 
     def new_place(self, number: int) -> str:
         """An empty folder for a checkout: its own, without what was in it, or one with a name that nobody has.

@@ -32,11 +32,13 @@ class Search:
     """All searches over one history. An outcome is kept before it is told to the engine: nothing that a log stands on can be lost."""
 
     def __init__(self, settings: Settings, shop: Shop, history: History, tests: List[Test], voice: Telling) -> None:
-        self.settings, self.shop, self.history, self.tests, self.voice = settings, shop, history, tests, voice
+        self.settings, self.shop, self.voice = settings, shop, voice
+        self.history, self.tests = history, tests
         self.repo, self.run, self.loop = shop.repo, shop.run, shop.loop
         self.trials = Trials(settings, shop.run, voice)
         self.places = Places(settings, shop, self.trials, history.place)
-        self.places.wants, self.places.begins, self.places.ended, self.places.prepared = self.wants, self.begins, self.done, self.prepared
+        self.places.wants, self.places.begins = self.wants, self.begins
+        self.places.ended, self.places.prepared = self.done, self.prepared
         self.claims: Dict[int, Claim] = {}          # by worker
         self.alone: List[Claim] = []                # those without one
         self.builds: List[Row] = []                 # those that have ended
@@ -165,7 +167,8 @@ class Search:
 
     def wants(self, claim: Claim) -> bool:
         """Whether a test that waited is still of use; else it is forgotten."""
-        if claim.worker or claim.is_wanted or claim.test.status is None and claim.test in self.asking(claim.commit):
+        if claim.worker or claim.is_wanted or \
+                claim.test.status is None and claim.test in self.asking(claim.commit):
             return True
         self.drop(claim)
         return False
@@ -363,7 +366,9 @@ class Search:
 
     def tell_left(self, test: Test) -> None:
         """How many commits are left, where that has changed. Of several tests the live line says how far all are, where there is one."""
-        if test.wrong is not None or self.settings.quiet or test.left is None or test.left == test.told_left or test.status is not None:
+        if test.wrong is not None or self.settings.quiet or test.status is not None:
+            return
+        if test.left is None or test.left == test.told_left:
             return
         test.told_left = test.left
         left, away = test.left

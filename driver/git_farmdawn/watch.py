@@ -31,7 +31,8 @@ class Watch:
     """Turns the loop until each search has its end. `report` is written anew from time to time."""
 
     def __init__(self, search: Search) -> None:
-        self.search, self.settings, self.voice, self.loop = search, search.settings, search.voice, search.loop
+        self.search, self.settings = search, search.settings
+        self.voice, self.loop = search.voice, search.loop
         self.report: Optional[Report] = None
         self.next_look = self.next_report = 0.0
 
