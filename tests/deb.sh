@@ -57,7 +57,7 @@ test_lintian() {
     expect "lintian has nothing to say: $(cat told)" [ ! -s told ]
 }
 
-in_chroot() { chroot "$FARMDAWN_CHROOT" env -i PATH=/usr/sbin:/usr/bin:/sbin:/bin HOME=/root LC_ALL=C.UTF-8 DEBIAN_FRONTEND=noninteractive sh -euc "$1" sh "$2"; }
+in_chroot() { chroot "$FARMDAWN_CHROOT" env -i PATH=/usr/sbin:/usr/bin:/sbin:/bin HOME=/root LC_ALL=C.UTF-8 DEBIAN_FRONTEND=noninteractive sh -euc "$1"; }
 
 # What stands in the chroot, but for what a search there leaves, and the lists and logs of the system.
 listed() { (cd "$FARMDAWN_CHROOT" && find usr etc -name __pycache__ -prune -o -print | sort); }

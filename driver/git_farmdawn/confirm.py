@@ -53,6 +53,7 @@ class Confirming:
         self.voice, self.turn = search.voice, turn
         self.wanted = 1 + (TIMES if self.settings.confirm is None else self.settings.confirm)   # tests of a commit
         self.tried: Dict[Tuple[str, str], int] = {}         # tests that began here, by the name of the test and the commit
+        self.before: Dict[Tuple[str, str], int] = {}        # those that there were before
         self.doubted: Set[str] = set()                      # tests whose answers are to be confirmed
 
     # -- what is to be tested ----------------------------------------------------
@@ -136,9 +137,10 @@ class Confirming:
 
     def begin(self, test: Test, commit: str) -> None:
         """One more test of a commit, in a checkout that is idle."""
-        self.tried[test.name, commit] = number = self.tried.get((test.name, commit), 0) + 1
+        key = test.name, commit
+        self.tried[key] = self.tried.get(key, 0) + 1
         claim = Claim(0, test, commit)
-        claim.run = max(1, len(test.runs_of(commit))) + number
+        claim.run = self.before.setdefault(key, max(1, len(test.runs_of(commit)))) + self.tried[key]
         self.search.put_alone(claim)
 
     # -- what it says ----------------------------------------------------------------

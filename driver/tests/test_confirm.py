@@ -107,6 +107,9 @@ class Confirmed(Noisy):
         """The facts of what was taken back, with the output of each run."""
         with open(repo.room + '/report/result.json', encoding='utf-8') as file:
             facts = json.load(file)
+        for name in {one['commit'] for one in facts['tests']}:      # its tests are counted without a gap
+            runs = {one['run'] for one in facts['tests'] if one['commit'] == name}
+            self.assertEqual(runs, set(range(1, len(runs) + 1)))
         self.assertEqual((facts['sure'], [(one['outcome'], one['times'], one['runs']) for one in facts['confirmed']]), (True, [('bad', 4, 4), ('good', 4, 4)]))
         denied = 0
         for one in facts['tests']:
