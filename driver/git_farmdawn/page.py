@@ -7,6 +7,7 @@ from typing import TYPE_CHECKING, List, Optional
 
 from .drawing import farm, page_text, patterns, strip
 from .odds import of_hundred
+from .remote import form_of, link_of
 from .report_facts import AnswerFact, Facts, TestFact, is_needless, was_taken_back
 from .report_more import text_of
 from .telling import NAME, span
@@ -44,6 +45,7 @@ class Page:
 
     def __init__(self, facts: Facts, search: Search, test: Test) -> None:
         self.facts, self.search, self.test = facts, search, test
+        self.form = form_of(search.repo)
 
     def text(self) -> str:
         """All of it."""
@@ -51,9 +53,8 @@ class Page:
         parts = self.head() + (self.verdict(answer) if answer else self.no_verdict())
         parts += self.output() + self.doubts() + strip(facts, self.search.history.place, self.test.known) + self.again()
         parts += self.change(answer['name']) if answer else []
-        parts += self.search_part() + ['<h2>The tests</h2>', *self.table(), '<details><summary>Who tested what, and when</summary>']
-        parts += farm(facts, self.counts()) + ['</details>']
-        parts.append('<h2>The log</h2>' + block(page_text('\n'.join(facts['log']))))
+        parts += self.search_part() + ['<h2>The log</h2>' + block(page_text('\n'.join(facts['log']))), '<h2>The tests</h2>']
+        parts += ['<details><summary>Who tested what, and when</summary>', *farm(facts, self.counts()), '</details>', *self.table()]
         parts.append('<footer>Made by git farmdawn %s; <a href="result.json">result.json</a> has the same, and '
                      '<a href="summary.md">summary.md</a> it in short.</footer>\n</body>\n</html>\n'
                      % page_text(facts['version']))
@@ -91,9 +92,15 @@ class Page:
     def parents(self) -> List[str]:
         """The parents of the answer that were good."""
         old = page_text(self.facts['terms']['old'])
-        return ['<dt>Last %s one</dt><dd><span class="name">%s</span> %s (%s)</dd>' %
-                (old, one['commit'][:NAME], page_text(one['subject']), 'called so, and not tested' if one['status'] is None else 'tested')
+        return ['<dt>Last %s one</dt><dd>%s %s (%s)</dd>' %
+                (old, self.linked(one['commit']), page_text(one['subject']), 'called so, and not tested' if one['status'] is None else 'tested')
                 for one in self.facts['last_good']]
+
+    def linked(self, name: str) -> str:
+        """The short name of a commit, with a link to its page on the server of the remote."""
+        link = link_of(self.facts['remote'], self.form, name)
+        shown = '<a href="%s">%s</a>' % (page_text(link), name[:NAME]) if link else name[:NAME]
+        return '<span class="name">%s</span>' % shown
 
     def no_verdict(self) -> List[str]:
         """Why there is none, or the commits of which one is it."""
@@ -103,8 +110,7 @@ class Page:
             return ['<header class="verdict none">\n<p class="kind">%s</p>\n<h1>%s</h1>\n</header>' % (kind, page_text(facts['reason'] or ''))]
         out = ['<header class="verdict">\n<p class="kind">First %s commit</p>\n<h1>One of %s</h1>\n<ul>'
                % (page_text(facts['terms']['new']), counted(len(listed), 'commit'))]
-        out += ['<li><span class="name">%s</span> %s%s</li>' % (one['name'][:NAME], page_text(one['subject']),
-                                                              ' (%s)' % one['outcome'] if one['outcome'] else '')
+        out += ['<li>%s %s%s</li>' % (self.linked(one['name']), page_text(one['subject']), ' (%s)' % one['outcome'] if one['outcome'] else '')
                 for one in listed[:MOST_LISTED]]
         if len(listed) > MOST_LISTED:
             out.append('<li>and %d more, which <a href="result.json">result.json</a> has</li>' % (len(listed) - MOST_LISTED))

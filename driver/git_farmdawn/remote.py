@@ -40,6 +40,11 @@ def page_of(repo: Repository) -> Optional[str]:
     return web_of(repo.text('config', '--get', 'remote.origin.url', check=False).strip())
 
 
+def form_of(repo: Repository) -> str:
+    """The kind of its server, where the setting tells one."""
+    return repo.text('config', '--get', 'farmdawn.link', check=False).strip().lower()
+
+
 def link_to(repo: Repository, web: Optional[str], commit: str) -> Optional[str]:
     """The page of one of its commits."""
-    return link_of(web, repo.text('config', '--get', 'farmdawn.link', check=False).strip().lower(), commit)
+    return link_of(web, form_of(repo), commit)

@@ -157,6 +157,7 @@ class Pages(Room):
         self.assertEqual([(one['name'], one['outcome']) for one in facts['candidates']], [(first, 'skipped'), (second, 'bad')])
         self.assertIn('<p class="kind">First bad commit</p>\n<h1>One of 2 commits</h1>', page)
         self.assertEqual((page.count(': may be the first one</title>'), page.count(' doubt" fill=')), (2, 2))
+        self.assertEqual(page.count('<a href="https://gitlab.example.org/team/tool/-/commit/'), 2)
         self.assertIn('## One of 2 commits', summary)
         for words in ("--skip %s --copy 'a b' --submodules " % first,):
             self.assertIn(words, facts['again']['search'])
@@ -199,6 +200,8 @@ class Pages(Room):
         self.assertLess(page.index('Its test'), page.index('The last lines of the output'))
         self.assertLess(page.index('The last lines of the output'), page.index('class="strip"'))
         self.assertLess(page.index('class="strip"'), page.index('How to run it again'))
+        self.assertLess(page.index('How to run it again'), page.index('<h2>The log</h2>'))
+        self.assertLess(page.index('</details>', page.index('Who tested what')), page.index('<table>'))     # which may be long
         self.assertLess(page.index('How to run it again'), page.index('class="drawing"'))
         self.assertIn('<a href="%s">%s</a>' % (facts['link'], name), page)
         for due in ('## First bad commit: change 4', '[`%s`](%s) change 4' % (name[:12], facts['link']), '- last good commit: `%s`' % search.history.order[3][:12],
