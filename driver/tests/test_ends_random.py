@@ -76,7 +76,7 @@ class Case:
         elif self.kind == 'disk':
             self.kind = 'TERM'
         self.form, apart, pause = choice.choice(FORMS), choice.choice(['', '', 'setsid']), choice.randrange(1, 9)
-        words = list(choice.choice([[], ['--trust-ends'], ['--check-ends']]))
+        words: List[str] = [word for word in [choice.choice(['', '--trust-ends', '--check-ends'])] if word]
         words += ['--workers', str(choice.choice([1, 2, 4, 7])), '--state', self.state]
         words += choice.choice([[], ['--together']]) if self.form == 'several' else []
         self.words = words + words_of(self.form, f': {seed}; ' + TEST % (apart, LONG, pause), BUILD % (apart, LONG, pause), repo.room + '/list')
