@@ -7,6 +7,7 @@ import shutil
 import subprocess
 import sys
 import tempfile
+import textwrap
 import unittest
 from typing import Dict, List
 
@@ -33,14 +34,15 @@ chmod +x "$3/bin/pip"
 SHOP = '''def add(a, b):
     return a + b%s
 '''
-TEST = '''import unittest
-import shop
+TEST = textwrap.dedent('''\
+    import unittest
+    import shop
 
 
-class Shop(unittest.TestCase):
-    def test_add(self):
-        self.assertEqual(shop.add(1, 2), 3)
-'''
+    class Shop(unittest.TestCase):
+        def test_add(self):
+            self.assertEqual(shop.add(1, 2), 3)
+    ''')
 
 
 def scripts() -> List[str]:

@@ -214,7 +214,7 @@ class Simulated(unittest.TestCase):
             text = file.read()
         for option, at, good, other in (('retry', 1, '5, 0', '0, 30'), ('repeat', 2, '0, 30', '5, 0')):
             item = text.split('.It Fl -%s ' % option)[1].split('.It ')[0]
-            said = [int(number) for pair in re.findall(r'(\d+) of 100 searches .* in place of (\d+)', item) for number in pair]
+            said = [int(number) for pair in re.findall(r'(\d+) of 100 searches [^.]*?and (\d+)\s+without this', item) for number in pair]
             due = [int(rows[lies][column] + 0.5) for lies in (good, other) for column in (at, 0)]
             self.assertEqual(said, due, option)
 
