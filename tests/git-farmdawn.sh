@@ -221,7 +221,7 @@ test_going_on() {
     kill -TERM $!
     wait $!
     expect 'it was stopped' [ $? -eq 143 ]
-    expect 'and says how to go on' grep -q ': stopped; the same line goes on from [1-9][0-9]* outcomes$' told
+    expect 'and says how to go on' grep -q ': stopped; the same line goes on from [1-9][0-9]* outcomes*$' told
     nothing_left
     cat .git/farmdawn/results-*/*.outcome | sed 's/ .*//' >known
     touch ../on
@@ -674,7 +674,7 @@ test_prune() {
     # shellcheck disable=SC2016
     git farmdawn main main~7 -- sh -c 'touch "$0/began"; while [ -e "$0" ] && [ ! -e "$0/on" ]; do sleep 0.1; done; test ! -e bug' "$PWD/.." >log 2>told &
     wait_beside $! [ -e ../began ]
-    expect 'one is removed' [ "$(git farmdawn --prune 2>&1)" = 'git farmdawn: removed what 1 searches had kept' ]
+    expect 'one is removed' [ "$(git farmdawn --prune 2>&1)" = 'git farmdawn: removed what 1 search had kept' ]
     expect 'the other is not' [ "$(find .git/farmdawn -name 'results-*' -type d | wc -l)" -eq 1 ]
     touch ../on
     wait $!

@@ -17,7 +17,7 @@ from .answer_file import Answer, Fault, encoded, read_answer, with_sum
 from .ending import Ending
 from .facts import SKIP, marks_of
 from .outputs import has_room, write_whole
-from .words import Stop
+from .words import Stop, counted
 
 if TYPE_CHECKING:
     from .record import Test
@@ -332,7 +332,9 @@ def claims_of(answer: Answer) -> List[str]:
     if not any(status == 0 for status in [*answer.outcomes.values(), *answer.tested_ends.values()]):
         lines.append('no test was good: a command that always fails has such a certificate, too')
     if answer.against:
-        lines.append('%d further outcomes contradict it: %s' % (len(answer.against), ', '.join(name[:12] for name in answer.against)))
+        verb = 'contradicts' if len(answer.against) == 1 else 'contradict'
+        names = ', '.join(name[:12] for name in answer.against)
+        lines.append('%s %s it: %s' % (counted(len(answer.against), 'further outcome'), verb, names))
     return lines
 
 

@@ -70,8 +70,8 @@ class Ending:
         status = self.write_report(status, reason, with_answer=False)
         count = sum(test.outcomes.count() for test in self.tests)
         why = reason + ': ' if status == 24 else ''
-        self.voice.tell('%sstopped; the same line %sgoes on from %d outcomes'
-                        % (why, 'without --fresh ' if self.settings.fresh else '', count))
+        line = 'the same line without --fresh' if self.settings.fresh else 'the same line'
+        self.voice.tell('%sstopped; %s goes on from %s' % (why, line, counted(count, 'outcome')))
         return status
 
     def refused(self, stop: Stop) -> int:
@@ -299,7 +299,7 @@ def tell_begin(search: Search) -> None:
     tests = search.tests
     where = tests[0].outcomes.log_dir if len(tests) == 1 else settings.log_dir or settings.state or search.repo.folder
     left = search.history.left
-    voice.tell('%d commits to search, %s; outputs of tests are in %s' % (left, about(rounds(left)), where))
+    voice.tell('%s to search, %s; outputs of tests are in %s' % (counted(left, 'commit'), about(rounds(left)), where))
     kept = sum(len(test.kept) for test in tests)
     if kept:
         last = max((latest(test) for test in tests if test.kept), default=0.0)

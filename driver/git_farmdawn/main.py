@@ -86,7 +86,7 @@ class Program:
         if line.action == 'prune':
             from .run import prune
             count = prune(repo, os.path.abspath(line.state) if line.state else repo.folder)
-            self.voice.say(f'removed what {count} searches had kept')
+            self.voice.say(f'removed what {count} search{"" if count == 1 else "es"} had kept')
             return 0
         if line.action == 'check':
             return self.check(repo, line.file)

@@ -36,7 +36,7 @@ class Lines(unittest.TestCase):
         said = '\n'.join(certificate.told(answer))
         for due in ('it claims: made 2026-11-30T10:00:00Z on Linux 6.1 x86_64', 'built by: make, a failure counts behind 2 others',
                     '%s was called fixed, and its test ended with 1' % E[:12], 'tested again: %s fixed 3 of 4, %s broken 4 of 4' % (D[:12], C[:12]),
-                    '1 further outcomes contradict it: ffffffffffff', 'not checked: whether the tests ended so'):
+                    '1 further outcome contradicts it: ffffffffffff', 'not checked: whether the tests ended so'):
             self.assertIn(due, said)
         untested = read_answer(with_sum([line[:52] if line.startswith('called-good') else line for line in LINES]))
         self.assertIn('%s was called broken, and not tested' % A[:12], '\n'.join(certificate.told(untested)))

@@ -24,7 +24,7 @@ from test_ends_random import is_small_disk                      # noqa: E402
 # an engine that looks, at each outcome that it is told, whether so many outcomes are kept
 WATCHED = '''#!/usr/bin/env python3
 import glob, os, subprocess, sys
-engine = subprocess.Popen([%r, *sys.argv[1:]], stdin=subprocess.PIPE)
+engine = subprocess.Popen(['farmdawn', *sys.argv[1:]], executable=%r, stdin=subprocess.PIPE)
 told = 0
 for line in sys.stdin.buffer:
     if line.startswith(b'post '):
@@ -196,7 +196,7 @@ class Several(unittest.TestCase):
         got = repo.search(*words)
         self.assertEqual(got.returncode, 14, got.stderr)
         self.assertRegex(got.stderr, 'no room in .*: a test gives no verdict there\n')
-        self.assertRegex(got.stderr, 'stopped; the same line goes on from [0-9]+ outcomes')
+        self.assertRegex(got.stderr, 'stopped; the same line goes on from [0-9]+ outcomes?')
         repo.check_left()
         os.unlink(state + '/fill')
         os.unlink(repo.room + '/fills')

@@ -133,7 +133,7 @@ class Case:
         lines = [f'search {names[self.count]} {names[1]}' for _ in self.tests]
         for number, test in enumerate(self.tests, 1):
             lines += [f'learn {number} {name} {self.status_of(test, n)}' for n, name in names.items() if name.encode() in stream]
-        got = subprocess.run([ENGINE, 'serve', '--original-names'], input=stream + ''.join(line + '\n' for line in lines).encode(),
+        got = subprocess.run(['farmdawn', 'serve', '--original-names'], executable=ENGINE, input=stream + ''.join(line + '\n' for line in lines).encode(),
                              stdout=subprocess.PIPE, check=True)
         found: List[List[str]] = [[] for _ in self.tests]
         for line in got.stdout.decode().split('\n'):

@@ -74,7 +74,7 @@ class Wrong(unittest.TestCase):
             self.assertIn('it is bad, and does not have the first bad commit', page.read())
         checked = repo.search('--check', '../answer')
         self.assertEqual(checked.returncode, 0, checked.stderr)
-        self.assertIn('1 further outcomes contradict it: ' + repo.name('c3')[:12], checked.stdout)
+        self.assertIn('1 further outcome contradicts it: ' + repo.name('c3')[:12], checked.stdout)
 
     def test_shallow(self) -> None:
         """Ends that have no common history in a shallow clone are no search; deep enough they are."""
@@ -148,7 +148,7 @@ class Travel(unittest.TestCase):
         self.assertEqual(other.stdout, first.stdout)
         self.assertTrue(os.path.exists(count))
         done = repo.search('--prune', '--state', '../state')
-        self.assertIn('removed what 1 searches had kept', done.stderr)
+        self.assertIn('removed what 1 search had kept', done.stderr)
         self.assertEqual(os.listdir(repo.room + '/state'), [])
 
     def test_other_test(self) -> None:
@@ -197,7 +197,7 @@ class Travel(unittest.TestCase):
         repo = Repository(self)
         done = repo.search('--fresh', '--deadline', '1', 'c12', 'c1', *command('sleep 2; ' + BAD_FROM_7))
         self.assertEqual(done.returncode, 24, done.stderr)
-        self.assertRegex(done.stderr, 'stopped; the same line without --fresh goes on from [0-9]+ outcomes')
+        self.assertRegex(done.stderr, 'stopped; the same line without --fresh goes on from [0-9]+ outcomes?')
 
 
 def on_terminal(repo: Repository, words: List[str], columns: int) -> Tuple[str, int]:
