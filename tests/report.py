@@ -159,7 +159,8 @@ def check_page(page, result):
     links = [element.get("href") for row in rows for element in row.iter(f"{HTML}a")]
     expect("the links", links == [test["log"] for test in result["tests"] if test["log"]])
     title = root.find(f"{HTML}head/{HTML}title").text
-    expect("the title", title.startswith("No answer: " if result["answer"] is None else f"First {result['terms']['new']} commit: "))
+    first, several = f"First {result['terms']['new']} commit: ", f"one of {len(result['candidates'])}"
+    expect("the title", title.startswith(first if result["answer"] else first + several if result["candidates"] else "No answer: "))
     return root
 
 

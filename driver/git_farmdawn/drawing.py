@@ -110,9 +110,9 @@ def strip(facts: Facts, place: Dict[str, int], known: Dict[str, int]) -> List[st
     out = ['<h2>The history</h2>', *legend(sorted({cell.outcome for cell in cells}), text),
            '<p class="strip" role="group" aria-label="Outcomes from the oldest commit to the newest">']
     out += [piece(cells[at:at + many], wide, name, notes) for at in range(0, len(cells), many)]
+    far = '' if len(cells) < MOST_CELLS else ', and those far from that line' if name else ', and the outermost ones'
     return out + ['</p>', '<p class="kind">From the oldest commit to the newest one; commits without '
-                  'an outcome are left out%s.</p>' % (', and those that are far away from it'
-                                                      if len(cells) == MOST_CELLS else '')]
+                  'an outcome are left out%s.</p>' % far]
 
 
 def piece(cells: List[Cell], wide: int, answer: str, notes: Dict[str, str]) -> str:

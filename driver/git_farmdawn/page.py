@@ -131,8 +131,8 @@ class Page:
         """How the fault is seen, and how it is searched again."""
         lines = self.facts['again']
         rows = [('To see it', lines['see']), ('To search again', lines['search'])]
-        told = ['<dt>%s</dt><dd><code>%s</code></dd>' % (name, page_text(line)) for name, line in rows if line]
-        return ['<h2>How to run it again</h2>\n<dl class="lines">' + ''.join(told) + '</dl>']
+        texts = ['<dt>%s</dt><dd><code>%s</code></dd>' % (name, page_text(line)) for name, line in rows if line]
+        return ['<h2>How to run it again</h2>\n<dl class="lines">%s</dl>' % ''.join(texts)]
 
     def doubts(self) -> List[str]:
         """What speaks against the answer, and whether the ends were tested."""

@@ -58,8 +58,9 @@ def start(name: str, asked: Dict[str, Any], running: Dict[str, subprocess.Popen[
     """Starts the command of a container; one that is not there has the status 127."""
     with open(asked['out'], 'ab') as out:
         try:
-            running[name] = subprocess.Popen(asked['words'], cwd=asked['cwd'], stdout=out, stderr=out, stdin=subprocess.DEVNULL, start_new_session=True,
-                                             preexec_fn=lambda: signal.signal(signal.SIGTERM, signal.SIG_IGN))
+            running[name] = subprocess.Popen(
+                asked['words'], cwd=asked['cwd'], stdout=out, stderr=out, stdin=subprocess.DEVNULL,
+                start_new_session=True, preexec_fn=lambda: signal.signal(signal.SIGTERM, signal.SIG_IGN))
         except OSError:
             os.unlink(f'{ROOM}/{name}.run')
             write(f'{ROOM}/{name}.status', '127')

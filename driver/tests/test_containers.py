@@ -91,7 +91,8 @@ class Page(unittest.TestCase):
         self.assertTrue(built, os.listdir(self.room + '/pool'))
         for image, status in (('nowhere', 6), ('debian:12', 2)):        # podman's own 125 is none of the commit, and 77 is a skip
             words = ['git', 'farmdawn', '--quiet', '--trust-ends', 'main', 'main~2', '--', 'sh', '../in-container', 'sh', '-c', 'exit 77']
-            done = subprocess.run(words, cwd=self.path, env={**self.env, 'IMAGE': image}, stdout=subprocess.PIPE, stderr=subprocess.STDOUT, text=True, check=False)
+            done = subprocess.run(words, cwd=self.path, env={**self.env, 'IMAGE': image}, stdout=subprocess.PIPE,
+                                  stderr=subprocess.STDOUT, text=True, check=False)
             self.assertEqual(done.returncode, status, done.stdout)
 
     def test_venv(self) -> None:

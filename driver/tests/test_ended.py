@@ -72,7 +72,8 @@ class Ended(unittest.TestCase):
             (('--timeout', '8s', '--trust-ends', '--workers', '1'), RUNS % hangs, 0, repo_name('c8')),
             (('--workers', '3', '--trust-ends'), RUNS % 'test $(cat number) -ge 6 || sleep 600; test $(cat number) -lt 7', 0, repo_name('c7')),
             (('--deadline', '8s', '--trust-ends', '--workers', '2'), RUNS % LONG, 24, ''),
-            (('--build-timeout', '8s', '--trust-ends', '--workers', '1', '--build', RUNS % hangs.split(';', 1)[0]), 'test $(cat number) -lt 8', 0, repo_name('c8'))]
+            (('--build-timeout', '8s', '--trust-ends', '--workers', '1', '--build', RUNS % hangs.split(';', 1)[0]),
+             'test $(cat number) -lt 8', 0, repo_name('c8'))]
         for words, command, status, answer in rows:
             with self.subTest(words=words):
                 repo = Repository(self)
@@ -104,7 +105,8 @@ class Hosts(unittest.TestCase):
     def test_hosts(self) -> None:
         """What the command writes into the file stands in the report, in one line, and no test has that of another one."""
         repo = Repository(self)
-        command = 'test -e "$FARMDAWN_HOST_FILE" && exit 9; n=$(cat number); [ $((n % 2)) = 0 ] || printf "node$n\\a\\nmore\\n" >"$FARMDAWN_HOST_FILE"; test $n -lt 7'
+        command = 'test -e "$FARMDAWN_HOST_FILE" && exit 9; n=$(cat number); [ $((n % 2)) = 0 ] || ' \
+                  'printf "node$n\\a\\nmore\\n" >"$FARMDAWN_HOST_FILE"; test $n -lt 7'
         got = repo.search('--report', repo.room + '/report', '--trust-ends', *repo.ends(), '--', 'sh', '-c', command)
         self.assertEqual(got.returncode, 0, got.stderr)
         with open(repo.room + '/report/result.json', encoding='utf-8') as file:

@@ -172,7 +172,7 @@ class Pages(Room):
             self.assertEqual(sum(text.count('<rect') for _, text in pieces), min(count - 1, 160))       # one test was ended
             self.assertLessEqual(max(int(width) for width, _ in pieces), 350)
             self.assertEqual(page.count('class="boundary"'), 1)
-            self.assertEqual('and those that are far away' in page, count > 160)
+            self.assertEqual('and those far from that line' in page, count > 160)
 
     def test_hosts(self) -> None:
         """The machine that a command told of stands in each form; without one there is no column of it."""
