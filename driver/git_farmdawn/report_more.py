@@ -15,6 +15,7 @@ if TYPE_CHECKING:
     from .search import Search
 
 SHOWN_LINES, SHOWN_BYTES = 20, 4000
+SURE = 0.99                             # where --sure is not given
 
 
 class OutputFact(TypedDict):
@@ -79,6 +80,7 @@ def options_of(search: Search) -> List[str]:
     words = ['--first-parent'] if settings.first_parent else []
     for option, value in (('--term-new', settings.term_new), ('--term-old', settings.term_old), ('--timeout', settings.timeout),
                           ('--noise', '%g,%g' % settings.noise if settings.noise else None),
+                          ('--sure', '%g' % settings.sure if settings.noise and settings.sure != SURE else None),
                           ('--retry', settings.retry or None), ('--repeat', settings.repeat if settings.repeat > 1 else None),
                           ('--build', (settings.build or [])[-1:] or None), ('--build-timeout', settings.build_timeout)):
         if value is not None:

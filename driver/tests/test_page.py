@@ -26,6 +26,7 @@ from git_farmdawn.overview_summary import junit_of_all, summary_of_all   # noqa:
 from git_farmdawn.page import Page                              # noqa: E402
 from git_farmdawn import remote                                  # noqa: E402
 from git_farmdawn.report_facts import Collector, Facts, TestFact   # noqa: E402
+from git_farmdawn.report_more import again                      # noqa: E402
 from git_farmdawn.summary import junit_of, summary_of           # noqa: E402
 from git_farmdawn.words import Stop                             # noqa: E402
 
@@ -159,8 +160,11 @@ class Pages(Room):
         self.assertEqual((page.count(': may be the first one</title>'), page.count(' doubt" fill=')), (2, 2))
         self.assertEqual(page.count('<a href="https://gitlab.example.org/team/tool/-/commit/'), 2)
         self.assertIn('## One of 2 commits', summary)
-        for words in ("--skip %s --copy 'a b' --submodules " % first,):
-            self.assertIn(words, facts['again']['search'])
+        self.assertIn("--skip %s --copy 'a b' --submodules " % first, facts['again']['search'])
+        search.settings.noise = (0.05, 0.02)
+        for sure, words in ((0.99, '--noise 0.05,0.02 --build'), (0.999, '--noise 0.05,0.02 --sure 0.999 --build')):
+            search.settings.sure = sure
+            self.assertIn(words, again(search, test, '')['search'])
 
     def test_history(self) -> None:
         """Each outcome is a cell, in pieces that a telephone has room for; of many, those near the answer."""
