@@ -260,9 +260,10 @@ def jenkins():
     expect("the whole history", "shallow: false" in text)
 
     def job(number, test, deadline, depth=0):
-        folder = os.path.abspath("builds/jenkins/project")      # the workspace stays on the agent
-        if not os.path.exists(folder):
-            os.rename(os.path.dirname(clone(number, depth)), os.path.dirname(folder))
+        folder = os.path.abspath("builds/jenkins/project")      # the workspace is cleaned, and what stands beside it stays
+        os.makedirs(os.path.dirname(folder), exist_ok=True)
+        shutil.rmtree(folder, ignore_errors=True)
+        os.rename(clone(number, depth), folder)
         env = {**environment, "WORKSPACE": folder, "BAD": "HEAD", "GOOD": "c1", "TEST": test, "DEADLINE": deadline}
         status, out = run(script, folder, env, ("sh", "-xec"))
         return status, folder, out
