@@ -28,6 +28,8 @@ END
 
 # Pages for users alone, and each link leads to one of them.
 pages_are_whole() {
+    listed=$(grep -o '`[A-Z]*[.]md`' "$top/packaging/README.md" | tr -d '`')
+    expect 'the first page names those that are there' [ "$(echo "$listed" | sort)" = "$(cd "$1" && ls | grep '[.]md$' | grep -v README)" ]
     for page in USING TRUST SEVERAL CI CONTAINERS PROGRAM; do expect "the page $page" [ -s "$1/$page.md" ]; done
     for page in CHANGING AUDIT GATE DECISIONS ARCHITECTURE DRIVER; do expect "no page $page" [ ! -e "$1/$page.md" ]; done
     for page in "$1"/*.md; do
