@@ -3,7 +3,7 @@ from __future__ import annotations
 
 from typing import Dict, List, Mapping, Sequence, Set
 
-from .drawing import GAP, OUTCOMES, filling, legend, page_text, patterns
+from .drawing import OUTCOMES, filling, legend, page_text, patterns
 from .overview import BrokenFact, OutcomesFact, OverviewFacts, SearchFact
 from .page import block, shown_time
 from .report_facts import Facts
@@ -11,7 +11,7 @@ from .telling import NAME, span
 from .words import counted
 
 MOST_COLUMNS, MOST_CANDIDATES, MOST_OUTPUT = 160, 20, 5
-COLUMN, HEIGHT = 9, 18                # pixels of a cell
+CELL, HEIGHT, MARGIN = 9, 18, 4         # pixels
 
 
 def title_of(facts: OverviewFacts) -> str:
@@ -119,15 +119,16 @@ class OverviewPage:
         """What a test says of each commit."""
         answer, out = self.tests[test]['answer'], []
         for at, column in enumerate(columns):
-            x = GAP + at * COLUMN
+            x = MARGIN + at * CELL
             if column['commit'] == answer:
-                out.append('<path d="M%d 0v%d" class="boundary"/>' % (x - 1, HEIGHT + 4))
+                out.append('<path d="M%d 0v%d" class="boundary" stroke="#777"/>' % (x - 1, HEIGHT + 4))
             outcome = column['tests'].get(test)
             if outcome:
                 out.append('<rect x="%d" y="2" width="%d" height="%d" class="%s" fill="%s"><title>%s %s: %s</title></rect>'
-                           % (x, COLUMN - 1, HEIGHT, outcome, filling(outcome), column['commit'][:NAME], page_text(column['subject']), outcome))
-        return '<svg class="strip" viewBox="0 0 %d %d" width="%d" height="%d" role="img"><title>%s</title>%s</svg>' % (
-            2 * GAP + len(columns) * COLUMN, HEIGHT + 4, 2 * GAP + len(columns) * COLUMN, HEIGHT + 4, page_text(test), ''.join(out))
+                           % (x, CELL - 1, HEIGHT, outcome, filling(outcome), column['commit'][:NAME], page_text(column['subject']), outcome))
+        width, height = 2 * MARGIN + len(columns) * CELL, HEIGHT + 4
+        return '<svg viewBox="0 0 %d %d" width="%d" height="%d" role="img"><title>%s</title>%s</svg>' % (
+            width, height, width, height, page_text(test), ''.join(out))
 
     # -- the search ----------------------------------------------------------------
 

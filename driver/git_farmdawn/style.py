@@ -19,7 +19,7 @@ pre { background: var(--plate); border: 1px solid var(--line); border-radius: 4p
 pre.prose { white-space: pre-wrap; overflow-wrap: anywhere }
 .kind { color: var(--soft); font-size: .9rem; margin: 0 }
 .verdict { border-left: 6px solid var(--bad); padding: .1rem 0 .1rem 1rem }
-.card { margin: 1.5rem 0 } .card h2 { margin-top: .3rem }
+.card { margin: 1.5rem 0 } .card h2 { margin-top: .3rem } .matrix svg { max-width: 100%; height: auto }
 .verdict.none { border-color: var(--skipped) }
 dl { display: grid; grid-template-columns: fit-content(40%) 1fr; gap: .15rem 1rem; margin: 0; align-items: baseline }
 dt { color: var(--soft) }

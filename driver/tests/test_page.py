@@ -233,7 +233,7 @@ class Pages(Room):
                 for row in root.iter(tag + 'tr')][1:]
         self.assertEqual([name for name, _ in rows], [names[at] for at in (1, 4, 0, 3, 2)])
         for name, cells in rows:
-            test = search.tests[names.index(name)]
+            test = search.tests[names.index(name or '')]
             due = ['bad' if test.known[commit] else 'good' for commit in order if commit in test.known]
             self.assertEqual(cells, due if test.wrong else due[:due.index('bad')] + ['boundary'] + due[due.index('bad'):])
         cases = list(ElementTree.fromstring(junit_of_all(facts, searches, {names[0]: ('a.B', 'c')}).encode('utf-8')).iter('testcase'))
