@@ -22,8 +22,7 @@ git's own. Options may be shortened as far as they are clear, and take their val
   --trust-ends       does not test them: they are as they are called
   --confirm[=N]      tests the answer and its parents N times more (3); what most tests deny is taken back
   --retry N          a failure counts behind N others alone, for a test that fails now and then without a fault
-  --repeat N         good is what was good N times, for a fault that shows now and then; it makes the other kind worse:
-                     of a test that fails in 5 of 100 runs without a fault, 3 makes 49 of 100 answers wrong, not 20
+  --repeat N         good is what was good N times, for a fault that shows now and then; it makes false failures more
   --noise P[,Q]      a search by odds, for a test that lies in so many runs, as 5%: P of a good commit, Q of a bad one
   --sure P           how sure its answer is to be (99%)
   --timeout TIME     a test that takes longer, as 90s, 5m or 2h, is ended, and its commit is skipped

@@ -45,7 +45,7 @@ class Starter(unittest.TestCase):
         """The starter with these words, where the folder of programs is all of the path."""
         every: Dict[str, str] = {'PATH': self.room + '/bin', **env}
         start: List[str] = ['/bin/sh', self.starter, *words]
-        return subprocess.run(start, env=every, stdout=subprocess.PIPE, stderr=subprocess.PIPE, text=True, timeout=120, check=False)
+        return subprocess.run(start, env=every, stdout=subprocess.PIPE, stderr=subprocess.PIPE, text=True, errors='surrogateescape', timeout=120, check=False)
 
     def changed(self, starter: str) -> Set[str]:
         """Which variables of the caller have another value in the Python that is started; each word of the starter is one."""
