@@ -10,7 +10,6 @@ use Rattle.bf_words.specs.Words.{request, word_at}
 use Rattle.bf_answers.specs.Answers.{Answers, HasTestCause, IsComplete, IsUntested}
 use Rattle.bf_answers.specs.Devices.{Met, TesterMet}
 use Rattle.bf_program.specs.Answers.{asked_in}
-use Rattle.bf_program.specs.Printing.{PrintsLog}
 use Rattle.bf_certify.specs.Checking.{checks_file, to_check}
 use Rattle.bf_certify.specs.Certifying.{to_certify}
 use Rattle.bf_checkout_run.specs.CheckingOut.{asked_by, to_checkout}
@@ -110,7 +109,6 @@ pub record Duty : Type 1 where
   pub Gains : Status → Type 0  -- what the sink gained, by the status
   pub Completes : Status → Type 0  -- and where no device failed, and no test
   pub Tests : Status → Type 0  -- which tests a test fault comes of
-  pub Logs : Status → Type 0  -- what is said of the log that it prints
   pub Uses : Type 0  -- what becomes of the tester
   pub UsesShop : Type 0  -- and of the workshop
   pub Recalls : Type 0  -- what the tester remembers in the end
@@ -121,7 +119,6 @@ duty_of None farm = record {
   Gains = Answers (asked_in farm.met) farm.met;
   Completes = IsComplete (asked_in farm.met) farm.met;
   Tests = HasTestCause (asked_in farm.met).tests farm.met.tester;
-  Logs = PrintsLog farm.met;
   Uses = IsUsedFor (request farm.met.words) farm.met.words farm.met.tester.before farm.met.tester.after;
   UsesShop = IsUntested farm.shop;
   Recalls = farm.recalled ≡ [];
@@ -130,7 +127,6 @@ duty_of (Some Certify) farm = record {
   Gains = Answers (to_certify farm.met) farm.met;
   Completes = IsComplete (to_certify farm.met) farm.met;
   Tests = HasTestCause (to_certify farm.met).tests farm.met.tester;
-  Logs = λ result. Unit {0};
   Uses = IsUsedFor (request_to_certify farm.met.words) farm.met.words farm.met.tester.before farm.met.tester.after;
   UsesShop = IsUntested farm.shop;
   Recalls = farm.recalled ≡ [];
@@ -139,7 +135,6 @@ duty_of (Some Check) farm = record {
   Gains = Answers (to_check farm.met) farm.met;
   Completes = IsComplete (to_check farm.met) farm.met;
   Tests = HasTestCause (to_check farm.met).tests farm.met.tester;
-  Logs = λ result. Unit {0};
   Uses = IsUntested farm.met.tester;
   UsesShop = IsUntested farm.shop;
   Recalls = farm.recalled ≡ [];
@@ -148,7 +143,6 @@ duty_of (Some Checkout) farm = record {
   Gains = Answers (to_checkout (in_folders farm)) (in_folders farm);
   Completes = IsComplete (to_checkout (in_folders farm)) (in_folders farm);
   Tests = HasTestCause (to_checkout (in_folders farm)).tests (in_folders farm).tester;
-  Logs = λ result. Unit {0};
   Uses = IsUntested farm.met.tester;
   UsesShop = IsUsedFor (asked_by farm.met.words) farm.met.words farm.shop.before farm.shop.after;
   Recalls = farm.recalled ≡ [];
@@ -157,7 +151,6 @@ duty_of (Some Journal) farm = record {
   Gains = Answers (to_journal farm.met farm.disk) farm.met;
   Completes = IsComplete (to_journal farm.met farm.disk) farm.met;
   Tests = HasTestCause (to_journal farm.met farm.disk).tests farm.met.tester;
-  Logs = λ result. Unit {0};
   Uses = IsUsedFor (request_to_journal farm.met.words) farm.met.words farm.recalling farm.met.tester.after;
   UsesShop = IsUntested farm.shop;
   Recalls =
@@ -168,7 +161,6 @@ duty_of (Some Many) farm = record {
   Gains = Answers (to_many farm.met) farm.met;
   Completes = IsComplete (to_many farm.met) farm.met;
   Tests = HasTestCause (to_many farm.met).tests farm.met.tester;
-  Logs = λ result. Unit {0};
   Uses = IsUntested farm.met.tester;
   UsesShop = IsUntested farm.shop;
   Recalls = farm.recalled ≡ [];
@@ -177,7 +169,6 @@ duty_of (Some Serve) farm = record {
   Gains = ServeAnswers farm.met;
   Completes = IsServeComplete farm.met;
   Tests = HasTestCause false farm.met.tester;
-  Logs = λ result. Unit {0};
   Uses = IsUntested farm.met.tester;
   UsesShop = IsUntested farm.shop;
   Recalls = farm.recalled ≡ [];
@@ -189,7 +180,6 @@ pub record IsDone (duty : Duty) (result : Status) : Type 0 where
   pub answers : duty.Gains result
   -- where no device failed, and no test, the text is that of the command, with its status; or memory ran out
   pub complete : duty.Completes result
-  pub log : duty.Logs result
   -- a test fault is answered only for a failed test of a command that tests
   pub test : duty.Tests result
   pub used : duty.Uses

@@ -1,5 +1,5 @@
 -- Laws of what the program answers.
-use Rattle.std.specs.Prelude.{◌≡◌, ◌≢◌, ℕ, false, List, [], Some}
+use Rattle.std.specs.Prelude.{◌≡◌, ◌≢◌, ℕ, true, false, List, [], Some, Ok}
 use Rattle.bf_history.specs.Meanings.{History}
 use Rattle.bf_runs.specs.Legs.{Legs}
 use Rattle.bf_search.specs.declared.outcomes.Outcome.{Outcome}
@@ -8,7 +8,9 @@ use Rattle.bf_words.specs.declared.request.Request.{Request}
 use Rattle.bf_words.specs.Words.{request}
 use Rattle.bf_output.specs.declared.status.Status.TheVariants.{WriteFault}
 use Rattle.bf_output.specs.Beginning.{Begun}
-use Rattle.bf_output.specs.Output.{IsOutput, given_to, tests, traces}
+use Rattle.bf_output.specs.Logged.{EndsSearch, IsFileGiven, IsLogged, searches}
+use Rattle.bf_output.specs.Output.{Given, IsOutput, given_to, tests, traces}
+use Rattle.bf_output.specs.Returning.{FileGiven}
 use Rattle.bf_output.specs.Simulate.{ran, run_over}
 use Rattle.bf_output.specs.Shown.{TesterShown}
 use Rattle.bf_output.specs.Tested.{IsTestedRun, is_test_fault}
@@ -44,3 +46,15 @@ HasOneRun =
     → IsTestedRun request tested history first told
     → is_test_fault told.status ≡ false
     → (legs : Legs) × (told ≡ traced_if request.trace history legs (ran history first (run_over history first plan)))
+
+-- What the program tells with the status of a search that came to its end is the log of that search, where its source tells its
+-- bytes, and its shelf the file that the words name.
+abbrev pub AreSearchesLogged : Type 0
+AreSearchesLogged =
+    (given : Given) (bytes : List ℕ) (file : FileGiven) (r : Request) (told : Told)
+    → request given.words ≡ Ok r
+    → searches r.verb ≡ true
+    → IsFileGiven r.replay given.words given.files file
+    → EndsSearch told.status
+    → IsOutput given (Some bytes) told
+    → IsLogged r given.words given.tested file bytes told

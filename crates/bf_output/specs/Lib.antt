@@ -13,6 +13,6 @@ pub mod Inputs
 pub mod Output
 pub mod Logs
 pub mod Replay
-pub mod Laws
 pub mod Returning
 pub mod Logged
+pub mod Laws

@@ -45,3 +45,10 @@ pub fn runs_go_on_from_parts()
 pub fn told_runs_give_back()
     ensures { logged.ToldRunsGiveBack }
 {}
+
+/// What `simulate` and `run` tell of a search that came to its end is its log, with how it ended: the whole log gives the state
+/// of that search back, behind the file that is replayed where there is one, and without such a file the search goes on
+/// from its beginning and from the parts of its log.
+pub fn searches_are_logged()
+    ensures { laws.AreSearchesLogged }
+{}

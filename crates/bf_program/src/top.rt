@@ -7,7 +7,6 @@ ghost use Rattle.bf_program.specs.Answers.{Answers, HasTestCauseBy, IsComplete, 
 ghost use Rattle.bf_answers.specs.Answers.{IsUntestedIfRefused};
 ghost use Rattle.bf_answers.specs.Devices.{IsLeftUnless, met, met_shelf, met_sink, met_source, met_tester};
 ghost use Rattle.bf_searches.specs.Lines.{HasTestCauseIn, IsUsedIn};
-ghost use Rattle.bf_program.specs.Printing.{PrintsLog};
 ghost use Rattle.bf_answers.specs.Ready.{IsSound, ConcludesLine, IsRefused};
 ghost use Rattle.bf_answers.specs.Steps.{HasPlan};
 
@@ -32,9 +31,6 @@ use std::alloc::Global;
 /// `--replay`.
 ///
 /// Where no count of faults rose, the status and the text are those of the definition, or memory ran out.
-///
-/// The log that `simulate` prints of a search that came to its end gives the state of its run back, behind the file
-/// that is replayed where there is one; and without such a file the run goes on from the parts of its log.
 pub fn bisect_main<R: Host, S: Source, F: Shelf, T: Tester, K: Sink>(
     rt: &R,
     alloc: Global,
@@ -51,9 +47,6 @@ pub fn bisect_main<R: Host, S: Source, F: Shelf, T: Tester, K: Sink>(
         (met_shelf F.Shelf shelf.old shelf.new) (met_tester T.Tester tester.old tester.new)
         (met_sink K.Sink out.old out.new)) result }
     ensures complete { IsComplete (met words.now (met_source S.Source stream.old stream.new)
-        (met_shelf F.Shelf shelf.old shelf.new) (met_tester T.Tester tester.old tester.new)
-        (met_sink K.Sink out.old out.new)) result }
-    ensures log { PrintsLog (met words.now (met_source S.Source stream.old stream.new)
         (met_shelf F.Shelf shelf.old shelf.new) (met_tester T.Tester tester.old tester.new)
         (met_sink K.Sink out.old out.new)) result }
     // A fault of a device is answered only where its count of faults rose.
