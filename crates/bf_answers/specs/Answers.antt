@@ -117,6 +117,12 @@ IsComplete command met result =
     → HasNotFailed met.sink.faults
     → (result ≡ status.NoMemory) ⊎ IsAnswered command met result
 
+-- A call did what its command asks for.
+pub record IsCarriedOut (command : Command) (met : Met) (result : Status) : Type 0 where
+  pub answers : Answers command met result  -- what the sink gained, by the status
+  pub complete : IsComplete command met result  -- all of it, where no device failed, and no test
+  pub test : HasTestCause command.tests met.tester result  -- a test fault comes of a failed test, where the command tests
+
 -- ---- causes
 
 -- an answer that no device cut short, and no test

@@ -1,7 +1,7 @@
 //! The top call of all commands.
 //!
-//! The order of a line says what the call has to do and which devices it asks for (`duty_of`, `asks_of`). So a further
-//! command brings an arm to each, and no clause of `farm_main` changes.
+//! The order of a line says what the call does and which devices it asks for (`IsDone`, `asks_of`). So a further command
+//! brings an arm to each, and no clause of `farm_main` changes.
 ghost use Rattle.std.specs.Prelude.{◌≡◌, [], false, All, IsTrue};
 ghost use Rattle.bf_io.specs.Causes.{Rose};
 ghost use Rattle.bf_output.specs.Shown.{shown_by};
@@ -15,7 +15,7 @@ ghost use Rattle.bf_journal_run.specs.Legs.{met_disk};
 ghost use Rattle.bf_journal_run.specs.Searching.{IsUnopenedIfRefused};
 ghost use Rattle.bf_journal.specs.Recalling.{IsOwn, remembering};
 ghost use Rattle.bf_farmed.specs.Farming as farming;
-ghost use Rattle.bf_farmed.specs.Farming.{IsDiskHeld, IsDone, asks_in, asks_of, duty_in, duty_of, farm_met};
+ghost use Rattle.bf_farmed.specs.Farming.{IsDiskHeld, IsDone, asks_in, asks_of, farm_met};
 
 use bf_answers::word_at;
 use bf_certify::{certify, check};
@@ -79,7 +79,7 @@ pub fn farm_main<
         (met_disk J.Disk disk.old disk.new)
         tester.new.remembered
         (shown_by ⟦<Recall<T> as Tester>⟧ (remembering tester.old tester.new.remembered)) in
-        IsDone (duty_in farm) result }
+        IsDone (farming.order_in words.now) farm result }
     // Each answer on a place that is not remembered is that of the tester below, which has no other.
     ensures own { All (IsOwn tester.new.remembered (T.answers tester.new.inner)) tester.new.answers }
     ensures unasked { AreUnasked tester.new.remembered (T.answers tester.new.inner) }
@@ -174,7 +174,7 @@ fn carry_out<
         (met_disk J.Disk disk.old disk.new)
         tester.new.remembered
         (shown_by ⟦<Recall<T> as Tester>⟧ (remembering tester.old tester.new.remembered)) in
-        IsDone (duty_of asked.entry.order farm) result }
+        IsDone asked.entry.order farm result }
     ensures grounds { let grounds = grounds_of shop.new.content in
         HasGroundsOf (S.left stream.old) (U.answers shop.new.tester) grounds }
     ensures read { result ≡ Status.ReadFault → Rose (S.faults stream.old) (S.faults stream.new) }

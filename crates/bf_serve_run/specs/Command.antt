@@ -1,7 +1,7 @@
 -- The command `serve`: what it tells, and what a call of it answers.
 use Rattle.std.specs.Prelude.{◌≡◌, ◌⊎◌, ℕ, Bool, false, if◌then◌else◌, IsTrue, is_none, List, codes, Option, Some, None, Result, Ok, Err}
 use Rattle.std.specs.Option.{IfSome}
-use Rattle.bf_answers.specs.Answers.{Answers, Command, IsAnswered, IsUnread}
+use Rattle.bf_answers.specs.Answers.{Answers, Command, HasTestCause, IsAnswered, IsUnread}
 use Rattle.bf_answers.specs.Devices.{HasNotFailed, Met, ShelfMet, SinkMet, SourceMet, met_untested}
 use Rattle.bf_commands.specs.Orders.{wrong_count}
 use Rattle.bf_grammar.specs.declared.fault.Limits.{Limits}
@@ -114,6 +114,12 @@ IsServeComplete met result =
     HasNotFailed met.source.faults
     → HasNotFailed met.sink.faults
     → (result ≡ status.NoMemory) ⊎ (IsAnswered (to_serve met) met result ⊎ IsUntold met result)
+
+-- A call did what it had to; it tests nothing.
+pub record IsServed (met : Met) (result : Status) : Type 0 where
+  pub answers : ServeAnswers met result
+  pub complete : IsServeComplete met result
+  pub test : HasTestCause false met.tester result
 
 -- ---- steps
 
