@@ -131,12 +131,6 @@ pub fault_is_no_test : (before after : Option (List ℕ)) (text : List ℕ) (s r
 fault_is_no_test before after text s result place other (inl (e, a)) is = other (sym e ∙ is)
 fault_is_no_test before after text s result place other (inr (cut, front)) is = cut_is_no_test result place cut is
 
--- the refusal of the words was written
-pub refused_written : (meaning : Told) (answer : Answer) (before after : Option (List ℕ)) (result : Status) → told_of answer ≡ meaning
-    → IsWhole answer.status → IsWritten before after answer.text answer.status result → IsConcluded (λ told. told ≡ meaning) before after result
-refused_written meaning answer before after result is whole written =
-    inl (told_of answer, is, whole_not_lost answer.status result whole, written)
-
 sound_found : (request : Request) (ready : Result Ready Fault) (found matched : Ready) → ready ≡ Ok found → found ≡ matched
     → IfOk ready (IsSound request) → IsSound request matched
 sound_found request ready found matched is of sound =

@@ -1,13 +1,15 @@
 -- What a call may answer and write, by what its command may tell, where a device fails or memory runs out.
-use Rattle.std.specs.Prelude.{◌≡◌, ℕ, Bool, List, Some, IsTrue, ◌⊎◌}
+use Rattle.std.specs.Prelude.{◌≡◌, ℕ, Bool, List, Some, IsTrue, Result, ◌⊎◌}
 use Rattle.bf_io.specs.Causes.{Rose}
 use Rattle.bf_io.specs.Told.{Keeps, Appends, AppendsFront}
 use Rattle.bf_output.specs.declared.status.Status.{Status}
 use Rattle.bf_output.specs.declared.status.Status.TheVariants as status
+use Rattle.bf_output.specs.Output.{asks_file, reads, tests}
 use Rattle.bf_output.specs.Refusals.{file_fault, read_fault}
 use Rattle.bf_output.specs.Statuses.{Stage, Refused, Unread, Ended, Cut, stage_of}
 use Rattle.bf_output.specs.Shown.{TesterShown}
 use Rattle.bf_output.specs.Told.{Told}
+use Rattle.bf_words.specs.declared.request.Request.{Request}
 use Rattle.bf_answers.specs.declared.answer.Answer.{Answer}
 use Rattle.bf_answers.specs.Devices.{Met, TesterMet, HasFailed, HasNotFailed, test_faults}
 
@@ -17,6 +19,10 @@ pub record Command : Type 1 where
   pub reads : Bool  -- the stream
   pub loads : Bool  -- a file of the shelf
   pub tests : Bool  -- commits, by the tester
+
+-- the command of words that were read, or are refused: it tells this
+abbrev pub asking : Result Request ℕ → (Told → Type 0) → Command
+asking read Tells = record { Tells = Tells; reads = reads read; loads = asks_file read; tests = tests read }
 
 -- a status is answered with its text
 abbrev pub OutputOf : Command → Status → List ℕ → Type 0

@@ -17,7 +17,9 @@ pub use answer::{Answer, Fault, Stop};
 pub use bf_names::NameFault;
 pub use bf_output::{Status, StreamKind};
 pub use line::{Line, word_at};
-pub use refusals::{log_refusal, name_refusal, no_file, refusal, too_large, usage, waiting};
+pub use refusals::{
+    log_refusal, name_refusal, no_file, refusal, too_large, usage, waiting, word_refusal,
+};
 pub use started::{Beginning, Means, Ready, Started};
 pub use tell::{commits_of, sides_of, status_of_ask, write_end};
 pub use write::{say, say_answer, status_of_fault, write_and_flush};

@@ -3,7 +3,7 @@ ghost use Rattle.std.specs.Prelude.{◌≡◌, ◌++◌, IfOk, OnOk, IsErrOf};
 ghost use Rattle.bf_output.specs.Refusals as refusals;
 ghost use Rattle.bf_output.specs.Statuses as words;
 ghost use Rattle.bf_answers.specs.Answers.{IsWholeAnswer};
-ghost use Rattle.bf_answers.specs.Tellings.{waiting_in, Says};
+ghost use Rattle.bf_answers.specs.Tellings.{waiting_in, Says, SaysWord};
 
 use crate::answer::{Answer, Fault};
 use crate::tell::sides_of;
@@ -14,6 +14,7 @@ use bf_log::write_waiting;
 use bf_names::NameFault;
 use bf_output::{Status, StreamKind};
 use bf_state::State;
+use bf_words::WordFault;
 use std::alloc::{AllocError, Global};
 
 /// The answer to a stream that gave no history. `Read` comes only where the source could not be read.
@@ -196,6 +197,18 @@ pub fn usage(alloc: Global, word: u32) -> Result<Answer, AllocError>
         status: Status::Usage { word },
         text,
     })
+}
+
+/// The answer to words that are at fault.
+pub fn word_refusal(alloc: Global, fault: WordFault) -> Result<Answer, Fault>
+    ensures tells { IfOk result (SaysWord fault) }
+    ensures whole { IfOk result IsWholeAnswer }
+    ensures memory { (IsErrOf result Fault.Read → ⊥) × (IsErrOf result Fault.Shelf → ⊥) }
+{
+    match fault {
+        WordFault::At { word } => Ok(usage(alloc, word)?),
+        WordFault::NoMemory => Err(Fault::NoMemory),
+    }
 }
 
 /// The answer of a search that waits for an end.

@@ -3,7 +3,8 @@ use Rattle.std.specs.Borrow.{Bor}
 use Rattle.std.specs.Prelude.{Option, Result}
 use Rattle.bf_history.specs.Meanings.{History}
 use Rattle.bf_output.specs.Beginning.{Begun, begun_by, begun_with_skips}
-use Rattle.bf_output.specs.Output.{IsSearchedFrom}
+use Rattle.bf_output.specs.Inputs.{IsToldFrom}
+use Rattle.bf_output.specs.Output.{IsSearched}
 use Rattle.bf_output.specs.Told.{Told}
 use Rattle.bf_begin.specs.Files.{file_given}
 use Rattle.bf_answers.specs.Ready.{AllTold, verb_of}
@@ -24,4 +25,4 @@ begun_with_line line file history = begun_with_skips line.request.now line.words
 abbrev pub TellsSearchFrom : Line → Option (Bor LogFile) → History → Means → Ready → Type 0
 TellsSearchFrom line file history means ready =
     AllTold line.request.now line.words.now ready (λ tested told.
-    IsSearchedFrom (begun_with_line line file history) (verb_of means) line.request.now line.words.now tested history told)
+    IsToldFrom (IsSearched (verb_of means) line.request.now line.words.now tested history) (begun_with_line line file history) told)

@@ -41,7 +41,7 @@ impl Model for LogText {
 
 impl LogText {
     /// The bytes.
-    fn as_slice(&self) -> &[u8]
+    pub fn as_slice(&self) -> &[u8]
         ensures bytes { result.now ≡ self.now }
         ensures bound { length self.now ≤ 16777216 }
     {
@@ -106,7 +106,7 @@ pub fn lent(file: &Option<LogFile>) -> Option<&LogFile>
 }
 
 /// The text of a file, or its refusal: there is none of that name, or it is too long.
-pub fn text_of(alloc: Global, file: &LogFile) -> Result<&[u8], Stop>
+fn text_of(alloc: Global, file: &LogFile) -> Result<&[u8], Stop>
     ensures step { IsStep (λ text. text.now) result (logs.file_or_refusal (given_of file.now)) }
     ensures bound { IfOk result (λ text. length text.now ≤ 16777216) }
 {

@@ -1,6 +1,7 @@
 //! What is answered before any commit is tested, or the search that is to be tested.
 ghost use Rattle.std.specs.Prelude.{◌≡◌, IfOk, IsErrOf};
 ghost use Rattle.bf_begin.specs.Lines.{TellsSearchFrom};
+ghost use Rattle.bf_begin.specs.Opening.{IsBegunFile, IsOf};
 ghost use Rattle.bf_answers.specs.Ready.{IsSound, KeepsSound, TellsStep, verb_of};
 
 use crate::beginning::begin;
@@ -18,6 +19,8 @@ pub fn start(
 ) -> Result<Ready, Fault>
     requires asked { verb_of means ≡ line.request.now.verb }
     ensures tells { IfOk result (TellsSearchFrom line.entry file.entry history means) }
+    ensures begins { IfOk result (IsBegunFile line.entry file.entry history) }
+    ensures own { IfOk result (IsOf history) }
     ensures sound { IfOk result (IsSound line.entry.request.now) }
     ensures no_read { IsErrOf result Fault.Read → ⊥ }
     ensures no_shelf { IsErrOf result Fault.Shelf → ⊥ }
@@ -30,7 +33,8 @@ pub fn start(
             first,
             means,
         })),
-        Err(stop) => told(Err(stop)),
+        Err(Stop::Refused(answer)) => Ok(Ready::Told(answer)),
+        Err(Stop::NoMemory) => Err(Fault::NoMemory),
     }
 }
 

@@ -1,6 +1,5 @@
 -- Answers that tell what is to be told.
-use Rattle.std.specs.Borrow.{Bor}
-use Rattle.std.specs.Prelude.{ℕ, List, Option, None, Result, IsErrOf, ◌⊎◌}
+use Rattle.std.specs.Prelude.{ℕ, List, Option, Result, IsErrOf, ◌⊎◌}
 use Rattle.bf_answers.specs.declared.answer.Answer.{Answer}
 use Rattle.bf_answers.specs.declared.answer.Fault.{Fault}
 use Rattle.bf_answers.specs.declared.answer.Fault.TheVariants.{Read, Shelf}
@@ -9,12 +8,9 @@ use Rattle.bf_answers.specs.declared.started.Started.{Started}
 use Rattle.bf_answers.specs.Answers.{IsBeforeSearch, IsUntested, IsUntestedIfRefused}
 use Rattle.bf_answers.specs.Devices.{TesterMet}
 use Rattle.bf_answers.specs.Tellings.{begun_of, told_of}
-use Rattle.bf_begin.specs.declared.file.LogFile.{LogFile}
-use Rattle.bf_begin.specs.Files.{file_given}
-use Rattle.bf_commands.specs.Certify.{IsCertified, IsCertifiedBy, IsCertifiedOver, IsCertifyOutput, IsPlanCertified, IsTestCertified}
-use Rattle.bf_history.specs.Meanings.{History}
+use Rattle.bf_commands.specs.Certify.{IsCertified, IsCertifyOutput, IsPlanCertified, IsTestCertified}
 use Rattle.bf_output.specs.Inputs.{IsStreamed}
-use Rattle.bf_output.specs.Output.{given_to}
+use Rattle.bf_output.specs.Output.{IsSearchOver, given_to}
 use Rattle.bf_output.specs.Shown.{TesterShown}
 use Rattle.bf_io.specs.declared.shelf.ShelfFile.{ShelfFile}
 
@@ -34,19 +30,10 @@ TellsSearch line started tested answer =
     IsCertified line.request.now.verb line.request.now line.words.now tested started.history (begun_of started.first)
     (told_of answer)
 
--- of the search that begins by the words, or by the log that they name
-abbrev pub TellsFile : Line → Option (Bor LogFile) → TesterShown → History → Answer → Type 0
-TellsFile line file tested history answer =
-    let given = given_to line.words.now None tested in
-    IsCertifiedBy line.request.now given (file_given file) history (told_of answer)
-
-abbrev pub TellsOver : Line → Option (List ShelfFile) → TesterShown → History → Answer → Type 0
-TellsOver line files tested history answer =
-    IsCertifiedOver line.request.now (given_to line.words.now files tested) history (told_of answer)
-
+-- of the search that the words of the line ask for
 abbrev pub TellsStream : Line → Option (List ShelfFile) → TesterShown → Option (List ℕ) → Answer → Type 0
 TellsStream line files tested left answer =
-    IsStreamed (IsCertifiedOver line.request.now (given_to line.words.now files tested)) left (told_of answer)
+    IsStreamed (IsSearchOver (IsCertified line.request.now.verb line.request.now line.words.now tested) line.request.now line.words.now files) left (told_of answer)
 
 abbrev pub TellsOutput : List (List ℕ) → Option (List ShelfFile) → TesterShown → Option (List ℕ) → Answer → Type 0
 TellsOutput words files tested left answer = IsCertifyOutput (given_to words files tested) left (told_of answer)

@@ -1,22 +1,19 @@
 //! The command `check`.
 ghost use Rattle.std.specs.Prelude.{◌≡◌, ◌≢◌, ℕ, ◌<◌, ◌≤◌, length, IfOk, IsErrOf, IsTrue};
 ghost use Rattle.bf_io.specs.Causes.{FailsOnlyAt, Rose};
-ghost use Rattle.bf_output.specs.Logs.{file_or_refusal};
 ghost use Rattle.bf_output.specs.Shown.{TesterShown};
 ghost use Rattle.bf_answers.specs.Answers.{Answers, IsComplete, IsWholeAnswer};
 ghost use Rattle.bf_answers.specs.Devices.{IsLeftUnless, met_shelf, met_sink, met_source, met_untested};
 ghost use Rattle.bf_answers.specs.Tellings.{Says};
-ghost use Rattle.bf_begin.specs.Files.{given_of};
 ghost use Rattle.bf_commands.specs.Check as checks;
 ghost use Rattle.bf_commands.specs.Orders as orders;
 ghost use Rattle.bf_certify.specs.Checking.{checks_file, to_check};
-ghost use Rattle.bf_certify.specs.TellsChecked.{TellsChecked, TellsFile, TellsOutput, TellsStreamed, TellsText};
+ghost use Rattle.bf_certify.specs.TellsChecked.{TellsOutput, TellsStreamed, TellsText};
 
-use bf_answers::{Answer, Fault, Stop, refusal, say_answer, usage};
-use bf_begin::{LogFile, load_word, text_of};
+use bf_answers::{Answer, Fault, say_answer, usage};
+use bf_begin::{OpenedText, open_text};
 use bf_cert::{CertFault, read_cert};
-use bf_grammar::Limits;
-use bf_import::{History, import};
+use bf_import::History;
 use bf_io::{Bytes, Shelf, Sink, Source, Word, put_decimal};
 use bf_oid::oid_hex;
 use bf_output::Status;
@@ -92,12 +89,12 @@ fn answer<S: Source, F: Shelf>(
 {
     match wrong_count(words) {
         Some(word) => Ok(usage(alloc, word)?),
-        None => check_stream(alloc, words, stream, shelf),
+        None => check_file(alloc, words, stream, shelf),
     }
 }
 
-/// What is answered over the stream, which is read to its end.
-fn check_stream<S: Source, F: Shelf>(
+/// What is answered to the file that word 1 names, over the stream.
+fn check_file<S: Source, F: Shelf>(
     alloc: Global,
     words: &[Word],
     stream: &mut S,
@@ -108,38 +105,10 @@ fn check_stream<S: Source, F: Shelf>(
     ensures cause { FailsOnlyAt Fault.Read (S.faults stream.old) (S.faults stream.new) result }
     ensures file { FailsOnlyAt Fault.Shelf (F.faults shelf.old) (F.faults shelf.new) result }
 {
-    match import(alloc, stream, Limits::standard()) {
-        Ok(history) => check_over(alloc, words, &history, shelf),
-        Err(fault) => refusal(alloc, fault),
-    }
-}
-
-/// What is answered over a history.
-fn check_over<F: Shelf>(
-    alloc: Global,
-    words: &[Word],
-    history: &History,
-    shelf: &mut F,
-) -> Result<Answer, Fault>
-    ensures tells { IfOk result (TellsChecked words.now (F.files shelf.old) history.now) }
-    ensures whole { IfOk result IsWholeAnswer }
-    ensures no_read { IsErrOf result Fault.Read → ⊥ }
-    ensures file { FailsOnlyAt Fault.Shelf (F.faults shelf.old) (F.faults shelf.new) result }
-{
-    let file = load_word(words, 1, shelf)?;
-    check_file(alloc, history, &file)
-}
-
-/// What is answered to a file.
-fn check_file(alloc: Global, history: &History, file: &LogFile) -> Result<Answer, Fault>
-    ensures tells { IfOk result (TellsFile history.now (file_or_refusal (given_of file.now))) }
-    ensures whole { IfOk result IsWholeAnswer }
-    ensures memory { (IsErrOf result Fault.Read → ⊥) × (IsErrOf result Fault.Shelf → ⊥) }
-{
-    match text_of(alloc, file) {
-        Ok(text) => check_text(alloc, history, text),
-        Err(Stop::Refused(answer)) => Ok(answer),
-        Err(Stop::NoMemory) => Err(Fault::NoMemory),
+    let opened = open_text(alloc, words, 1, stream, shelf)?;
+    match opened {
+        OpenedText::Over(history, text) => check_text(alloc, &history, text.as_slice()),
+        OpenedText::Refused(answer) => Ok(answer),
     }
 }
 

@@ -6,7 +6,7 @@ ghost use Rattle.bf_answers.specs.Devices.{IsLeftUnless, met, met_shelf, met_sin
 ghost use Rattle.bf_answers.specs.Ready.{SaysAnswer, verb_of};
 ghost use Rattle.bf_answers.specs.Steps.{HasPlan};
 ghost use Rattle.bf_certify.specs.Certifying.{to_certify};
-ghost use Rattle.bf_certify.specs.Tells.{IsUntestedAt, LeavesRefused, TellsFile, TellsOutput, TellsOver, TellsStream};
+ghost use Rattle.bf_certify.specs.Tells.{IsUntestedAt, LeavesRefused, TellsOutput, TellsStream};
 ghost use Rattle.bf_commands.specs.Orders.{is_search, request_to_certify};
 ghost use Rattle.bf_output.specs.Output.{IsUsedFor, asks_file, reads, tests};
 ghost use Rattle.bf_output.specs.Shown.{shown_by};
@@ -14,15 +14,12 @@ ghost use Rattle.bf_searches.specs.Lines.{IsCausedIn, IsUsedIn};
 
 use crate::search::certify_search;
 use crate::words::read_to_certify;
-use bf_answers::{Answer, Fault, Line, Means, Started, Stop, refusal, say, usage};
-use bf_begin::{LogFile, begin, lent, load_file};
-use bf_grammar::Limits;
-use bf_import::{History, import};
+use bf_answers::{Answer, Fault, Line, Means, Ready, say, word_refusal};
+use bf_begin::open_search;
 use bf_io::{Shelf, Sink, Source, Word};
 use bf_output::Status;
-use bf_reach::Reach;
 use bf_tester::{Host, Tester};
-use bf_words::{Request, Verb, WordFault};
+use bf_words::{Request, Verb};
 use std::alloc::Global;
 
 /// Searches as the words of `simulate` or `run` behind the first word ask for, and writes the certificate of the
@@ -110,10 +107,9 @@ fn answer<R: Host, S: Source, F: Shelf, T: Tester>(
                 request: &request,
                 words,
             };
-            certify_stream(rt, line, stream, shelf, tester)
+            certify_line(rt, line, stream, shelf, tester)
         }
-        Err(WordFault::At { word }) => Ok(usage(alloc, word)?),
-        Err(WordFault::NoMemory) => Err(Fault::NoMemory),
+        Err(fault) => word_refusal(alloc, fault),
     }
 }
 
@@ -131,8 +127,8 @@ fn say_tested<K: Sink>(out: &mut K, answer: Result<Answer, Fault>) -> Status
     }
 }
 
-/// What is answered over the stream, which is read to its end.
-fn certify_stream<R: Host, S: Source, F: Shelf, T: Tester>(
+/// What is answered to a line: its search is certified, or refused.
+fn certify_line<R: Host, S: Source, F: Shelf, T: Tester>(
     rt: &R,
     line: Line<'_>,
     stream: &mut S,
@@ -159,82 +155,10 @@ fn certify_stream<R: Host, S: Source, F: Shelf, T: Tester>(
     ensures is_split { T.is_split tester.new ≡ false }
     ensures recalled { T.recalled tester.new ≡ T.recalled tester.old }
 {
-    match import(line.alloc, stream, Limits::standard()) {
-        Ok(history) => certify_over(rt, line, history, shelf, tester),
-        Err(fault) => refusal(line.alloc, fault),
-    }
-}
-
-/// What is answered over a history: the file that the words name is loaded first.
-fn certify_over<R: Host, F: Shelf, T: Tester>(
-    rt: &R,
-    line: Line<'_>,
-    history: History,
-    shelf: &mut F,
-    tester: &mut T,
-) -> Result<Answer, Fault>
-    requires search { IsTrue (is_search line.request.now.verb) }
-    requires plan { HasPlan line.request.now line.words.now }
-    requires whole { line.request.now.leg ≡ 0 }
-    requires plain { line.request.now.trace ≡ false }
-    requires fresh { T.answers tester.old ≡ [] }
-    requires is_split { T.is_split tester.old ≡ false }
-    ensures tells { IfOk result (TellsOver line.entry (F.files shelf.old)
-        (shown_by T.Tester tester.new) history) }
-    ensures cause { IfOk result (IsCausedIn line.entry
-        (met_tester T.Tester tester.old tester.new)) }
-    ensures refused { IfOk result (LeavesRefused (met_tester T.Tester tester.old tester.new)) }
-    ensures fault { IsUntestedAt (met_tester T.Tester tester.old tester.new) result }
-    ensures no_read { IsErrOf result Fault.Read → ⊥ }
-    ensures asks { IsErrOf result Fault.Shelf → IsTrue (is_some line.entry.request.now.replay) }
-    ensures file { FailsOnlyAt Fault.Shelf (F.faults shelf.old) (F.faults shelf.new) result }
-    ensures used { IsUsedIn line.entry (met_tester T.Tester tester.old tester.new) }
-    ensures unloaded { IsLeftUnless (is_some line.entry.request.now.replay) shelf.old shelf.new }
-    ensures is_split { T.is_split tester.new ≡ false }
-    ensures recalled { T.recalled tester.new ≡ T.recalled tester.old }
-{
-    let file = load_file(line.words, line.request.replay, shelf)?;
-    certify_file(rt, line, lent(&file), history, tester)
-}
-
-/// The same over a history and the file that the words name.
-fn certify_file<R: Host, T: Tester>(
-    rt: &R,
-    line: Line<'_>,
-    file: Option<&LogFile>,
-    history: History,
-    tester: &mut T,
-) -> Result<Answer, Fault>
-    requires search { IsTrue (is_search line.request.now.verb) }
-    requires plan { HasPlan line.request.now line.words.now }
-    requires whole { line.request.now.leg ≡ 0 }
-    requires plain { line.request.now.trace ≡ false }
-    requires fresh { T.answers tester.old ≡ [] }
-    requires is_split { T.is_split tester.old ≡ false }
-    ensures tells { IfOk result (TellsFile line.entry file.entry
-        (shown_by T.Tester tester.new) history) }
-    ensures cause { IfOk result (IsCausedIn line.entry
-        (met_tester T.Tester tester.old tester.new)) }
-    ensures refused { IfOk result (LeavesRefused (met_tester T.Tester tester.old tester.new)) }
-    ensures no_read { IsErrOf result Fault.Read → ⊥ }
-    ensures no_shelf { IsErrOf result Fault.Shelf → ⊥ }
-    ensures used { IsUsedIn line.entry (met_tester T.Tester tester.old tester.new) }
-    ensures is_split { T.is_split tester.new ≡ false }
-    ensures recalled { T.recalled tester.new ≡ T.recalled tester.old }
-{
-    let reach = Reach::build(line.alloc, history.graph())?;
-    match begin(line.alloc, line, file, &history, &reach) {
-        Ok(first) => {
-            let started = Started {
-                history,
-                reach,
-                first,
-                means: means_of(line.request),
-            };
-            Ok(certify_search(rt, line, started, tester)?)
-        }
-        Err(Stop::Refused(answer)) => Ok(answer),
-        Err(Stop::NoMemory) => Err(Fault::NoMemory),
+    let ready = open_search(line, means_of(line.request), stream, shelf)?;
+    match ready {
+        Ready::Search(started) => Ok(certify_search(rt, line, started, tester)?),
+        Ready::Told(answer) => Ok(answer),
     }
 }
 

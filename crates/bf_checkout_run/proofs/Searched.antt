@@ -2,13 +2,10 @@
 use Rattle.std.proofs.Common.{◌≡◌, ◌≢◌, ℕ, Bool, List, [], Option, Result, Ok, Err, IfOk, IsTrue, refl, sym, ap, subst}
 use Rattle.bf_output.specs.declared.status.Status.{Status}
 use Rattle.bf_output.specs.declared.status.Status.TheVariants as status
-use Rattle.bf_output.specs.Output.{Given, IsSearched, IsUsedIf, given_to, is_run, reads, reads_stream}
+use Rattle.bf_output.specs.Output.{IsSearched, IsUsedIf, given_to, is_run, reads, reads_stream}
 use Rattle.bf_output.specs.Shown.{TesterShown}
 use Rattle.bf_words.specs.declared.request.Request.{Request}
-use Rattle.bf_words.specs.declared.request.WordFault.{WordFault}
-use Rattle.bf_words.specs.declared.request.WordFault.TheVariants.{At, NoMemory}
 use Rattle.bf_words.specs.declared.verb.Verb.TheVariants.{Run}
-use Rattle.bf_words.specs.Words.{IsRead}
 use Rattle.bf_answers.specs.declared.answer.Answer.{Answer}
 use Rattle.bf_answers.specs.declared.answer.Fault.{Fault}
 use Rattle.bf_answers.specs.declared.answer.Fault.TheVariants.{Read, Shelf}
@@ -21,10 +18,10 @@ use Rattle.bf_answers.specs.Ready.{AllTold, IsCausedTold, IsConcluded, IsSound, 
 use Rattle.bf_answers.specs.Tellings.{begun_of, told_of}
 use Rattle.bf_answers.proofs.Answering.{mapped, written_output}
 use Rattle.bf_answers.proofs.Concluding.{concluded_search, said_answer, sound_search}
-use Rattle.bf_commands.specs.Checkout.{IsCheckedOut, IsCheckoutFor}
+use Rattle.bf_commands.specs.Checkout.{IsCheckedOut}
 use Rattle.bf_tester.specs.declared.answer.Answer.{Answer as Answered}
 use Rattle.bf_tester.specs.Grounds.{Ground}
-use Rattle.bf_checkout_run.specs.CheckingOut.{AreGroundsOf, HasGroundsOf, IsFurnishedFor, TellsUsage, checking_out}
+use Rattle.bf_checkout_run.specs.CheckingOut.{AreGroundsOf, HasGroundsOf, IsFurnishedFor, checking_out}
 
 -- what is told of what is ready, over this stream and these files
 abbrev pub IsReadyFor : Met → Request → Ready → Type 0
@@ -93,14 +90,6 @@ used_since asks request words mid before after same used = subst (λ (t : Tester
 -- a run reads the stream
 pub run_reads : (request : Request) → request.verb ≡ Run → IsTrue (reads (Ok request))
 run_reads request run = ap reads_stream run
-
--- words that are at fault are told so
-pub refused_told : (asked : Result Request ℕ) (given : Given) (left : Option (List ℕ)) (fault : WordFault) (answer : Result Answer Fault)
-    → IsRead asked (Err fault) → IfOk answer (TellsUsage fault) → IfOk answer (λ a. IsCheckoutFor asked given left (told_of a))
-refused_told asked given left fault (Err cut) read tells = tt
-refused_told asked given left (At word) (Ok answer) read tells =
-    subst (λ (r : Result Request ℕ). IsCheckoutFor r given left (told_of answer)) (sym read) tells
-refused_told asked given left NoMemory (Ok answer) read tells = absurd tells
 
 -- ---- what the workshop tests in
 

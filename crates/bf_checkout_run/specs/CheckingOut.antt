@@ -6,16 +6,11 @@ use Rattle.bf_io.specs.declared.shelf.ShelfFile.{ShelfFile}
 use Rattle.bf_tester.specs.declared.answer.Answer.{Answer as Answered}
 use Rattle.bf_tester.specs.Grounds.{Ground}
 use Rattle.bf_words.specs.declared.request.Request.{Request}
-use Rattle.bf_words.specs.declared.request.WordFault.{WordFault}
-use Rattle.bf_words.specs.declared.request.WordFault.TheVariants.{At, NoMemory}
-use Rattle.bf_output.specs.Refusals.{usage}
-use Rattle.bf_answers.specs.declared.answer.Answer.{Answer}
-use Rattle.bf_answers.specs.Tellings.{Says}
-use Rattle.bf_output.specs.Output.{asks_file, given_to, reads, tests}
+use Rattle.bf_output.specs.Output.{given_to}
 use Rattle.bf_answers.specs.declared.line.Line.{Line}
 use Rattle.bf_answers.specs.declared.started.Ready.{Ready}
 use Rattle.bf_answers.specs.declared.started.Ready.TheVariants.{Search, Told}
-use Rattle.bf_answers.specs.Answers.{Command}
+use Rattle.bf_answers.specs.Answers.{Command, asking}
 use Rattle.bf_answers.specs.Devices.{Met, given_in}
 use Rattle.bf_answers.specs.Ready.{AllTold}
 use Rattle.bf_checkout.specs.Checkouts.{grounds_of}
@@ -31,12 +26,7 @@ asked_by words = request_of Checkout words
 
 -- the command of words that ask for this
 abbrev pub checking_out : Result Request ℕ → Met → Command
-checking_out asked met = record {
-  Tells = IsCheckoutFor asked (given_in met) met.source.left;
-  reads = reads asked;
-  loads = asks_file asked;
-  tests = tests asked;
-}
+checking_out asked met = asking asked (IsCheckoutFor asked (given_in met) met.source.left)
 
 abbrev pub to_checkout : Met → Command
 to_checkout met = checking_out (asked_by met.words) met
@@ -46,11 +36,6 @@ abbrev pub TellsCheckout : Line → Option (List ShelfFile) → Option (List ℕ
 TellsCheckout line files left ready =
     AllTold line.request.now line.words.now ready (λ tested told.
     IsCheckedOut line.request.now (given_to line.words.now files tested) left told)
-
--- the answer says which word is at fault
-abbrev pub TellsUsage : WordFault → Answer → Type 0
-TellsUsage (At word) answer = Says (usage word) answer
-TellsUsage NoMemory answer = ⊥
 
 -- ---- what the workshop tests in
 

@@ -1,11 +1,9 @@
 //! What the words of a line ask for.
-ghost use Rattle.std.specs.Prelude.{◌≡◌, IfOk, IsErrOf};
-ghost use Rattle.bf_answers.specs.Answers.{IsWholeAnswer};
+ghost use Rattle.std.specs.Prelude.{◌≡◌, IfOk};
 ghost use Rattle.bf_answers.specs.Steps.{HasPlan};
-ghost use Rattle.bf_checkout_run.specs.CheckingOut.{TellsUsage, asked_by};
+ghost use Rattle.bf_checkout_run.specs.CheckingOut.{asked_by};
 ghost use Rattle.bf_words.specs.Words.{IsRead};
 
-use bf_answers::{Answer, Fault, usage};
 use bf_commands::{Order, read_words_for};
 use bf_io::Word;
 use bf_words::{Request, Verb, WordFault};
@@ -19,16 +17,4 @@ pub(crate) fn asked_by(alloc: Global, words: &[Word]) -> Result<Request, WordFau
     ensures plan { IfOk result (λ request. HasPlan request words.now) }
 {
     read_words_for(alloc, Order::Checkout, words)
-}
-
-/// The answer to words that are at fault.
-pub(crate) fn refused(alloc: Global, fault: WordFault) -> Result<Answer, Fault>
-    ensures tells { IfOk result (TellsUsage fault) }
-    ensures whole { IfOk result IsWholeAnswer }
-    ensures memory { (IsErrOf result Fault.Read → ⊥) × (IsErrOf result Fault.Shelf → ⊥) }
-{
-    match fault {
-        WordFault::At { word } => Ok(usage(alloc, word)?),
-        WordFault::NoMemory => Err(Fault::NoMemory),
-    }
 }

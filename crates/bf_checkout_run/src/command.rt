@@ -14,7 +14,7 @@ ghost use Rattle.bf_words.specs.declared.verb.Verb.TheVariants as Verb;
 
 use crate::asked;
 use crate::prepare::prepare;
-use bf_answers::{Line, Ready, say_answer};
+use bf_answers::{Line, Ready, say_answer, word_refusal};
 use bf_checkout::{Folder, FolderTester, Workshop};
 use bf_io::{Shelf, Sink, Source, Word};
 use bf_output::Status;
@@ -88,7 +88,7 @@ pub fn checkout<R: Host, S: Source, F: Shelf, U: FolderTester<D>, D: Folder, K: 
         }
         Err(fault) => {
             let _tested = shop.tester();
-            say_answer(out, asked::refused(alloc, fault))
+            say_answer(out, word_refusal(alloc, fault))
         }
     }
 }

@@ -1,7 +1,8 @@
 -- What holds of the words behind a first one that are accepted.
 use Rattle.std.proofs.Common.{◌≡◌, ℕ, ◌+◌, Bool, true, false, cond, List, [], length, drop, get_or, get_or-drop, option_map, nat_lt, Option, Some, None, Result, Ok, Err, refl, sym, ap, subst, ◌∙◌, arith}
 use Rattle.bf_commands.specs.declared.order.Order.{Order}
-use Rattle.bf_commands.specs.Orders.{is_followed, is_run, may_follow, request_of as request_for}
+use Rattle.bf_commands.specs.Orders.{is_followed, may_follow, request_of as request_for}
+use Rattle.bf_output.specs.Output.{is_run}
 use Rattle.bf_output.proofs.Accepted.{no_fault, past_size}
 use Rattle.bf_words.specs.declared.request.Request.{Request}
 use Rattle.bf_words.specs.declared.verb.Verb.{Verb}

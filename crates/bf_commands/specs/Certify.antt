@@ -1,5 +1,5 @@
 -- The command `certify`: a search whose certificate is printed in place of its log and its answer.
-use Rattle.std.specs.Prelude.{◌≡◌, ℕ, List, length, Option, Some, None, Result, Ok, Err}
+use Rattle.std.specs.Prelude.{◌≡◌, ℕ, List, length, Option}
 use Rattle.bf_cert.specs.declared.cert.Cert.{Cert}
 use Rattle.bf_cert.specs.Certificates.{Holds, IsWithin}
 use Rattle.bf_cert.specs.Lines.{cert_text}
@@ -8,15 +8,12 @@ use Rattle.bf_history.specs.Meanings.{History}
 use Rattle.bf_search.specs.declared.asks.Ask.TheVariants.{FirstBad}
 use Rattle.bf_search.specs.Run.{End, Answered, Run}
 use Rattle.bf_search.specs.State.{Search}
-use Rattle.bf_io.specs.declared.shelf.LoadFault.{LoadFault}
 use Rattle.bf_words.specs.declared.request.Request.{Request}
 use Rattle.bf_words.specs.declared.verb.Verb.{Verb}
 use Rattle.bf_words.specs.declared.verb.Verb.TheVariants.{Simulate, Run as RunVerb}
 use Rattle.bf_output.specs.declared.status.Status.TheVariants as status
-use Rattle.bf_output.specs.Beginning.{Begun, begun_with_skips}
-use Rattle.bf_output.specs.Inputs.{IsFiled, IsStreamed}
-use Rattle.bf_output.specs.Output.{Given}
-use Rattle.bf_output.specs.Refusals.{usage}
+use Rattle.bf_output.specs.Beginning.{Begun}
+use Rattle.bf_output.specs.Output.{Given, IsSearchTold}
 use Rattle.bf_output.specs.Simulate.{plan_of, run_over}
 use Rattle.bf_output.specs.Shown.{TesterShown}
 use Rattle.bf_output.specs.Tested.{IsTestedAs, told_of_run}
@@ -57,26 +54,5 @@ IsCertified other request words tested history first told = ⊥
 
 -- ---- from the words on
 
-abbrev pub IsCertifiedFrom : Result Begun Told → Request → List (List ℕ) → TesterShown → History → Told → Type 0
-IsCertifiedFrom (Err refusal) request words tested history told = told ≡ refusal
-IsCertifiedFrom (Ok first) request words tested history told = IsCertified request.verb request words tested history first told
-
-abbrev pub IsCertifiedBy : Request → Given → Option (Result (List ℕ) LoadFault) → History → Told → Type 0
-IsCertifiedBy request given file history told =
-    IsCertifiedFrom (begun_with_skips request given.words file history) request given.words given.tested history told
-
--- behind the log that the words name, or without one
-abbrev pub IsCertifiedBehind : Option ℕ → Request → Given → History → Told → Type 0
-IsCertifiedBehind None request given history told = IsCertifiedBy request given None history told
-IsCertifiedBehind (Some i) request given history told =
-    IsFiled (λ file told. IsCertifiedBy request given (Some file) history told) given.words i given.files told
-
-abbrev pub IsCertifiedOver : Request → Given → History → Told → Type 0
-IsCertifiedOver request given history told = IsCertifiedBehind request.replay request given history told
-
-abbrev pub IsCertifyFor : Result Request ℕ → Given → Option (List ℕ) → Told → Type 0
-IsCertifyFor (Err word) given stream told = told ≡ usage word
-IsCertifyFor (Ok request) given stream told = IsStreamed (IsCertifiedOver request given) stream told
-
 abbrev pub IsCertifyOutput : Given → Option (List ℕ) → Told → Type 0
-IsCertifyOutput given stream told = IsCertifyFor (request_to_certify given.words) given stream told
+IsCertifyOutput given stream told = IsSearchTold (λ request. IsCertified request.verb request given.words given.tested) (request_to_certify given.words) given stream told

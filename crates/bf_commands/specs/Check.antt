@@ -1,5 +1,5 @@
 -- The command `check`: whether a file is a certificate that holds.
-use Rattle.std.specs.Prelude.{◌≡◌, ℕ, List, ◌++◌, codes, Option, Some, None, Result, Ok, Err}
+use Rattle.std.specs.Prelude.{ℕ, List, ◌++◌, codes, Option, Result, Ok, Err}
 use Rattle.std.specs.Fmt.{decimal}
 use Rattle.bf_cert.specs.declared.cert.Cert.{Cert}
 use Rattle.bf_cert.specs.Lines.{digits_of}
@@ -8,9 +8,7 @@ use Rattle.bf_history.specs.Meanings.{History}
 use Rattle.bf_io.specs.declared.shelf.ShelfFile.{ShelfFile}
 use Rattle.bf_terms.specs.Texts.{text_line}
 use Rattle.bf_output.specs.declared.status.Status.TheVariants as status
-use Rattle.bf_output.specs.Inputs.{IsFiled, IsStreamed}
-use Rattle.bf_output.specs.Logs.{file_or_refusal}
-use Rattle.bf_output.specs.Refusals.{usage}
+use Rattle.bf_output.specs.Inputs.{IsStreamed, IsTextTold, IsToldUnless}
 use Rattle.bf_output.specs.Told.{Told}
 use Rattle.bf_commands.specs.Orders.{wrong_count}
 
@@ -35,19 +33,6 @@ told_of_read history (Err line) = cert_refused line
 abbrev pub checked : History → List ℕ → Told
 checked history bytes = told_of_read history (read_text history.names history.parents bytes)
 
-abbrev pub checked_file : History → Result (List ℕ) Told → Told
-checked_file history (Ok bytes) = checked history bytes
-checked_file history (Err refusal) = refusal
-
--- the file that word 1 names, over a history
-abbrev pub IsChecked : List (List ℕ) → Option (List ShelfFile) → History → Told → Type 0
-IsChecked words files history told =
-    IsFiled (λ file told. told ≡ checked_file history (file_or_refusal file)) words 1 files told
-
-abbrev pub IsCheckedFor : Option ℕ → List (List ℕ) → Option (List ShelfFile) → Option (List ℕ) → Told → Type 0
-IsCheckedFor (Some word) words files stream told = told ≡ usage word
-IsCheckedFor None words files stream told = IsStreamed (IsChecked words files) stream told
-
--- the words come first, then the stream to its end, and then the file
+-- the words come first, then the stream to its end, and then the file that word 1 names
 abbrev pub IsCheckOutput : List (List ℕ) → Option (List ShelfFile) → Option (List ℕ) → Told → Type 0
-IsCheckOutput words files stream told = IsCheckedFor (wrong_count 2 words) words files stream told
+IsCheckOutput words files stream told = IsToldUnless (wrong_count 2 words) (λ told. IsStreamed (IsTextTold checked words 1 files) stream told) told

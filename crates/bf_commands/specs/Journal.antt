@@ -14,16 +14,13 @@ use Rattle.bf_search.specs.declared.outcomes.Outcome.{Outcome}
 use Rattle.bf_search.specs.declared.outcomes.Verdict.TheVariants.{Abort}
 use Rattle.bf_search.specs.Outcomes.{outcomes_of_table, verdict_of}
 use Rattle.bf_search.specs.Run.{Run}
-use Rattle.bf_io.specs.declared.shelf.LoadFault.{LoadFault}
 use Rattle.bf_state.specs.Runs.{GoesOn, IsPartOf}
 use Rattle.bf_tester.specs.declared.answer.Answer.{Answer}
 use Rattle.bf_tester.specs.Plans.{read_as}
 use Rattle.bf_words.specs.declared.request.Request.{Request}
 use Rattle.bf_output.specs.declared.status.Status.TheVariants as status
-use Rattle.bf_output.specs.Beginning.{Begun, begun_with_skips, log_on}
-use Rattle.bf_output.specs.Inputs.{IsFiled, IsStreamed}
-use Rattle.bf_output.specs.Output.{Given}
-use Rattle.bf_output.specs.Refusals.{usage}
+use Rattle.bf_output.specs.Beginning.{Begun, log_on}
+use Rattle.bf_output.specs.Output.{Given, IsSearchTold}
 use Rattle.bf_output.specs.Shown.{TesterShown, command_of}
 use Rattle.bf_output.specs.Tested.{AreFirstUsed, IsFrontIfTold, IsTestedRun, IsTestCut, IsTestLost, run_on}
 use Rattle.bf_output.specs.Told.{Told}
@@ -182,26 +179,6 @@ with_legs (Ok request) = Ok (in_legs request)
 abbrev pub request_to_journal : List (List ℕ) → Result Request ℕ
 request_to_journal words = with_legs (request_of order.Journal words)
 
-abbrev pub IsJournalFrom : DiskMet → Result Begun Told → Request → Given → History → Told → Type 0
-IsJournalFrom disk (Err refusal) request given history told = told ≡ refusal
-IsJournalFrom disk (Ok first) request given history told = IsJournalled disk request given.words given.tested history first told
-
-abbrev pub IsJournalBy : DiskMet → Request → Given → Option (Result (List ℕ) LoadFault) → History → Told → Type 0
-IsJournalBy disk request given file history told =
-    IsJournalFrom disk (begun_with_skips request given.words file history) request given history told
-
--- behind the log that the words name, or without one
-abbrev pub IsJournalBehind : DiskMet → Option ℕ → Request → Given → History → Told → Type 0
-IsJournalBehind disk None request given history told = IsJournalBy disk request given None history told
-IsJournalBehind disk (Some i) request given history told =
-    IsFiled (λ file told. IsJournalBy disk request given (Some file) history told) given.words i given.files told
-
-abbrev pub IsJournalOver : DiskMet → Request → Given → History → Told → Type 0
-IsJournalOver disk request given history told = IsJournalBehind disk request.replay request given history told
-
-abbrev pub IsJournalFor : DiskMet → Result Request ℕ → Given → Option (List ℕ) → Told → Type 0
-IsJournalFor disk (Err word) given stream told = told ≡ usage word
-IsJournalFor disk (Ok request) given stream told = IsStreamed (IsJournalOver disk request given) stream told
-
 abbrev pub IsJournalOutput : DiskMet → Given → Option (List ℕ) → Told → Type 0
-IsJournalOutput disk given stream told = IsJournalFor disk (request_to_journal given.words) given stream told
+IsJournalOutput disk given stream told =
+    IsSearchTold (λ request. IsJournalled disk request given.words given.tested) (request_to_journal given.words) given stream told

@@ -1,9 +1,8 @@
 -- The command `many`: several searches over one history, each told as `simulate` tells it.
-use Rattle.std.specs.Prelude.{◌≡◌, ℕ, ◌+◌, Bool, true, ◌==◌, ◌||◌, if◌then◌else◌, List, [], ◌∷◌, ◌++◌, codes, is_some, map, length, nat_lt, Option, Some, None, Result, Ok, Err}
+use Rattle.std.specs.Prelude.{ℕ, ◌+◌, Bool, true, ◌==◌, ◌||◌, if◌then◌else◌, List, [], ◌∷◌, ◌++◌, codes, is_some, map, length, nat_lt, Option, Some, None, Result, Ok, Err}
 use Rattle.std.specs.Fmt.{decimal}
 use Rattle.bf_history.specs.Meanings.{History}
 use Rattle.bf_reading.specs.Reading.{lines_of}
-use Rattle.bf_io.specs.declared.shelf.LoadFault.{LoadFault}
 use Rattle.bf_io.specs.declared.shelf.ShelfFile.{ShelfFile}
 use Rattle.bf_terms.specs.Texts.{text_line}
 use Rattle.bf_words.specs.declared.options.Choice.{Choice}
@@ -17,8 +16,7 @@ use Rattle.bf_words.specs.Words.{first_of, request, word_at}
 use Rattle.bf_output.specs.declared.status.Status.{Status}
 use Rattle.bf_output.specs.declared.status.Status.TheVariants as status
 use Rattle.bf_output.specs.Beginning.{begun_with_skips}
-use Rattle.bf_output.specs.Inputs.{IsFiled, IsStreamed}
-use Rattle.bf_output.specs.Logs.{file_or_refusal}
+use Rattle.bf_output.specs.Inputs.{IsStreamed, IsTextTold, IsToldUnless}
 use Rattle.bf_output.specs.Refusals.{usage}
 use Rattle.bf_output.specs.Simulate.{plan_of, ran, run_over}
 use Rattle.bf_output.specs.Told.{Told, told_by}
@@ -135,21 +133,6 @@ listed history lines None = all_searched history lines
 abbrev pub told_of_list : History → List ℕ → Told
 told_of_list history bytes = listed history (searches_of bytes) (refused_from 1 (searches_of bytes))
 
-abbrev pub listed_by : History → Result (List ℕ) Told → Told
-listed_by history (Ok bytes) = told_of_list history bytes
-listed_by history (Err refusal) = refusal
-
-abbrev pub told_of_file : History → Result (List ℕ) LoadFault → Told
-told_of_file history file = listed_by history (file_or_refusal file)
-
--- the file that word 2 names, over a history
-abbrev pub IsListed : List (List ℕ) → Option (List ShelfFile) → History → Told → Type 0
-IsListed words files history told = IsFiled (λ file other. other ≡ told_of_file history file) words 2 files told
-
-abbrev pub IsManyFor : Option ℕ → List (List ℕ) → Option (List ShelfFile) → Option (List ℕ) → Told → Type 0
-IsManyFor (Some word) words files stream told = told ≡ usage word
-IsManyFor None words files stream told = IsStreamed (IsListed words files) stream told
-
--- the words come first, then the stream to its end, and then the file
+-- the words come first, then the stream to its end, and then the file that word 2 names
 abbrev pub IsManyOutput : List (List ℕ) → Option (List ShelfFile) → Option (List ℕ) → Told → Type 0
-IsManyOutput words files stream told = IsManyFor (wrong_word words) words files stream told
+IsManyOutput words files stream told = IsToldUnless (wrong_word words) (λ told. IsStreamed (IsTextTold told_of_list words 2 files) stream told) told

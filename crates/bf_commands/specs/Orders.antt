@@ -3,7 +3,8 @@ use Rattle.std.specs.Prelude.{ℕ, Bool, true, false, nat_lt, if◌then◌else�
 use Rattle.bf_words.specs.declared.options.Choice.TheVariants.{Leg, Trace}
 use Rattle.bf_words.specs.declared.request.Request.{Request}
 use Rattle.bf_words.specs.declared.verb.Verb.{Verb}
-use Rattle.bf_words.specs.declared.verb.Verb.TheVariants.{Simulate, Run, Next, Replay, Gen, Sample}
+use Rattle.bf_words.specs.declared.verb.Verb.TheVariants.{Simulate, Run}
+use Rattle.bf_output.specs.Output.{is_run}
 use Rattle.bf_words.specs.FirstOption.{first_option}
 use Rattle.bf_words.specs.Options.{is_text, verb_of}
 use Rattle.bf_words.specs.Words.{next_index, request_behind, word_at}
@@ -25,27 +26,14 @@ order_of word =
 abbrev pub is_search : Verb → Bool
 is_search Simulate = true
 is_search Run = true
-is_search Next = false
-is_search Replay = false
-is_search Gen = false
-is_search Sample = false
-
-abbrev pub is_run : Verb → Bool
-is_run Run = true
-is_run Simulate = false
-is_run Next = false
-is_run Replay = false
-is_run Gen = false
-is_run Sample = false
+is_search other = false
 
 -- the commands that may stand behind it
 abbrev pub may_follow : Order → Verb → Bool
 may_follow Certify verb = is_search verb
-may_follow Check verb = false
 may_follow Checkout verb = is_run verb
 may_follow Journal verb = is_run verb
-may_follow Many verb = false
-may_follow Serve verb = false
+may_follow other verb = false
 
 abbrev pub is_followed : Order → Option Verb → Bool
 is_followed order None = false

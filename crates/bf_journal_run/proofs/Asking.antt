@@ -2,7 +2,8 @@
 use Rattle.std.proofs.Common.{◌≡◌, ℕ, Bool, true, false, cond, nat_lt, List, [], length, drop, get_or-drop, Option, Some, None, Result, Ok, Err, refl, sym, ap, ◌∙◌, subst}
 use Rattle.bf_commands.specs.declared.order.Order.TheVariants as order
 use Rattle.bf_commands.specs.Journal.{in_legs, request_to_journal, with_legs}
-use Rattle.bf_commands.specs.Orders.{is_followed, is_run, request_of as request_for}
+use Rattle.bf_commands.specs.Orders.{is_followed, request_of as request_for}
+use Rattle.bf_output.specs.Output.{is_run}
 use Rattle.bf_output.proofs.Accepted.{no_fault, past_size}
 use Rattle.bf_words.specs.declared.request.Request.{Request}
 use Rattle.bf_words.specs.declared.request.WordFault.{WordFault}

@@ -27,7 +27,7 @@ use Rattle.bf_journal_run.specs.declared.cut.Cut.{Cut}
 use Rattle.bf_journal_run.specs.declared.cut.Cut.TheVariants.{Journal, Output, NoMemory}
 use Rattle.bf_journal_run.specs.Held.{AreHeld, BeginsBehind, GoesOnFrom, IsHeldBy, IsHeldFor, IsHeldReady}
 use Rattle.bf_journal_run.specs.Legs.{IsEndedKept, met_disk}
-use Rattle.bf_journal_run.specs.Preparing.{IsBegunBehind, IsBegunLoaded, IsBegunStream, IsReadFrom}
+use Rattle.bf_begin.specs.Opening.{IsBegunBehind, IsBegunLoaded, IsBegunStream, IsReadFrom}
 
 -- ---- while the journal is opened
 

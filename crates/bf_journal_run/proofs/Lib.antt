@@ -1,5 +1,4 @@
 pub mod Asking
-pub mod Beginning
 pub mod Concluding
 pub mod Ending
 pub mod Growing

@@ -2,7 +2,7 @@
 use Rattle.std.proofs.Common.{◌≡◌, ◌≢◌, inl, inr, ℕ, Bool, true, false, List, [], ◌++◌, get_or, Option, Some, None, is_some, Result, Ok, Err, IfOk, refl, sym, ap, ◌∙◌, subst}
 use Rattle.std.specs.Prelude.{All, IsErrOf, IsTrue}
 use Rattle.bf_answers.proofs.Answering as any
-use Rattle.bf_answers.specs.Answers.{Answers, IsBeforeSearch, IsUnread, IsUnloaded, IsUntested, IsUntestedIfRefused, IsWhole}
+use Rattle.bf_answers.specs.Answers.{Answers, IsBeforeSearch, IsUnread, IsUnloaded, IsUntested, IsUntestedIfRefused, IsWhole, IsWholeAnswer}
 use Rattle.bf_answers.specs.declared.answer.Answer.{Answer}
 use Rattle.bf_answers.specs.declared.answer.Fault.{Fault}
 use Rattle.bf_answers.specs.declared.answer.Fault.TheVariants.{Read, Shelf, NoMemory}
@@ -10,63 +10,28 @@ use Rattle.bf_answers.specs.declared.line.Line.{Line}
 use Rattle.bf_answers.specs.declared.started.Ready.{Ready}
 use Rattle.bf_answers.specs.declared.started.Ready.TheVariants.{Told as ToldAnswer, Search}
 use Rattle.bf_answers.specs.Devices.{Met, HasFailed, SinkMet, TesterMet, given_in}
-use Rattle.bf_answers.specs.Ready.{Concludes, IsCausedTold, IsConcluded, IsRefused, SaysAnswer}
-use Rattle.bf_answers.specs.Tellings.{begun_of}
-use Rattle.bf_commands.specs.Journal.{DiskMet, IsJournalBehind, IsJournalFor, IsJournalFrom, IsJournalOutput, IsJournalOver, IsJournalled, request_to_journal}
-use Rattle.bf_history.specs.declared.fault.ImportFault.{ImportFault}
-use Rattle.bf_history.specs.Meanings.{History}
-use Rattle.bf_output.specs.Beginning.{Begun}
+use Rattle.bf_answers.specs.Ready.{Concludes, IsCausedTold, IsConcluded, SaysAnswer}
+use Rattle.bf_answers.proofs.Concluding.{said_answer}
+use Rattle.bf_answers.proofs.Streamed.{word_told}
+use Rattle.bf_answers.specs.Tellings.{SaysWord}
+use Rattle.bf_commands.specs.Journal.{DiskMet, IsJournalOutput, IsJournalled, request_to_journal}
 use Rattle.bf_output.specs.declared.status.Status.{Status}
 use Rattle.bf_output.specs.declared.status.Status.TheVariants as status
-use Rattle.bf_output.specs.Inputs.{IsStreamed, IsToldOver}
-use Rattle.bf_output.specs.Output.{IsUsedFor, IsUsedIf, asks_file, given_to, is_run, reads, reads_stream, tests}
-use Rattle.bf_output.specs.Refusals.{usage}
+use Rattle.bf_output.specs.Inputs.{IsStreamed}
+use Rattle.bf_output.specs.Output.{IsSearchOver, IsSearchTold, IsUsedFor, IsUsedIf, asks_file, is_run, reads, reads_stream, tests}
 use Rattle.bf_output.specs.Shown.{TesterShown, IsUsed}
 use Rattle.bf_output.specs.Told.{Told}
 use Rattle.bf_journal.specs.Recalling.{IsPassedOn, Recalling, remembering}
 use Rattle.bf_journal.specs.Remembered.{outcome_at}
-use Rattle.bf_io.specs.declared.shelf.ShelfFile.{ShelfFile}
 use Rattle.bf_tester.specs.declared.answer.Answer.{Answer as Answered}
 use Rattle.bf_words.specs.declared.request.Request.{Request}
 use Rattle.bf_words.specs.declared.request.WordFault.{WordFault}
-use Rattle.bf_words.specs.declared.request.WordFault.TheVariants as words
-use Rattle.bf_words.specs.declared.request.WordFault.TheVariants.{At}
 use Rattle.bf_words.specs.declared.verb.Verb.{Verb}
 use Rattle.bf_words.specs.declared.verb.Verb.TheVariants.{Run}
 use Rattle.bf_words.specs.Words.{IsRead}
 use Rattle.bf_journal_run.specs.Journalling.{AreUnasked, IsRecalledBy, IsRecalledReady, TellsReady, to_journal}
-use Rattle.bf_journal_run.specs.Preparing.{IsBegunAs, IsBegunBehind, IsBegunLoaded, IsBegunStream, IsReadFrom}
-
--- ---- what is ready, by the definitions
-
-from_begun : (disk : DiskMet) (line : Line) (files : Option (List ShelfFile)) (tested : TesterShown) (begun : Result Begun Told) (history : History)
-    (ready : Ready) (told : Told) → IsBegunAs begun history ready → TellsReady disk line.request.now line.words.now tested ready told
-    → IsJournalFrom disk begun line.request.now (given_to line.words.now files tested) history told
-from_begun disk line files tested begun history (ToldAnswer answer) told is tells =
-    subst (λ (b : Result Begun Told). IsJournalFrom disk b line.request.now (given_to line.words.now files tested) history told) (sym is) tells
-from_begun disk line files tested begun history (Search started) told (is, same) tells =
-    subst (λ (b : Result Begun Told). IsJournalFrom disk b line.request.now (given_to line.words.now files tested) history told) (sym is)
-    (subst (λ (h : History). IsJournalled disk line.request.now line.words.now tested h (begun_of started.first) told) same tells)
-
-behind : (replay : Option ℕ) (disk : DiskMet) (line : Line) (files : Option (List ShelfFile)) (tested : TesterShown) (history : History) (ready : Ready) (told : Told)
-    → IsBegunBehind replay line files history ready → TellsReady disk line.request.now line.words.now tested ready told
-    → IsJournalBehind disk replay line.request.now (given_to line.words.now files tested) history told
-behind None disk line files tested history ready told begun tells = from_begun disk line files tested _ history ready told begun tells
-behind (Some i) disk line None tested history ready told begun tells = tt
-behind (Some i) disk line (Some files) tested history ready told begun tells = from_begun disk line (Some files) tested _ history ready told begun tells
-
-loaded : (disk : DiskMet) (line : Line) (files : Option (List ShelfFile)) (tested : TesterShown) (result : Result History ImportFault) (ready : Ready) (told : Told)
-    → IsBegunLoaded line files result ready → TellsReady disk line.request.now line.words.now tested ready told
-    → IsToldOver (IsJournalOver disk line.request.now (given_to line.words.now files tested)) result told
-loaded disk line files tested (Ok history) ready told begun tells = behind line.request.now.replay disk line files tested history ready told begun tells
-loaded disk line files tested (Err fault) (ToldAnswer answer) told begun tells = tells ∙ begun
-loaded disk line files tested (Err fault) (Search started) told begun tells = absurd begun
-
-streamed : (disk : DiskMet) (line : Line) (files : Option (List ShelfFile)) (tested : TesterShown) (left : Option (List ℕ)) (ready : Ready) (told : Told)
-    → IsBegunStream line files left ready → TellsReady disk line.request.now line.words.now tested ready told
-    → IsStreamed (IsJournalOver disk line.request.now (given_to line.words.now files tested)) left told
-streamed disk line files tested None ready told begun tells = tt
-streamed disk line files tested (Some bytes) ready told (result, loads, begun) tells = (result, loads, loaded disk line files tested result ready told begun tells)
+use Rattle.bf_begin.specs.Opening.{IsBegunStream, IsReadFrom}
+use Rattle.bf_begin.proofs.Opening.{ready_told}
 
 -- ---- the words ask for a run
 
@@ -81,18 +46,19 @@ module _ (met : Met) (disk : DiskMet) (line : Line) (result : Status) (same : li
   pub unloaded : IsTrue (is_some line.request.now.replay) → HasFailed met.shelf.faults → IsUnloaded (to_journal met disk) met
   unloaded h failed = (subst (λ (r : Result Request ℕ). IsTrue (asks_file r)) (sym read) h, failed)
 
-  output : (told : Told) → IsStreamed (IsJournalOver disk line.request.now (given_to line.words.now met.shelf.files met.tester.after)) met.source.left told
+  output : (told : Told) → IsStreamed (IsSearchOver (IsJournalled disk line.request.now line.words.now met.tester.after) line.request.now line.words.now met.shelf.files) met.source.left told
       → IsJournalOutput disk (given_in met) met.source.left told
   output told is =
-      subst (λ (r : Result Request ℕ). IsJournalFor disk r (given_in met) met.source.left told) (sym read)
-      (subst (λ (words : List (List ℕ)). IsStreamed (IsJournalOver disk line.request.now (given_to words met.shelf.files met.tester.after)) met.source.left told)
-      same is)
+      subst (λ (r : Result Request ℕ). IsSearchTold (λ q. IsJournalled disk q met.words met.tester.after) r (given_in met) met.source.left told) (sym read)
+      (subst (λ (words : List (List ℕ)). IsStreamed (IsSearchOver (IsJournalled disk line.request.now words met.tester.after) line.request.now words
+      met.shelf.files) met.source.left told) same is)
 
   outputs : (ready : Result Ready Fault) → IfOk ready (IsBegunStream line met.shelf.files met.source.left)
       → IfOk ready (λ r. (told : Told) → TellsReady disk line.request.now line.words.now met.tester.after r told
       → IsJournalOutput disk (given_in met) met.source.left told)
   outputs (Ok ready) begins = λ told tells.
-      output told (streamed disk line met.shelf.files met.tester.after met.source.left ready told begins tells)
+      output told (ready_told (IsJournalled disk line.request.now line.words.now met.tester.after) line met.shelf.files ready told tells
+      met.source.left begins)
   outputs (Err fault) begins = tt
 
   pub tests_run : true ≡ tests (request_to_journal met.words)
@@ -126,28 +92,13 @@ unasked remembered answers below all = λ k d low. (all k d low).place
 
 -- ---- the words are refused
 
-usage_status : (told : Told) (word : ℕ) → told ≡ usage word → told.status ≡ status.Usage word
-unfolding usage
-usage_status told word same = ap (λ (t : Told). t.status) same
-
-refused_words : (met : Met) (disk : DiskMet) (fault : WordFault) (word : ℕ) (result : Status) → fault ≡ At word → request_to_journal met.words ≡ Err word
-    → IsUntested met.tester → result ≢ status.ReadFault → result ≢ status.ShelfFault → IsRefused fault met.sink.before met.sink.after result
-    → Answers (to_journal met disk) met result
-refused_words met disk fault word result is read untested r f refused =
-    any.written_output (to_journal met disk) met result r f
-    (any.mapped (λ told. told ≡ usage word) (IsCausedTold (tests (request_to_journal met.words)) met.tester (IsJournalOutput disk (given_in met) met.source.left))
-    met.sink.before met.sink.after result
-    (λ t same. (
-      subst (λ (q : Result Request ℕ). IsJournalFor disk q (given_in met) met.source.left t) (sym read) same,
-      (λ place e. cc (sym (usage_status t word same) ∙ e), λ refused. untested),
-    ))
-    (subst (λ (x : WordFault). IsRefused x met.sink.before met.sink.after result) is refused))
-
-pub refused_any : (met : Met) (disk : DiskMet) (fault : WordFault) (result : Status) → IsRead (request_to_journal met.words) (Err fault)
-    → IsUntested met.tester → (result ≢ status.ReadFault) × (result ≢ status.ShelfFault) → IsRefused fault met.sink.before met.sink.after result
-    → Answers (to_journal met disk) met result
-refused_any met disk (At word) result read untested own refused = refused_words met disk (At word) word result refl read untested own.0 own.1 refused
-refused_any met disk words.NoMemory result read untested own (e, kept) = subst (Answers (to_journal met disk) met) (sym e) (inl kept)
+pub refused : (met : Met) (disk : DiskMet) (fault : WordFault) (result : Status) (answer : Result Answer Fault)
+    → IsRead (request_to_journal met.words) (Err fault) → IsUntested met.tester → IfOk answer (SaysWord fault) → IfOk answer IsWholeAnswer
+    → (IsErrOf answer Read → ⊥) × (IsErrOf answer Shelf → ⊥) → SaysAnswer answer met.sink result → Answers (to_journal met disk) met result
+refused met disk fault result answer read untested tells whole memory said =
+    said_answer (to_journal met disk) met result answer untested
+    (word_told (λ q t. IsStreamed (IsSearchOver (IsJournalled disk q met.words met.tester.after) q met.words met.shelf.files) met.source.left t)
+    (request_to_journal met.words) fault answer read tells) whole (λ e. absurd (memory.0 e)) (λ e. absurd (memory.1 e)) said
 
 -- ---- a tester that remembers nothing more
 

@@ -1,19 +1,18 @@
 -- What a call of `journal` asks for, and what it is told.
 use Rattle.std.specs.Prelude.{true, ◌≡◌, ◌≢◌, ℕ, List, [], length, All, Option, None, Result, Ok, Err}
-use Rattle.bf_answers.specs.Answers.{Command}
+use Rattle.bf_answers.specs.Answers.{Command, asking}
 use Rattle.bf_answers.specs.Devices.{Met, SinkMet, TesterMet, given_in}
 use Rattle.bf_answers.specs.Ready.{Concludes}
 use Rattle.bf_answers.specs.declared.answer.Fault.{Fault}
 use Rattle.bf_answers.specs.declared.line.Line.{Line}
 use Rattle.bf_answers.specs.declared.started.Ready.{Ready}
 use Rattle.bf_answers.specs.declared.started.Ready.TheVariants.{Told as ToldAnswer, Search}
-use Rattle.bf_answers.specs.Tellings.{begun_of, told_of}
+use Rattle.bf_begin.specs.Opening.{IsReadyTold}
 use Rattle.bf_commands.specs.Journal.{DiskMet, IsJournalOutput, IsJournalled, Opens, identity_of, request_to_journal}
 use Rattle.bf_commands.specs.Journal.Opened.{Kept}
 use Rattle.bf_grammar.specs.Limits.{standard_limits}
 use Rattle.bf_history.specs.Imports.{MayImport}
 use Rattle.bf_history.specs.Meanings.{History}
-use Rattle.bf_output.specs.Output.{asks_file, reads, tests}
 use Rattle.bf_output.specs.Shown.{TesterShown}
 use Rattle.bf_output.specs.Told.{Told}
 use Rattle.bf_output.specs.declared.status.Status.{Status}
@@ -26,12 +25,7 @@ use Rattle.bf_journal_run.specs.Searching.{IsRecalledIn}
 
 -- the command of these words, on this disk
 abbrev pub to_journal : Met → DiskMet → Command
-to_journal met disk = record {
-  Tells = IsJournalOutput disk (given_in met) met.source.left;
-  reads = reads (request_to_journal met.words);
-  loads = asks_file (request_to_journal met.words);
-  tests = tests (request_to_journal met.words);
-}
+to_journal met disk = asking (request_to_journal met.words) (IsJournalOutput disk (given_in met) met.source.left)
 
 -- ---- what the tester remembers
 
@@ -55,8 +49,7 @@ AreUnasked recalled below = All (λ a. outcome_at recalled a.place ≡ None) bel
 
 -- an answer as it is, or what the journal makes of a search
 abbrev pub TellsReady : DiskMet → Request → List (List ℕ) → TesterShown → Ready → Told → Type 0
-TellsReady disk request words tested (ToldAnswer answer) told = told ≡ told_of answer
-TellsReady disk request words tested (Search started) told = IsJournalled disk request words tested started.history (begun_of started.first) told
+TellsReady disk request words tested ready told = IsReadyTold (IsJournalled disk request words tested) ready told
 
 -- What is ready was told, or a front of it; or the line of what stood in its way was written, and nothing was tested.
 abbrev pub ConcludesReady : DiskMet → Line → TesterMet → Result Ready Fault → SinkMet → Status → Type 0

@@ -3,5 +3,4 @@ pub mod Held
 pub mod Journalling
 pub mod Kept
 pub mod Legs
-pub mod Preparing
 pub mod Searching

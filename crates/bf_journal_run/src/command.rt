@@ -2,7 +2,7 @@
 ghost use Rattle.std.specs.Prelude.{◌≡◌, ◌≢◌, ℕ, [], false, true, IfOk, IsTrue};
 ghost use Rattle.bf_answers.specs.Answers.{Answers, HasTestCause, IsComplete, IsUntestedIfRefused};
 ghost use Rattle.bf_answers.specs.Devices.{IsLeftUnless, met, met_shelf, met_sink, met_source, met_tester};
-ghost use Rattle.bf_answers.specs.Ready.{IsRefused, IsSound};
+ghost use Rattle.bf_answers.specs.Ready.{IsSound};
 ghost use Rattle.bf_commands.specs.Journal.{request_to_journal};
 ghost use Rattle.bf_io.specs.Causes.{Rose};
 ghost use Rattle.bf_journal_run.specs.Held.{IsHeldBy, IsHeldReady};
@@ -14,15 +14,14 @@ ghost use Rattle.bf_output.specs.Shown.{IsUsed, shown_by};
 ghost use Rattle.bf_journal.specs.Recalling.{remembering};
 ghost use Rattle.bf_words.specs.declared.verb.Verb.TheVariants.{Run};
 
-use crate::prepare::prepare;
 use crate::search::search;
 use crate::words::read_line;
-use bf_answers::{Fault, Line, Ready, say, say_answer, usage};
+use bf_answers::{Fault, Line, Means, Ready, say_answer, word_refusal};
+use bf_begin::open_search;
 use bf_io::{Shelf, Sink, Source, Word};
 use bf_journal::{Disk, Recall};
 use bf_output::Status;
 use bf_tester::{Host, Tester};
-use bf_words::WordFault;
 use std::alloc::Global;
 
 /// Runs the line of `run` behind the first word, keeps its outcomes on the disk, and goes on from those that the
@@ -95,27 +94,10 @@ pub fn journal<R: Host, S: Source, F: Shelf, T: Tester, J: Disk, K: Sink>(
                 request: &request,
                 words,
             };
-            let ready = prepare(line, stream, shelf);
+            let ready = open_search(line, Means::Command, stream, shelf);
             conclude(rt, line, ready, tester, disk, out)
         }
-        Err(fault) => refuse_words(alloc, fault, out),
-    }
-}
-
-/// Writes the refusal of the words, and gives the status.
-fn refuse_words<K: Sink>(alloc: Global, fault: WordFault, out: &mut K) -> Status
-    ensures told { IsRefused fault (K.held out.old) (K.held out.new) result }
-    ensures own { (result ≢ Status.ReadFault) × (result ≢ Status.ShelfFault) }
-    ensures no_disk { result ≢ Status.JournalFault }
-    ensures no_test { (place : ℕ) → result ≢ Status.TestFault place }
-    ensures write { result ≡ Status.WriteFault → Rose (K.faults out.old) (K.faults out.new) }
-{
-    let WordFault::At { word } = fault else {
-        return Status::NoMemory;
-    };
-    match usage(alloc, word) {
-        Ok(answer) => say(out, answer.text.as_slice(), answer.status),
-        Err(_) => Status::NoMemory,
+        Err(fault) => say_answer(out, word_refusal(alloc, fault)),
     }
 }
 

@@ -5,7 +5,6 @@ mod command;
 mod cut;
 mod keep;
 mod legs;
-mod prepare;
 mod search;
 mod words;
 

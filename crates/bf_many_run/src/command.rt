@@ -1,22 +1,19 @@
 //! The command `many`.
 ghost use Rattle.std.specs.Prelude.{◌≡◌, ◌≢◌, ℕ, ◌≤◌, length, Some, IfOk, IfErr, IfSome, IsErrOf, IsTrue};
 ghost use Rattle.bf_io.specs.Causes.{FailsOnlyAt, Rose};
-ghost use Rattle.bf_output.specs.Logs.{file_or_refusal};
 ghost use Rattle.bf_output.specs.Shown.{TesterShown};
 ghost use Rattle.bf_answers.specs.Answers.{Answers, IsComplete, IsWholeAnswer};
 ghost use Rattle.bf_answers.specs.Devices.{IsLeftUnless, met_shelf, met_sink, met_source, met_untested};
-ghost use Rattle.bf_begin.specs.Files.{given_of};
 ghost use Rattle.bf_commands.specs.Many as many;
 ghost use Rattle.bf_many_run.specs.Command.{IsAsked, IsCount, loads_list, to_many};
-ghost use Rattle.bf_many_run.specs.Tells.{TellsFile, TellsListed, TellsOutput, TellsStreamed, TellsText};
+ghost use Rattle.bf_many_run.specs.Tells.{TellsOutput, TellsStreamed, TellsText};
 
 use crate::group::search_all;
 use crate::list::{ListFault, read_list};
 use crate::text::list_refusal;
-use bf_answers::{Answer, Fault, Stop, refusal, say_answer, usage, word_at};
-use bf_begin::{LogFile, load_word, text_of};
-use bf_grammar::Limits;
-use bf_import::{History, import};
+use bf_answers::{Answer, Fault, say_answer, usage, word_at};
+use bf_begin::{OpenedText, open_text};
+use bf_import::History;
 use bf_io::{Shelf, Sink, Source, Word, decimal};
 use bf_output::Status;
 use bf_tester::Host;
@@ -128,13 +125,13 @@ fn answer<R: Host, S: Source, F: Shelf>(
                 words,
                 workers,
             };
-            many_stream(rt, line, stream, shelf)
+            many_file(rt, line, stream, shelf)
         }
     }
 }
 
-/// What is answered over the stream, which is read to its end.
-fn many_stream<R: Host, S: Source, F: Shelf>(
+/// What is answered to the file that word 2 names, over the stream.
+fn many_file<R: Host, S: Source, F: Shelf>(
     rt: &R,
     line: ManyLine<'_>,
     stream: &mut S,
@@ -147,46 +144,10 @@ fn many_stream<R: Host, S: Source, F: Shelf>(
     ensures cause { FailsOnlyAt Fault.Read (S.faults stream.old) (S.faults stream.new) result }
     ensures file { FailsOnlyAt Fault.Shelf (F.faults shelf.old) (F.faults shelf.new) result }
 {
-    match import(line.alloc, stream, Limits::standard()) {
-        Ok(history) => many_over(rt, line, &history, shelf),
-        Err(fault) => refusal(line.alloc, fault),
-    }
-}
-
-/// What is answered over a history.
-fn many_over<R: Host, F: Shelf>(
-    rt: &R,
-    line: ManyLine<'_>,
-    history: &History,
-    shelf: &mut F,
-) -> Result<Answer, Fault>
-    requires workers { IsCount line.workers }
-    ensures tells { IfOk result (TellsListed line.entry.words.now (F.files shelf.old)
-        history.now) }
-    ensures whole { IfOk result IsWholeAnswer }
-    ensures no_read { IsErrOf result Fault.Read → ⊥ }
-    ensures file { FailsOnlyAt Fault.Shelf (F.faults shelf.old) (F.faults shelf.new) result }
-{
-    let file = load_word(line.words, 2, shelf)?;
-    many_file(rt, line, history, &file)
-}
-
-/// What is answered to a file.
-fn many_file<R: Host>(
-    rt: &R,
-    line: ManyLine<'_>,
-    history: &History,
-    file: &LogFile,
-) -> Result<Answer, Fault>
-    requires workers { IsCount line.workers }
-    ensures tells { IfOk result (TellsFile history.now (file_or_refusal (given_of file.now))) }
-    ensures whole { IfOk result IsWholeAnswer }
-    ensures memory { (IsErrOf result Fault.Read → ⊥) × (IsErrOf result Fault.Shelf → ⊥) }
-{
-    match text_of(line.alloc, file) {
-        Ok(text) => many_text(rt, line, history, text),
-        Err(Stop::Refused(answer)) => Ok(answer),
-        Err(Stop::NoMemory) => Err(Fault::NoMemory),
+    let opened = open_text(line.alloc, line.words, 2, stream, shelf)?;
+    match opened {
+        OpenedText::Over(history, text) => many_text(rt, line, &history, text.as_slice()),
+        OpenedText::Refused(answer) => Ok(answer),
     }
 }
 

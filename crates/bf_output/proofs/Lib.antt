@@ -12,4 +12,3 @@ pub mod Runs
 mod Skips
 mod Started
 mod Unused
-pub mod Inputs

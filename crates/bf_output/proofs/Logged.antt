@@ -33,9 +33,9 @@ use Rattle.bf_output.specs.Beginning.{Begun, name_or_refusal, named, named_if_gi
 use Rattle.bf_output.specs.Beginning.{begun_by_words, begun_by_log, begun_by, commits_of, with_ends, begun_with_skips, has_ends}
 use Rattle.bf_output.specs.Logged.{EndsSearch, IsFileGiven, IsGivenBack, searches, AreOutcomesOf, IsLogged, told_as}
 use Rattle.bf_output.specs.Logs.{file_or_refusal, lines_or_refusal, replayed_or_refusal, replayed_log}
-use Rattle.bf_output.specs.Output.{Given, IsOverFile, IsOverLog, IsOverLoaded, IsOverStream, IsOutput, IsOutputFor, IsOutputOf, IsSearched, IsSearchedFrom}
-use Rattle.bf_output.specs.Inputs.{file_of}
-use Rattle.bf_output.specs.Refusals.{name_refused, no_content, refused_at, waiting, refusal, too_large, log_refused}
+use Rattle.bf_output.specs.Output.{Given, IsOver, IsOverFile, IsOutput, IsOutputOf, IsSearched}
+use Rattle.bf_output.specs.Inputs.{IsFiledIf, IsStreamed, IsToldFrom, IsToldOr, file_of}
+use Rattle.bf_output.specs.Refusals.{name_refused, no_content, refused_at, waiting, refusal, too_large, log_refused, usage}
 use Rattle.bf_output.specs.Returning.{FileGiven, HasTerms}
 use Rattle.bf_output.specs.Simulate.{IsRunTold, IsSimulated, plan_of, ran, run_over}
 use Rattle.bf_output.specs.Shown.{TesterShown}
@@ -219,7 +219,7 @@ searched_begins Sample request words tested history first told ends is = absurd 
 
 -- what a search tells is told over a stream, and from where it begins
 over_stream : (verb : Verb) (request : Request) (given : Given) (stream : Option (List ℕ)) (told : Told) → searches verb ≡ true
-    → IsOutputOf verb request given stream told → IsOverStream request given stream told
+    → IsOutputOf verb request given stream told → IsStreamed (IsOver request given) stream told
 over_stream Simulate request given stream told e is = is
 over_stream Run request given stream told e is = is
 over_stream Next request given stream told e is = absurd (cc)
@@ -229,7 +229,7 @@ over_stream Sample request given stream told e is = absurd (cc)
 
 from_beginning : (verb : Verb) (request : Request) (words : List (List ℕ)) (tested : TesterShown) (file : FileGiven) (history : History) (told : Told)
     → searches verb ≡ true → IsOverFile verb request words tested file history told
-    → IsSearchedFrom (begun_with_skips request words file history) verb request words tested history told
+    → IsToldFrom (IsSearched verb request words tested history) (begun_with_skips request words file history) told
 from_beginning Simulate request words tested file history told e is = is
 from_beginning Run request words tested file history told e is = is
 from_beginning Next request words tested file history told e is = absurd (cc)
@@ -269,7 +269,7 @@ module _ (request : Request) (words : List (List ℕ)) (read : asked.request wor
       by_words none = subst (λ (f : FileGiven). begun_with_skips request words f history ≡ Ok first) none begins
 
   from_search : (file : FileGiven) (history : History) (begun : Result Begun Told) → begun_with_skips request words file history ≡ begun
-      → Loads bytes standard_limits (Ok history) → IsSearchedFrom begun request.verb request words tested history told
+      → Loads bytes standard_limits (Ok history) → IsToldFrom (IsSearched request.verb request words tested history) begun told
       → IsLogged request words tested file bytes told
   from_search file history (Err refused) e loads is =
       absurd (subst NeverEnds e (begun_ends request words file history) (subst (λ (t : Told). EndsSearch t.status) is ends))
@@ -277,7 +277,7 @@ module _ (request : Request) (words : List (List ℕ)) (read : asked.request wor
       returning file history first loads e (searched_begins request.verb request words tested history first told ends is)
 
   from_log : (files : Option (List ShelfFile)) (history : History) (file : FileGiven) (replay : Option ℕ) → IsFileGiven replay words files file
-      → IsOverLog replay request (record { words = words; files = files; tested = tested }) history told
+      → IsFiledIf (λ f t. IsOverFile request.verb request words tested f history t) words replay files told
       → IsOverFile request.verb request words tested file history told
   from_log files history file None none is =
       subst (λ (f : FileGiven). IsOverFile request.verb request words tested f history told) (sym none) is
@@ -289,7 +289,7 @@ module _ (request : Request) (words : List (List ℕ)) (read : asked.request wor
 
   from_loaded : (files : Option (List ShelfFile)) (file : FileGiven) → IsFileGiven request.replay words files file → searches request.verb ≡ true
       → (result : Result History ImportFault) → Loads bytes standard_limits result
-      → IsOverLoaded request (record { words = words; files = files; tested = tested }) result told
+      → IsToldOr refusal (IsOver request (record { words = words; files = files; tested = tested })) result told
       → IsLogged request words tested file bytes told
   from_loaded files file given_so does (Err fault) loads is =
       absurd (import_ends fault (subst (λ (t : Told). EndsSearch t.status) is ends))
@@ -303,8 +303,8 @@ pub logged : (given : Given) (bytes : List ℕ) (file : FileGiven) (request : Re
     → IsOutput given (Some bytes) told → IsLogged request given.words given.tested file bytes told
 logged given bytes file request told read does given_so ends is =
     let output : IsOutputOf request.verb request given (Some bytes) told =
-    subst (λ (r : Result Request ℕ). IsOutputFor r given (Some bytes) told) read is in
-    let over : IsOverStream request given (Some bytes) told = over_stream request.verb request given (Some bytes) told does output in
+    subst (λ (r : Result Request ℕ). IsToldOr usage (λ (q : Request) (t : Told). IsOutputOf q.verb q given (Some bytes) t) r told) read is in
+    let over : IsStreamed (IsOver request given) (Some bytes) told = over_stream request.verb request given (Some bytes) told does output in
     from_loaded request given.words read given.tested bytes told ends given.files file given_so does over.0 over.1 over.2
 
 -- ---- every run that tests tell

@@ -34,8 +34,8 @@ use Rattle.bf_tester.specs.declared.answer.Answer.{Answer}
 use Rattle.bf_output.specs.Beginning.{Begun, begun_with_skips}
 use Rattle.bf_output.specs.Gen.{generated, made_stream}
 use Rattle.bf_output.specs.Next.{next_told}
-use Rattle.bf_output.specs.Output.{Given, given_to, IsOverFile, IsOverLog, IsOverLoaded, IsOverBytes, IsSearchedFrom, IsOutputOf, IsOutputFor, is_run}
-use Rattle.bf_output.specs.Inputs.{file_of}
+use Rattle.bf_output.specs.Output.{Given, given_to, IsOver, IsOverFile, IsOutputOf, IsSearched, is_run}
+use Rattle.bf_output.specs.Inputs.{IsFiledIf, IsReadAs, IsToldFrom, IsToldOr, file_of}
 use Rattle.bf_output.specs.Output.{tests, traces}
 use Rattle.bf_output.specs.Refusals.{usage, refusal}
 use Rattle.bf_output.specs.Replay.{replay_told}
@@ -62,6 +62,14 @@ some_loading bytes limits =
     let (commands, end, goes) = some_continuation limits (suc (length place.rest)) place (omega arith) in
     (loaded limits (nothing_loaded limits) commands end, (commands, end, goes, refl))
 
+-- what is told behind the log that the words name, and of the words
+abbrev IsBehind : Option ℕ → Request → Given → History → Told → Type 0
+IsBehind replay request given history told =
+    IsFiledIf (λ file t. IsOverFile request.verb request given.words given.tested file history t) given.words replay given.files told
+
+abbrev IsAskedFor : Result Request ℕ → Given → Option (List ℕ) → Told → Type 0
+IsAskedFor read given stream told = IsToldOr usage (λ (asked : Request) (t : Told). IsOutputOf asked.verb asked given stream t) read told
+
 -- ---- over a history
 
 -- without a trace, a run over a plan that was not cut short is told in one way
@@ -78,7 +86,7 @@ module _ (told other : Told) (whole : told.status ≢ status.WriteFault) (also_w
   given = given_to words (Some files) tested
 
   one_from : (begun : Result Begun Told) (request : Request) (history : History) → request.trace ≡ false
-      → IsSearchedFrom begun Simulate request words tested history told → IsSearchedFrom begun Simulate request words tested history other → told ≡ other
+      → IsToldFrom (IsSearched Simulate request words tested history) begun told → IsToldFrom (IsSearched Simulate request words tested history) begun other → told ≡ other
   one_from (Err refusal) request history untraced is also = is ∙ sym also
   one_from (Ok first) request history untraced is also =
       run_text request words history first told untraced whole is ∙ sym (run_text request words history first other untraced also_whole also)
@@ -93,21 +101,21 @@ module _ (told other : Told) (whole : told.status ≢ status.WriteFault) (also_w
   one_over Sample request file history untested untraced is also = is ∙ sym also
 
   one_log : (replay : Option ℕ) (request : Request) (history : History) → is_run request.verb ≡ false → request.trace ≡ false
-      → IsOverLog replay request given history told → IsOverLog replay request given history other → told ≡ other
+      → IsBehind replay request given history told → IsBehind replay request given history other → told ≡ other
   one_log None request history untested untraced is also = one_over request.verb request None history untested untraced is also
   one_log (Some i) request history untested untraced is also =
       one_over request.verb request (Some (file_of words i files)) history untested untraced is also
 
   one_loaded : (request : Request) (result : Result History ImportFault) → is_run request.verb ≡ false → request.trace ≡ false
-      → IsOverLoaded request given result told → IsOverLoaded request given result other → told ≡ other
+      → IsToldOr refusal (IsOver request given) result told → IsToldOr refusal (IsOver request given) result other → told ≡ other
   one_loaded request (Ok history) untested untraced is also = one_log request.replay request history untested untraced is also
   one_loaded request (Err fault) untested untraced is also = is ∙ sym also
 
   one_over_bytes : (request : Request) (bytes : List ℕ) → is_run request.verb ≡ false → request.trace ≡ false
-      → IsOverBytes request given bytes told → IsOverBytes request given bytes other → told ≡ other
+      → IsReadAs (IsOver request given) bytes told → IsReadAs (IsOver request given) bytes other → told ≡ other
   one_over_bytes request bytes untested untraced (result, loads, is) (again, reloads, also) =
       one_loaded request again untested untraced
-      (subst (λ (r : Result History ImportFault). IsOverLoaded request given r told) (one_loading bytes standard_limits result again loads reloads) is) also
+      (subst (λ (r : Result History ImportFault). IsToldOr refusal (IsOver request given) r told) (one_loading bytes standard_limits result again loads reloads) is) also
 
   one_of : (verb : Verb) (request : Request) (bytes : List ℕ) → is_run request.verb ≡ false → request.trace ≡ false
       → IsOutputOf verb request given (Some bytes) told → IsOutputOf verb request given (Some bytes) other → told ≡ other
@@ -119,7 +127,7 @@ module _ (told other : Told) (whole : told.status ≢ status.WriteFault) (also_w
   one_of Sample request bytes untested untraced is also = one_over_bytes request (made_stream request) untested untraced is also
 
   pub one_for : (read : Result Request ℕ) (bytes : List ℕ) → tests read ≡ false → traces read ≡ false
-      → IsOutputFor read given (Some bytes) told → IsOutputFor read given (Some bytes) other → told ≡ other
+      → IsAskedFor read given (Some bytes) told → IsAskedFor read given (Some bytes) other → told ≡ other
   one_for (Err word) bytes untested untraced is also = is ∙ sym also
   one_for (Ok request) bytes untested untraced is also = one_of request.verb request bytes untested untraced is also
 
@@ -193,13 +201,13 @@ module _ (words : List (List ℕ)) (files : List ShelfFile) (tested : TesterShow
   some_given = given_to words (Some files) tested
 
   some_simulated : (begun : Result Begun Told) (request : Request) (history : History) → request.trace ≡ false
-      → (told : Told) × IsSearchedFrom begun Simulate request words tested history told
+      → (told : Told) × IsToldFrom (IsSearched Simulate request words tested history) begun told
   some_simulated (Err refusal) request history untraced = (refusal, refl)
   some_simulated (Ok first) request history untraced =
       let told = ran history first (run_over history first (plan_of request words)) in
       (told, inl (subst (λ (is_asked : Bool). IsRunTold is_asked request (plan_of request words) history first told) (sym untraced) refl))
 
-  some_tested : (begun : Result Begun Told) (request : Request) (history : History) → (told : Told) × IsSearchedFrom begun Run request words tested history told
+  some_tested : (begun : Result Begun Told) (request : Request) (history : History) → (told : Told) × IsToldFrom (IsSearched Run request words tested history) begun told
   some_tested (Err refusal) request history = (refusal, refl)
   some_tested (Ok first) request history = (_, inl (nothing_tested request tested history first none))
 
@@ -213,15 +221,15 @@ module _ (words : List (List ℕ)) (files : List ShelfFile) (tested : TesterShow
   some_over Sample request file history untraced = (sampled request history, refl)
 
   some_log : (replay : Option ℕ) (request : Request) (history : History) → request.trace ≡ false
-      → (told : Told) × IsOverLog replay request some_given history told
+      → (told : Told) × IsBehind replay request some_given history told
   some_log None request history untraced = some_over request.verb request None history untraced
   some_log (Some i) request history untraced = some_over request.verb request (Some (file_of words i files)) history untraced
 
-  some_loaded : (request : Request) (result : Result History ImportFault) → request.trace ≡ false → (told : Told) × IsOverLoaded request some_given result told
+  some_loaded : (request : Request) (result : Result History ImportFault) → request.trace ≡ false → (told : Told) × IsToldOr refusal (IsOver request some_given) result told
   some_loaded request (Ok history) untraced = some_log request.replay request history untraced
   some_loaded request (Err fault) untraced = (refusal fault, refl)
 
-  some_over_bytes : (request : Request) (bytes : List ℕ) → request.trace ≡ false → (told : Told) × IsOverBytes request some_given bytes told
+  some_over_bytes : (request : Request) (bytes : List ℕ) → request.trace ≡ false → (told : Told) × IsReadAs (IsOver request some_given) bytes told
   some_over_bytes request bytes untraced =
       let found = some_loading bytes standard_limits in
       let answer = some_loaded request found.0 untraced in
@@ -235,6 +243,6 @@ module _ (words : List (List ℕ)) (files : List ShelfFile) (tested : TesterShow
   some_of Gen request bytes untraced = (generated request, refl)
   some_of Sample request bytes untraced = some_over_bytes request (made_stream request) untraced
 
-  pub some_for : (read : Result Request ℕ) (bytes : List ℕ) → traces read ≡ false → (told : Told) × IsOutputFor read some_given (Some bytes) told
+  pub some_for : (read : Result Request ℕ) (bytes : List ℕ) → traces read ≡ false → (told : Told) × IsAskedFor read some_given (Some bytes) told
   some_for (Err word) bytes untraced = (usage word, refl)
   some_for (Ok request) bytes untraced = some_of request.verb request bytes untraced

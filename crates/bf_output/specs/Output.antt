@@ -1,7 +1,6 @@
 -- What the program answers for its words, its stream and its files, in the order of its refusals: the words, the stream to its
 -- end, the log that is replayed, the names, an end that is missing, and then the run.
 use Rattle.std.specs.Prelude.{◌≡◌, ◌⊎◌, ℕ, Bool, true, false, List, Option, Some, None, is_some, Result, Ok, Err}
-use Rattle.bf_history.specs.declared.fault.ImportFault.{ImportFault}
 use Rattle.bf_history.specs.Meanings.{History}
 use Rattle.bf_words.specs.declared.request.Request.{Request}
 use Rattle.bf_words.specs.declared.verb.Verb.{Verb}
@@ -11,7 +10,7 @@ use Rattle.bf_io.specs.declared.shelf.ShelfFile.{ShelfFile}
 use Rattle.bf_words.specs.Words.{request}
 use Rattle.bf_output.specs.Beginning.{Begun, begun_with_skips}
 use Rattle.bf_output.specs.Gen.{generated, made_stream}
-use Rattle.bf_output.specs.Inputs.{IsFiled, IsReadAs, IsStreamed, IsToldOver}
+use Rattle.bf_output.specs.Inputs.{IsFiledIf, IsReadAs, IsStreamed, IsToldFrom, IsToldOr}
 use Rattle.bf_output.specs.Next.{next_told}
 use Rattle.bf_output.specs.Refusals.{usage}
 use Rattle.bf_output.specs.Replay.{replay_told}
@@ -38,72 +37,50 @@ IsSearched Simulate request words tested history first told = IsSimulated reques
 IsSearched Run request words tested history first told =
     IsTestedRun request tested history first told
     ⊎ (IsTestCut request tested history first told ⊎ IsTestLost tested history first told)
-IsSearched Next request words tested history first told = ⊥
-IsSearched Replay request words tested history first told = ⊥
-IsSearched Gen request words tested history first told = ⊥
-IsSearched Sample request words tested history first told = ⊥
-
--- a search that did not begin is refused
-abbrev pub IsSearchedFrom : Result Begun Told → Verb → Request → List (List ℕ) → TesterShown → History → Told → Type 0
-IsSearchedFrom (Err refusal) verb request words tested history told = told ≡ refusal
-IsSearchedFrom (Ok first) verb request words tested history told = IsSearched verb request words tested history first told
+IsSearched other request words tested history first told = ⊥
 
 -- what a command answers over a history and the file that it is given; `gen` looks at none
 abbrev pub IsOverFile : Verb → Request → List (List ℕ) → TesterShown → Option (Result (List ℕ) LoadFault) → History → Told → Type 0
 IsOverFile Simulate request words tested file history told =
-    IsSearchedFrom (begun_with_skips request words file history) Simulate request words tested history told
+    IsToldFrom (IsSearched Simulate request words tested history) (begun_with_skips request words file history) told
 IsOverFile Run request words tested file history told =
-    IsSearchedFrom (begun_with_skips request words file history) Run request words tested history told
+    IsToldFrom (IsSearched Run request words tested history) (begun_with_skips request words file history) told
 IsOverFile Next request words tested file history told = told ≡ told_by (next_told request words file history)
 IsOverFile Replay request words tested file history told = told ≡ told_by (replay_told file history)
 IsOverFile Gen request words tested file history told = told ≡ generated request
 IsOverFile Sample request words tested file history told = told ≡ sampled request history
 
--- Where the words name a log, the shelf gives it; where it does not tell its files, nothing is said of the answer.
-abbrev pub IsOverLog : Option ℕ → Request → Given → History → Told → Type 0
-IsOverLog None request given history told = IsOverFile request.verb request given.words given.tested None history told
-IsOverLog (Some i) request given history told =
-    IsFiled (λ file told. IsOverFile request.verb request given.words given.tested (Some file) history told) given.words i given.files told
-
+-- behind the log that the words name, or without one
 abbrev pub IsOver : Request → Given → History → Told → Type 0
-IsOver request given history told = IsOverLog request.replay request given history told
+IsOver request given history told =
+    IsFiledIf (λ file told. IsOverFile request.verb request given.words given.tested file history told) given.words request.replay given.files told
 
-abbrev pub IsOverLoaded : Request → Given → Result History ImportFault → Told → Type 0
-IsOverLoaded request given result told = IsToldOver (IsOver request given) result told
-
--- the bytes of a stream are read to its end
-abbrev pub IsOverBytes : Request → Given → List ℕ → Told → Type 0
-IsOverBytes request given bytes told = IsReadAs (IsOver request given) bytes told
-
-abbrev pub IsOverStream : Request → Given → Option (List ℕ) → Told → Type 0
-IsOverStream request given stream told = IsStreamed (IsOver request given) stream told
+-- what is told of a search that words begin over a history, whatever command tells it
+abbrev pub IsSearchOver : (History → Begun → Told → Type 0) → Request → List (List ℕ) → Option (List ShelfFile) → History → Told → Type 0
+IsSearchOver IsTold request words files history told =
+    IsFiledIf (λ file told. IsToldFrom (IsTold history) (begun_with_skips request words file history) told) words request.replay files told
 
 -- ---- by the words
 
 -- the commands that read the stream; the others have theirs from a number
 abbrev pub reads_stream : Verb → Bool
-reads_stream Simulate = true
-reads_stream Run = true
-reads_stream Next = true
-reads_stream Replay = true
 reads_stream Gen = false
 reads_stream Sample = false
+reads_stream other = true
 
 abbrev pub IsOutputOf : Verb → Request → Given → Option (List ℕ) → Told → Type 0
-IsOutputOf Simulate request given stream told = IsOverStream request given stream told
-IsOutputOf Run request given stream told = IsOverStream request given stream told
-IsOutputOf Next request given stream told = IsOverStream request given stream told
-IsOutputOf Replay request given stream told = IsOverStream request given stream told
 IsOutputOf Gen request given stream told = told ≡ generated request
-IsOutputOf Sample request given stream told = IsOverBytes request given (made_stream request) told
+IsOutputOf Sample request given stream told = IsReadAs (IsOver request given) (made_stream request) told
+IsOutputOf other request given stream told = IsStreamed (IsOver request given) stream told
 
 -- the words come first
-abbrev pub IsOutputFor : Result Request ℕ → Given → Option (List ℕ) → Told → Type 0
-IsOutputFor (Err word) given stream told = told ≡ usage word
-IsOutputFor (Ok request) given stream told = IsOutputOf request.verb request given stream told
-
 abbrev pub IsOutput : Given → Option (List ℕ) → Told → Type 0
-IsOutput given stream told = IsOutputFor (request given.words) given stream told
+IsOutput given stream told = IsToldOr usage (λ (asked : Request) (other : Told). IsOutputOf asked.verb asked given stream other) (request given.words) told
+
+-- a search that other words ask for, whatever command tells it
+abbrev pub IsSearchTold : (Request → History → Begun → Told → Type 0) → Result Request ℕ → Given → Option (List ℕ) → Told → Type 0
+IsSearchTold IsTold read given stream told =
+    IsToldOr usage (λ (asked : Request) (other : Told). IsStreamed (IsSearchOver (IsTold asked) asked given.words given.files) stream other) read told
 
 -- whether the words ask for a command that reads the stream
 abbrev pub reads : Result Request ℕ → Bool
@@ -117,12 +94,8 @@ asks_file (Ok request) = is_some request.replay
 
 -- whether the words ask for a command that tests commits
 abbrev pub is_run : Verb → Bool
-is_run Simulate = false
 is_run Run = true
-is_run Next = false
-is_run Replay = false
-is_run Gen = false
-is_run Sample = false
+is_run other = false
 
 abbrev pub tests : Result Request ℕ → Bool
 tests (Err word) = false

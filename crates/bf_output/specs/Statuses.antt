@@ -45,30 +45,21 @@ pub data Stage : Type 0 where
   Ended : Stage  -- its search came to an end, or its command did what it was asked
   Cut : Stage  -- a test, a write or a journal failed, or memory ran out
 
+-- each status that is not named here is a refusal
 abbrev pub stage_of : Status → Stage
 stage_of Done = Ended
-stage_of (Usage word) = Refused
 stage_of OnlySkipped = Ended
 stage_of MergeBaseBad = Ended
 stage_of GoodNotAncestor = Ended
 stage_of BothSides = Ended
 stage_of Aborted = Ended
-stage_of (StreamRefused line refusal) = Refused
-stage_of (NameRefused word fault) = Refused
-stage_of (TooLarge what) = Refused
-stage_of (LogRefused line) = Refused
-stage_of (TestFault place) = Cut
 stage_of ReadFault = Unread
-stage_of WriteFault = Cut
 stage_of ShelfFault = Unread
+stage_of (TestFault place) = Cut
+stage_of WriteFault = Cut
 stage_of NoMemory = Cut
-stage_of NoFile = Refused
-stage_of Waiting = Refused
-stage_of (NoContent line) = Refused
-stage_of (CertRefused line) = Refused
-stage_of (JournalRefused kept) = Refused
 stage_of JournalFault = Cut
-stage_of (ListRefused line) = Refused
+stage_of other = Refused
 
 abbrev pub words_of_kind : StreamKind → List ℕ
 words_of_kind kind.Syntax = codes "syntax"

@@ -1,21 +1,24 @@
 -- From what a line is answered to what the program answers.
-use Rattle.std.proofs.Common.{◌≡◌, ◌≢◌, ℕ, Result, Ok, Err, IfOk, IsErrOf, IsTrue, is_some, inl, refl, ap, subst, sym, ◌∙◌}
+use Rattle.std.proofs.Common.{◌≡◌, ◌≢◌, ℕ, Result, Ok, Err, IfOk, IsErrOf, IsTrue, is_some, subst, sym}
 use Rattle.bf_output.specs.declared.status.Status.{Status}
 use Rattle.bf_output.specs.declared.status.Status.TheVariants as status
-use Rattle.bf_output.specs.Output.{IsOutput, IsOutputFor, IsOutputOf, asks_file, given_to, is_run, reads, reads_stream, tests}
+use Rattle.bf_output.specs.Inputs.{IsToldOr}
+use Rattle.bf_output.specs.Output.{IsOutput, IsOutputOf, asks_file, given_to, is_run, reads, reads_stream, tests}
 use Rattle.bf_output.specs.Refusals.{usage}
 use Rattle.bf_output.specs.Told.{Told}
 use Rattle.bf_words.specs.declared.request.Request.{Request}
 use Rattle.bf_words.specs.declared.request.WordFault.{WordFault}
-use Rattle.bf_words.specs.declared.request.WordFault.TheVariants.{At}
-use Rattle.bf_words.specs.declared.request.WordFault.TheVariants as words
 use Rattle.bf_words.specs.Words as asked
+use Rattle.bf_answers.specs.declared.answer.Answer.{Answer}
 use Rattle.bf_answers.specs.declared.answer.Fault.{Fault}
 use Rattle.bf_answers.specs.declared.answer.Fault.TheVariants.{Read, Shelf}
 use Rattle.bf_answers.specs.declared.started.Ready.{Ready}
-use Rattle.bf_answers.specs.Answers.{IsUnread, IsUnloaded, IsUntested}
+use Rattle.bf_answers.specs.Answers.{IsUnread, IsUnloaded, IsUntested, IsWholeAnswer}
 use Rattle.bf_answers.specs.Devices.{Met, HasFailed, given_in}
-use Rattle.bf_answers.specs.Ready.{AllTold, Concludes, IsCausedTold, IsRefused, Tells}
+use Rattle.bf_answers.specs.Ready.{AllTold, Concludes, SaysAnswer, Tells}
+use Rattle.bf_answers.specs.Tellings.{SaysWord}
+use Rattle.bf_answers.proofs.Concluding.{said_answer}
+use Rattle.bf_answers.proofs.Streamed.{word_told}
 use Rattle.bf_answers.proofs.Answering as any
 use Rattle.bf_program.specs.Answers.{Answers, asked_in}
 
@@ -23,7 +26,7 @@ use Rattle.bf_program.specs.Answers.{Answers, asked_in}
 
 module _ (met : Met) (request : Request) (result : Status) (read : asked.request met.words ≡ Ok request) where
   is_output : (told : Told) → IsOutputOf request.verb request (given_in met) met.source.left told → IsOutput (given_in met) met.source.left told
-  is_output told is = subst (λ (r : Result Request ℕ). IsOutputFor r (given_in met) met.source.left told) (sym read) is
+  is_output told is = subst (λ (r : Result Request ℕ). IsToldOr usage (λ (q : Request) (t : Told). IsOutputOf q.verb q (given_in met) met.source.left t) r told) (sym read) is
 
   pub unread : IsTrue (reads_stream request.verb) → HasFailed met.source.faults → IsUnread (asked_in met) met
   unread h failed = (subst (λ (r : Result Request ℕ). IsTrue (reads r)) (sym read) h, failed)
@@ -50,24 +53,10 @@ module _ (met : Met) (request : Request) (result : Status) (read : asked.request
 
 -- ---- the words are refused
 
-usage_status : (told : Told) (word : ℕ) → told ≡ usage word → told.status ≡ status.Usage word
-unfolding usage
-usage_status told word same = ap (λ (t : Told). t.status) same
-
-pub refused_words : (met : Met) (fault : WordFault) (word : ℕ) (result : Status) → fault ≡ At word → asked.request met.words ≡ Err word
-    → IsUntested met.tester → result ≢ status.ReadFault → result ≢ status.ShelfFault → IsRefused fault met.sink.before met.sink.after result
-    → Answers met result
-refused_words met fault word result is read untested r f refused =
-    any.written_output (asked_in met) met result r f
-    (any.mapped (λ told. told ≡ usage word) (IsCausedTold (tests (asked.request met.words)) met.tester (IsOutput (given_in met) met.source.left))
-    met.sink.before met.sink.after result
-    (λ t same. (
-      subst (λ (q : Result Request ℕ). IsOutputFor q (given_in met) met.source.left t) (sym read) same,
-      (λ place e. cc (sym (usage_status t word same) ∙ e), λ refused. untested),
-    ))
-    (subst (λ (x : WordFault). IsRefused x met.sink.before met.sink.after result) is refused))
-
-pub refused_any : (met : Met) (fault : WordFault) (result : Status) → asked.IsRead (asked.request met.words) (Err fault) → IsUntested met.tester
-    → (result ≢ status.ReadFault) × (result ≢ status.ShelfFault) → IsRefused fault met.sink.before met.sink.after result → Answers met result
-refused_any met (At word) result read untested own refused = refused_words met (At word) word result refl read untested own.0 own.1 refused
-refused_any met words.NoMemory result read untested own (e, kept) = subst (Answers met) (sym e) (inl kept)
+pub refused : (met : Met) (fault : WordFault) (result : Status) (answer : Result Answer Fault) → asked.IsRead (asked.request met.words) (Err fault)
+    → IsUntested met.tester → IfOk answer (SaysWord fault) → IfOk answer IsWholeAnswer → (IsErrOf answer Read → ⊥) × (IsErrOf answer Shelf → ⊥)
+    → SaysAnswer answer met.sink result → Answers met result
+refused met fault result answer read untested tells whole memory said =
+    said_answer (asked_in met) met result answer untested
+    (word_told (λ q t. IsOutputOf q.verb q (given_in met) met.source.left t) (asked.request met.words) fault answer read tells) whole
+    (λ e. absurd (memory.0 e)) (λ e. absurd (memory.1 e)) said

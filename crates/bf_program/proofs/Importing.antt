@@ -5,7 +5,8 @@ use Rattle.bf_history.specs.declared.fault.ImportFault.{ImportFault}
 use Rattle.bf_history.specs.Imports.{MayImport}
 use Rattle.bf_history.specs.Meanings.{History}
 use Rattle.bf_words.specs.declared.request.Request.{Request}
-use Rattle.bf_output.specs.Output.{given_to, IsOver, IsOverFile, IsOverLog, IsOverStream}
+use Rattle.bf_output.specs.Inputs.{IsStreamed}
+use Rattle.bf_output.specs.Output.{given_to, IsOver}
 use Rattle.bf_output.specs.Refusals.{refusal}
 use Rattle.bf_output.specs.Shown.{TesterShown}
 use Rattle.bf_output.specs.Told.{Told}
@@ -31,16 +32,16 @@ pub all_loaded : (request : Request) (words : List (List ℕ)) (files : Option (
     (result : Result Ready Fault)
     → MayImport left standard_limits (Ok history)
     → IfOk result (λ ready. AllTold request words ready (λ tested told. IsOver request (given_to words files tested) history told))
-    → IfOk result (λ ready. AllTold request words ready (λ tested told. IsOverStream request (given_to words files tested) left told))
+    → IfOk result (λ ready. AllTold request words ready (λ tested told. IsStreamed (IsOver request (given_to words files tested)) left told))
 all_loaded request words files left history (Err cut) may over = tt
 all_loaded request words files left history (Ok ready) may over = λ tested told tells.
     streamed (IsOver request (given_to words files tested)) left history (Ok (answer_of told)) may (over tested told tells)
 
 pub all_refused : (request : Request) (words : List (List ℕ)) (files : Option (List ShelfFile)) (left : Option (List ℕ)) (fault : ImportFault) (answer : Answer)
     → MayImport left standard_limits (Err fault) → IsWhole answer.status → told_of answer ≡ refusal fault
-    → AllTold request words (Told_ answer) (λ tested told. IsOverStream request (given_to words files tested) left told)
+    → AllTold request words (Told_ answer) (λ tested told. IsStreamed (IsOver request (given_to words files tested)) left told)
 all_refused request words files left fault answer may whole is = λ tested told tells.
-    subst (λ (t : Told). IsOverStream request (given_to words files tested) left t) (sym tells)
+    subst (λ (t : Told). IsStreamed (IsOver request (given_to words files tested)) left t) (sym tells)
     (refused (IsOver request (given_to words files tested)) left fault (Ok answer) may whole is)
 
 -- what says this is told so, whatever a tester shows

@@ -1,20 +1,15 @@
 -- What the program may answer and write, where a device fails or memory runs out.
 use Rattle.std.specs.Prelude.{ℕ, List}
 use Rattle.bf_output.specs.declared.status.Status.{Status}
-use Rattle.bf_output.specs.Output.{IsOutput, IsUsedFor, asks_file, reads, tests}
+use Rattle.bf_output.specs.Output.{IsOutput, IsUsedFor, tests}
 use Rattle.bf_words.specs.Words.{request}
 use Rattle.bf_answers.specs.Answers as any
-use Rattle.bf_answers.specs.Answers.{Command, HasTestCause}
+use Rattle.bf_answers.specs.Answers.{Command, HasTestCause, asking}
 use Rattle.bf_answers.specs.Devices.{Met, TesterMet, given_in}
 
 -- the command that the words ask for
 abbrev pub asked_in : Met → Command
-asked_in met = record {
-  Tells = IsOutput (given_in met) met.source.left;
-  reads = reads (request met.words);
-  loads = asks_file (request met.words);
-  tests = tests (request met.words);
-}
+asked_in met = asking (request met.words) (IsOutput (given_in met) met.source.left)
 
 -- what the sink gained, by the status
 abbrev pub Answers : Met → Status → Type 0

@@ -5,7 +5,8 @@ use Rattle.bf_history.specs.Meanings.{History}
 use Rattle.bf_output.specs.Beginning.{Begun}
 use Rattle.bf_output.specs.Gen.{made_stream}
 use Rattle.bf_output.specs.Next.{asked_once, next_told}
-use Rattle.bf_output.specs.Output.{IsOutputOf, IsOverBytes, IsOverFile, IsOverStream, given_to}
+use Rattle.bf_output.specs.Inputs.{IsReadAs, IsStreamed}
+use Rattle.bf_output.specs.Output.{IsOutputOf, IsOver, IsOverFile, given_to}
 use Rattle.bf_output.specs.Told.{Told}
 use Rattle.bf_search.specs.State.{ask}
 use Rattle.bf_io.specs.declared.shelf.ShelfFile.{ShelfFile}
@@ -25,13 +26,13 @@ TellsOutput line files left ready =
 abbrev pub TellsMade : Line → Option (List ShelfFile) → Ready → Type 0
 TellsMade line files ready =
     AllTold line.request.now line.words.now ready (λ tested told.
-    IsOverBytes line.request.now (given_to line.words.now files tested) (made_stream line.request.now) told)
+    IsReadAs (IsOver line.request.now (given_to line.words.now files tested)) (made_stream line.request.now) told)
 
 -- over a stream that is read
 abbrev pub TellsStream : Line → Option (List ShelfFile) → Option (List ℕ) → Ready → Type 0
 TellsStream line files left ready =
     AllTold line.request.now line.words.now ready (λ tested told.
-    IsOverStream line.request.now (given_to line.words.now files tested) left told)
+    IsStreamed (IsOver line.request.now (given_to line.words.now files tested)) left told)
 
 -- over a history and the file that the words name
 abbrev pub TellsFile : Line → Option (Bor LogFile) → History → Ready → Type 0

@@ -4,16 +4,15 @@ ghost use Rattle.bf_io.specs.Causes.{FailsOnlyAt};
 ghost use Rattle.bf_output.specs.Output.{reads_stream};
 ghost use Rattle.bf_answers.specs.Devices.{IsLeftUnless};
 ghost use Rattle.bf_program.specs.Lines.{TellsOutput, TellsFile, TellsMade, TellsStream};
-ghost use Rattle.bf_answers.specs.Ready.{IsSound, TellsHistory};
+ghost use Rattle.bf_answers.specs.Ready.{IsSound};
 
 use crate::made::{generate, made_stream};
 use crate::next::next;
 use crate::replay::replay_log;
 use crate::sample::sample;
-use bf_answers::{Fault, Line, Means, Ready, refusal};
-use bf_begin::{LogFile, lent, load_file, start, told};
-use bf_grammar::Limits;
-use bf_import::{History, import};
+use bf_answers::{Fault, Line, Means, Ready};
+use bf_begin::{LogFile, Opened, lent, open, start, told};
+use bf_import::History;
 use bf_io::{PlainSource, Shelf, Source};
 use bf_tester::Host;
 use bf_words::Verb;
@@ -56,7 +55,7 @@ fn prepare_made<R: Host, F: Shelf>(rt: &R, line: Line<'_>, shelf: &mut F) -> Res
     prepare_stream(rt, line, &mut made, shelf)
 }
 
-/// The same over the stream, which is read to its end first.
+/// The same over the stream and the file that the words name.
 fn prepare_stream<R: Host, S: Source, F: Shelf>(
     rt: &R,
     line: Line<'_>,
@@ -70,28 +69,11 @@ fn prepare_stream<R: Host, S: Source, F: Shelf>(
     ensures file { FailsOnlyAt Fault.Shelf (F.faults shelf.old) (F.faults shelf.new) result }
     ensures unloaded { IsLeftUnless (is_some line.entry.request.now.replay) shelf.old shelf.new }
 {
-    match import(line.alloc, stream, Limits::standard()) {
-        Ok(history) => prepare_over(rt, line, history, shelf),
-        Err(fault) => Ok(Ready::Told(refusal(line.alloc, fault)?)),
+    let opened = open(line.alloc, line.words, line.request.replay, stream, shelf)?;
+    match opened {
+        Opened::Over(history, file) => prepare_command(rt, line, lent(&file), history),
+        Opened::Refused(answer) => Ok(Ready::Told(answer)),
     }
-}
-
-/// The same over a history: the file that the words name is loaded first.
-fn prepare_over<R: Host, F: Shelf>(
-    rt: &R,
-    line: Line<'_>,
-    history: History,
-    shelf: &mut F,
-) -> Result<Ready, Fault>
-    ensures output { IfOk result (TellsHistory line.entry (F.files shelf.old) history) }
-    ensures sound { IfOk result (IsSound line.entry.request.now) }
-    ensures no_read { IsErrOf result Fault.Read → ⊥ }
-    ensures asks { IsErrOf result Fault.Shelf → IsTrue (is_some line.entry.request.now.replay) }
-    ensures file { FailsOnlyAt Fault.Shelf (F.faults shelf.old) (F.faults shelf.new) result }
-    ensures unloaded { IsLeftUnless (is_some line.entry.request.now.replay) shelf.old shelf.new }
-{
-    let file = load_file(line.words, line.request.replay, shelf)?;
-    prepare_command(rt, line, lent(&file), history)
 }
 
 /// The same over a history and the file that the words name.

@@ -1,5 +1,5 @@
 //! The top call.
-ghost use Rattle.std.specs.Prelude.{◌≡◌, ◌≢◌, ℕ, [], false, IfOk};
+ghost use Rattle.std.specs.Prelude.{◌≡◌, ◌≢◌, [], false, IfOk};
 ghost use Rattle.bf_io.specs.Causes.{Rose};
 ghost use Rattle.bf_output.specs.Output.{asks_file, reads};
 ghost use Rattle.bf_words.specs.Words.{request};
@@ -7,16 +7,16 @@ ghost use Rattle.bf_program.specs.Answers.{Answers, HasTestCauseBy, IsComplete, 
 ghost use Rattle.bf_answers.specs.Answers.{IsUntestedIfRefused};
 ghost use Rattle.bf_answers.specs.Devices.{IsLeftUnless, met, met_shelf, met_sink, met_source, met_tester};
 ghost use Rattle.bf_searches.specs.Lines.{HasTestCauseIn, IsUsedIn};
-ghost use Rattle.bf_answers.specs.Ready.{IsSound, ConcludesLine, IsRefused};
+ghost use Rattle.bf_answers.specs.Ready.{IsSound, ConcludesLine};
 ghost use Rattle.bf_answers.specs.Steps.{HasPlan};
 
 use crate::prepare::prepare;
-use bf_answers::{Fault, Line, Ready, say, say_answer, usage};
+use bf_answers::{Fault, Line, Ready, say_answer, word_refusal};
 use bf_io::{Shelf, Sink, Source, Word};
 use bf_output::Status;
 use bf_searches::search;
 use bf_tester::{Host, Tester};
-use bf_words::{WordFault, read_words};
+use bf_words::read_words;
 use std::alloc::Global;
 
 /// The program: reads the words and then, where they ask for it, the stream to its end, tests what a search asks
@@ -73,24 +73,7 @@ pub fn bisect_main<R: Host, S: Source, F: Shelf, T: Tester, K: Sink>(
             let ready = prepare(rt, line, stream, shelf);
             conclude(rt, line, ready, tester, out)
         }
-        Err(fault) => refuse_words(alloc, fault, out),
-    }
-}
-
-/// Writes the refusal of the words, and gives the status.
-fn refuse_words<K: Sink>(alloc: Global, fault: WordFault, out: &mut K) -> Status
-    ensures told { IsRefused fault (K.held out.old) (K.held out.new) result }
-    ensures own { (result ≢ Status.ReadFault) × (result ≢ Status.ShelfFault) }
-    ensures no_test { (place : ℕ) → result ≢ Status.TestFault place }
-    ensures write { result ≡ Status.WriteFault → Rose (K.faults out.old) (K.faults out.new) }
-    ensures no_journal { result ≢ Status.JournalFault }
-{
-    let WordFault::At { word } = fault else {
-        return Status::NoMemory;
-    };
-    match usage(alloc, word) {
-        Ok(answer) => say(out, answer.text.as_slice(), answer.status),
-        Err(_) => Status::NoMemory,
+        Err(fault) => say_answer(out, word_refusal(alloc, fault)),
     }
 }
 

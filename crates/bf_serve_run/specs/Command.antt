@@ -14,8 +14,7 @@ use Rattle.bf_lines.specs.declared.fault.ServeFault.{ServeFault}
 use Rattle.bf_lines.specs.declared.fault.ServeFault.TheVariants as faults
 use Rattle.bf_output.specs.declared.status.Status.{Status}
 use Rattle.bf_output.specs.declared.status.Status.TheVariants as status
-use Rattle.bf_output.specs.Inputs.{IsReadUnder}
-use Rattle.bf_output.specs.Refusals.{usage}
+use Rattle.bf_output.specs.Inputs.{IsReadUnder, IsToldUnless}
 use Rattle.bf_output.specs.Shown.{TesterShown}
 use Rattle.bf_output.specs.Told.{Told}
 use Rattle.bf_words.specs.Options.{is_text}
@@ -51,15 +50,11 @@ abbrev pub IsServedBehind : Limits → ShelfMet → List ℕ → History → Tol
 IsServedBehind limits shelf bytes history told =
     (input : List ℕ) × AreBehind bytes limits input × IsServedTo history shelf input told
 
--- where the source does not tell its bytes, nothing is said of the answer
-abbrev pub IsServeFor : Option ℕ → Limits → ShelfMet → Option (List ℕ) → Told → Type 0
-IsServeFor (Some word) limits shelf source told = told ≡ usage word
-IsServeFor None limits shelf source told =
-    IfSome source (λ bytes. IsReadUnder limits (IsServedBehind limits shelf bytes) bytes told)
-
--- the words come first
+-- The words come first. Where the source does not tell its bytes, nothing is said of the answer.
 abbrev pub IsServeOutput : List (List ℕ) → ShelfMet → Option (List ℕ) → Told → Type 0
-IsServeOutput words shelf source told = IsServeFor (wrong_word words) (limits_asked words) shelf source told
+IsServeOutput words shelf source told =
+    let limits = limits_asked words in
+    IsToldUnless (wrong_word words) (λ told. IfSome source (λ bytes. IsReadUnder limits (IsServedBehind limits shelf bytes) bytes told)) told
 
 -- the command of these words: it tests nothing, and tells a fault of the shelf as the reply to a request
 abbrev pub to_serve : Met → Command

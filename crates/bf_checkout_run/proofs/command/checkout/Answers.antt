@@ -4,12 +4,14 @@ use Rattle.bf_answers.specs.Devices.{Met, given_in, met, met_shelf, met_sink, me
 use Rattle.bf_answers.proofs.Answering.{read_cause, shelf_cause}
 use Rattle.bf_answers.proofs.Complete.{complete}
 use Rattle.bf_answers.proofs.Concluding.{said_answer}
+use Rattle.bf_answers.proofs.Streamed.{word_told}
+use Rattle.bf_commands.specs.Checkout.{IsCheckedOut}
 use Rattle.bf_output.specs.Output.{IsUsedFor, asks_file, reads, tests}
 use Rattle.bf_searches.proofs.Using.{unused_for}
 use Rattle.bf_words.specs.declared.request.Request.{Request}
 use Rattle.bf_checkout_run.specs.CheckingOut.{asked_by, checking_out, to_checkout}
 use Rattle.bf_checkout_run.proofs.Furnishing.{shown}
-use Rattle.bf_checkout_run.proofs.Searched.{between, no_grounds, refused_told, run_reads}
+use Rattle.bf_checkout_run.proofs.Searched.{between, no_grounds, run_reads}
 use Rattle.bf_checkout_run.proofs.command.checkout.Given.{Over}
 use Rattle.bf_checkout_run.proofs.command.checkout.Goals as goal
 
@@ -77,10 +79,11 @@ met_refused g c =
 pub returns-in-Err-clause-answers : goal.returns-in-Err-clause-answers
 returns-in-Err-clause-answers g c =
     let all : Met = met_refused g c in
-    said_answer (to_checkout all) all c.say_answer.result c.refused.result refl
-    (refused_told (asked_by c.args.words.now) (given_in all) (g.S.Source.left c.args.stream.now) c.in-Err.fault c.refused.result c.in-Err.ensures.read
-    c.refused.ensures.tells)
-    c.refused.ensures.whole (λ e. absurd (c.refused.ensures.memory.0 e)) (λ e. absurd (c.refused.ensures.memory.1 e)) c.say_answer.ensures.told
+    said_answer (to_checkout all) all c.say_answer.result c.word_refusal.result refl
+    (word_told (λ q t. IsCheckedOut q (given_in all) (g.S.Source.left c.args.stream.now) t) (asked_by c.args.words.now) c.in-Err.fault
+    c.word_refusal.result c.in-Err.ensures.read c.word_refusal.ensures.tells)
+    c.word_refusal.ensures.whole (λ e. absurd (c.word_refusal.ensures.memory.0 e)) (λ e. absurd (c.word_refusal.ensures.memory.1 e))
+    c.say_answer.ensures.told
 
 pub returns-in-Err-clause-complete : goal.returns-in-Err-clause-complete
 returns-in-Err-clause-complete g c =

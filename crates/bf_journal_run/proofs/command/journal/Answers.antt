@@ -10,7 +10,7 @@ use Rattle.bf_journal_run.specs.Journalling.{IsRecalledBy, to_journal}
 use Rattle.bf_journal_run.specs.Legs.{met_disk}
 use Rattle.bf_journal_run.proofs.Asking.{run_asked}
 use Rattle.bf_journal_run.proofs.Held.{held_ready, held_refused}
-use Rattle.bf_journal_run.proofs.Output.{answered, asks_disk, reads_always, recalled, refused_any, remembering_none, tests_run, used_for, refused_used, refused_recalled, unasked_none}
+use Rattle.bf_journal_run.proofs.Output.{answered, asks_disk, reads_always, recalled, refused, remembering_none, tests_run, used_for, refused_used, refused_recalled, unasked_none}
 use Rattle.bf_journal_run.proofs.Recalled.{recall_by}
 use Rattle.bf_output.specs.Output.{asks_file}
 use Rattle.bf_output.specs.Shown.{shown_by}
@@ -25,25 +25,25 @@ line_in g c = record { alloc = c.args.alloc; request = record { ref_ptr = (c.req
 -- what the call met, where the words ask for something
 abbrev met_in : (g : Over) → goal.Joined-request g → Met
 met_in g c =
-    met c.args.words.now (met_source g.S.Source c.args.stream.now c.prepare-ready.new.stream)
-    (met_shelf g.F.Shelf c.args.shelf.now c.prepare-ready.new.shelf) (met_tester (recall_by g.T.Tester) c.args.tester.now c.conclude.new.tester)
+    met c.args.words.now (met_source g.S.Source c.args.stream.now c.open_search-ready.new.stream)
+    (met_shelf g.F.Shelf c.args.shelf.now c.open_search-ready.new.shelf) (met_tester (recall_by g.T.Tester) c.args.tester.now c.conclude.new.tester)
     (met_sink g.K.Sink c.args.out.now c.conclude.new.out)
 
 abbrev disk_in : (g : Over) → goal.Joined-request g → DiskMet
 disk_in g c = met_disk g.J.Disk c.args.disk.now c.conclude.new.disk
 
 -- and where they are refused
-abbrev met_refused : (g : Over) → goal.After-refuse_words g → Met
+abbrev met_refused : (g : Over) → goal.After-say_answer g → Met
 met_refused g c =
     met c.args.words.now (met_source g.S.Source c.args.stream.now c.args.stream.now)
     (met_shelf g.F.Shelf c.args.shelf.now c.args.shelf.now) (met_tester (recall_by g.T.Tester) c.args.tester.now c.args.tester.now)
-    (met_sink g.K.Sink c.args.out.now c.refuse_words.new.out)
+    (met_sink g.K.Sink c.args.out.now c.say_answer.new.out)
 
-abbrev disk_refused : (g : Over) → goal.After-refuse_words g → DiskMet
+abbrev disk_refused : (g : Over) → goal.After-say_answer g → DiskMet
 disk_refused g c = met_disk g.J.Disk c.args.disk.now c.args.disk.now
 
-pub prepare-ready-requires : goal.prepare-ready-requires
-prepare-ready-requires g c = run_asked c.args.words.now c.in-Ok.request c.in-Ok.ensures
+pub open_search-ready-requires : goal.open_search-ready-requires
+open_search-ready-requires g c = record { asked = sym (run_asked c.args.words.now c.in-Ok.request c.in-Ok.ensures) }
 
 pub conclude-requires-clause-run : goal.conclude-requires-clause-run
 conclude-requires-clause-run g c = λ κs within. run_asked c.args.words.now c.in-Ok.request c.in-Ok.ensures
@@ -51,8 +51,8 @@ conclude-requires-clause-run g c = λ κs within. run_asked c.args.words.now c.i
 pub returns-in-Ok-clause-answers : goal.returns-in-Ok-clause-answers
 returns-in-Ok-clause-answers g c =
     answered (met_in g c) (disk_in g c) (line_in g c) c.conclude.result refl c.in-Ok.ensures
-    (run_asked c.args.words.now c.in-Ok.request c.in-Ok.ensures) c.prepare-ready.result c.prepare-ready.ensures.begins
-    c.prepare-ready.ensures.cause.failed c.prepare-ready.ensures.asks c.prepare-ready.ensures.file.failed c.conclude.ensures.own c.conclude.ensures.told
+    (run_asked c.args.words.now c.in-Ok.request c.in-Ok.ensures) c.open_search-ready.result c.open_search-ready.ensures.begins
+    c.open_search-ready.ensures.read.failed c.open_search-ready.ensures.asks c.open_search-ready.ensures.file.failed c.conclude.ensures.own c.conclude.ensures.told
 
 pub returns-in-Ok-clause-complete : goal.returns-in-Ok-clause-complete
 returns-in-Ok-clause-complete g c =
@@ -81,8 +81,8 @@ pub returns-in-Ok-clause-recalled : goal.returns-in-Ok-clause-recalled
 returns-in-Ok-clause-recalled g c =
     subst (λ (r : Result Request ℕ). IsRecalledBy (disk_in g c) r c.args.words.now (g.S.Source.left c.args.stream.now) c.conclude.new.tester.answers
     c.conclude.new.tester.remembered) (sym c.in-Ok.ensures)
-    (recalled (disk_in g c) (line_in g c) c.prepare-ready.result (g.S.Source.left c.args.stream.now) c.conclude.new.tester.answers
-    c.conclude.new.tester.remembered c.conclude.ensures.recalled c.prepare-ready.ensures.read)
+    (recalled (disk_in g c) (line_in g c) c.open_search-ready.result (g.S.Source.left c.args.stream.now) c.conclude.new.tester.answers
+    c.conclude.new.tester.remembered c.conclude.ensures.recalled c.open_search-ready.ensures.history)
 
 pub returns-in-Ok-clause-unread : goal.returns-in-Ok-clause-unread
 returns-in-Ok-clause-unread g c = λ e.
@@ -93,31 +93,31 @@ returns-in-Ok-clause-unkept g c = λ e.
     absurd (reads_always c.args.words.now c.in-Ok.request c.in-Ok.ensures (run_asked c.args.words.now c.in-Ok.request c.in-Ok.ensures) e)
 
 pub returns-in-Ok-clause-unloaded : goal.returns-in-Ok-clause-unloaded
-returns-in-Ok-clause-unloaded g c = λ e. c.prepare-ready.ensures.unloaded (ap asks_file (sym c.in-Ok.ensures) ∙ e)
+returns-in-Ok-clause-unloaded g c = λ e. c.open_search-ready.ensures.unloaded (ap asks_file (sym c.in-Ok.ensures) ∙ e)
 
 pub returns-in-Err-clause-answers : goal.returns-in-Err-clause-answers
 returns-in-Err-clause-answers g c =
-    refused_any (met_refused g c) (disk_refused g c) c.in-Err.fault c.refuse_words.result c.in-Err.ensures refl c.refuse_words.ensures.own
-    c.refuse_words.ensures.told
+    refused (met_refused g c) (disk_refused g c) c.in-Err.fault c.say_answer.result c.word_refusal.result c.in-Err.ensures refl
+    c.word_refusal.ensures.tells c.word_refusal.ensures.whole c.word_refusal.ensures.memory c.say_answer.ensures.told
 
 pub returns-in-Err-clause-complete : goal.returns-in-Err-clause-complete
 returns-in-Err-clause-complete g c =
-    complete (to_journal (met_refused g c) (disk_refused g c)) (met_refused g c) c.refuse_words.result (returns-in-Err-clause-answers g c)
-    c.refuse_words.ensures.write (λ place e. absurd (c.refuse_words.ensures.no_test place e))
+    complete (to_journal (met_refused g c) (disk_refused g c)) (met_refused g c) c.say_answer.result (returns-in-Err-clause-answers g c)
+    c.say_answer.ensures.write (λ place e. absurd (c.say_answer.ensures.no_test place e))
 
 pub returns-in-Err-clause-read : goal.returns-in-Err-clause-read
 returns-in-Err-clause-read g c =
-    read_cause (to_journal (met_refused g c) (disk_refused g c)) (met_refused g c) c.refuse_words.result (returns-in-Err-clause-answers g c)
+    read_cause (to_journal (met_refused g c) (disk_refused g c)) (met_refused g c) c.say_answer.result (returns-in-Err-clause-answers g c)
 
 pub returns-in-Err-clause-file : goal.returns-in-Err-clause-file
 returns-in-Err-clause-file g c =
-    shelf_cause (to_journal (met_refused g c) (disk_refused g c)) (met_refused g c) c.refuse_words.result (returns-in-Err-clause-answers g c)
+    shelf_cause (to_journal (met_refused g c) (disk_refused g c)) (met_refused g c) c.say_answer.result (returns-in-Err-clause-answers g c)
 
 pub returns-in-Err-clause-test : goal.returns-in-Err-clause-test
-returns-in-Err-clause-test g c = λ place e. absurd (c.refuse_words.ensures.no_test place e)
+returns-in-Err-clause-test g c = λ place e. absurd (c.say_answer.ensures.no_test place e)
 
 pub returns-in-Err-clause-disk : goal.returns-in-Err-clause-disk
-returns-in-Err-clause-disk g c = λ e. absurd (c.refuse_words.ensures.no_disk e)
+returns-in-Err-clause-disk g c = λ e. absurd (c.say_answer.ensures.no_journal e)
 
 pub returns-in-Err-clause-used : goal.returns-in-Err-clause-used
 returns-in-Err-clause-used g c =
@@ -138,7 +138,7 @@ returns-in-Ok-clause-held g c =
     subst (λ (r : Result Request ℕ). IsHeldBy g.J.Disk c.args.disk.now c.conclude.new.disk r c.args.words.now (g.S.Source.left c.args.stream.now)
     (g.F.Shelf.files c.args.shelf.now) c.conclude.new.tester.answers) (sym c.in-Ok.ensures)
     (held_ready g.J.Disk c.args.disk.now c.conclude.new.disk (line_in g c) (g.F.Shelf.files c.args.shelf.now) (g.S.Source.left c.args.stream.now)
-    c.prepare-ready.result c.conclude.new.tester.answers c.prepare-ready.ensures.begins c.prepare-ready.ensures.read c.conclude.ensures.held)
+    c.open_search-ready.result c.conclude.new.tester.answers c.open_search-ready.ensures.begins c.open_search-ready.ensures.history c.conclude.ensures.held)
 
 pub returns-in-Err-clause-held : goal.returns-in-Err-clause-held
 returns-in-Err-clause-held g c =

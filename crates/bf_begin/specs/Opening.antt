@@ -1,21 +1,55 @@
--- What is ready before a journal is opened.
+-- What is open when a command begins, and the search that is ready then.
 use Rattle.std.specs.Borrow.{Bor}
 use Rattle.std.specs.Prelude.{◌≡◌, ℕ, List, Option, Some, None, IfSome, Result, Ok, Err}
+use Rattle.bf_answers.specs.declared.answer.Answer.{Answer}
 use Rattle.bf_answers.specs.declared.line.Line.{Line}
 use Rattle.bf_answers.specs.declared.started.Ready.{Ready}
 use Rattle.bf_answers.specs.declared.started.Ready.TheVariants.{Told as ToldAnswer, Search}
+use Rattle.bf_answers.specs.Answers.{IsWhole}
 use Rattle.bf_answers.specs.Tellings.{begun_of, told_of}
 use Rattle.bf_begin.specs.declared.file.LogFile.{LogFile}
+use Rattle.bf_begin.specs.declared.door.Opened.{Opened}
+use Rattle.bf_begin.specs.declared.door.Opened.TheVariants.{Over, Refused}
+use Rattle.bf_begin.specs.declared.door.OpenedText.{OpenedText}
+use Rattle.bf_begin.specs.declared.door.OpenedText.TheVariants.{Over as TextOver, Refused as TextRefused}
+use Rattle.bf_begin.specs.Files.{IsFileOf}
 use Rattle.bf_begin.specs.Lines.{begun_with_line}
 use Rattle.bf_grammar.specs.Limits.{standard_limits}
 use Rattle.bf_history.specs.declared.fault.ImportFault.{ImportFault}
 use Rattle.bf_history.specs.Imports.{Loads, MayImport}
 use Rattle.bf_history.specs.Meanings.{History}
 use Rattle.bf_output.specs.Beginning.{Begun, begun_with_skips}
-use Rattle.bf_output.specs.Inputs.{file_of}
+use Rattle.bf_output.specs.Inputs.{IsStreamed, IsTextTold, file_of}
 use Rattle.bf_output.specs.Refusals.{refusal}
 use Rattle.bf_output.specs.Told.{Told}
 use Rattle.bf_io.specs.declared.shelf.ShelfFile.{ShelfFile}
+
+-- ---- a stream and a file
+
+-- the stream is refused with this answer
+abbrev pub IsStreamRefused : Option (List ℕ) → Answer → Type 0
+IsStreamRefused left answer =
+    (fault : ImportFault) × MayImport left standard_limits (Err fault) × (told_of answer ≡ refusal fault) × IsWhole answer.status
+
+-- the history is that of the stream, and the file that of the word, where there is one
+abbrev pub IsOpened : Option (List ℕ) → Option (List ShelfFile) → List (List ℕ) → Option ℕ → Opened → Type 0
+IsOpened left files words replay (Over history file) = MayImport left standard_limits (Ok history) × IsFileOf files words replay file
+IsOpened left files words replay (Refused answer) = IsStreamRefused left answer
+
+-- ---- a stream and the text of a file
+
+-- what is told of the text over the history is told by the words, whatever it is; and so is the refusal
+abbrev pub IsTextOpened : Option (List ℕ) → Option (List ShelfFile) → List (List ℕ) → ℕ → OpenedText → Type 0
+IsTextOpened left files words i (TextOver history text) =
+    (tell : History → List ℕ → Told) → IsStreamed (IsTextTold tell words i files) left (tell history text)
+IsTextOpened left files words i (TextRefused answer) =
+    (tell : History → List ℕ → Told) → IsStreamed (IsTextTold tell words i files) left (told_of answer)
+
+abbrev pub IsWholeText : OpenedText → Type 0
+IsWholeText (TextOver history text) = Unit {0}
+IsWholeText (TextRefused answer) = IsWhole answer.status
+
+-- ---- a search
 
 -- a search that has begun so over this history, or its refusal
 abbrev pub IsBegunAs : Result Begun Told → History → Ready → Type 0
@@ -55,3 +89,8 @@ IsReadFrom left (Search started) = MayImport left standard_limits (Ok started.hi
 abbrev pub IsOf : History → Ready → Type 0
 IsOf history (ToldAnswer answer) = Unit {0}
 IsOf history (Search started) = started.history ≡ history
+
+-- what is told of what is ready, where this is told of a search that has begun: an answer is told as it is
+abbrev pub IsReadyTold : (History → Begun → Told → Type 0) → Ready → Told → Type 0
+IsReadyTold IsTold (ToldAnswer answer) told = told ≡ told_of answer
+IsReadyTold IsTold (Search started) told = IsTold started.history (begun_of started.first) told
