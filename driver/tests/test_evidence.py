@@ -113,7 +113,7 @@ class Environs(unittest.TestCase):
     @staticmethod
     def write(path: str, text: str) -> None:
         """A file."""
-        with open(path, 'w', encoding='utf-8') as file:
+        with open(path, 'w', encoding='utf-8', errors='surrogateescape') as file:
             file.write(text)
 
     def test_variables(self) -> None:

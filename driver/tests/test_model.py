@@ -163,7 +163,8 @@ class Model(unittest.TestCase):
             parents = random_parents(choice)
             outcomes = [choice.choice(['0', '1', '0', '1', '125', '128' if choice.random() < 0.3 else '125']) for _ in parents]
             words = choice.choice(WORDS) + [f'c{len(parents) - 1}', f'c{choice.randrange(2)}']
-            done = subprocess.run([PROGRAM, 'simulate', *words, ''.join(LETTERS[outcome] for outcome in outcomes)], input=stream_of(parents) + 'done\n',
+            done = subprocess.run(['farmdawn', 'simulate', *words, ''.join(LETTERS[outcome] for outcome in outcomes)], executable=PROGRAM,
+                                  input=stream_of(parents) + 'done\n',
                                   stdout=subprocess.PIPE, text=True, check=False)
             talk, names = Talk(self, stream_of(parents)), hashed(parents)
             talk.ask('search ' + ' '.join(words))
