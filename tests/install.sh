@@ -114,7 +114,7 @@ test_fish() {
     # as it is installed: `git farmdawn` is completed in a shell that has completed nothing else
     make -s -C "$top" install-scripts DESTDIR="$PWD/root" PREFIX=/usr PYTHON= || exit 1
     for line in 'git farmdawn to:topic' 'git farmdawn --work:--workers' 'git farmdawn --report roo:root/' 'git farmdawn topic topic -- mkdi:mkdir'; do
-        found=$(HOME=$PWD PATH=$PWD/root/usr/bin:$PATH XDG_DATA_DIRS=$PWD/root/usr/share:/usr/share fish -i -c "complete -C '${line%:*}'" 2>/dev/null | cut -f 1)
+        found=$(LC_ALL=C.UTF-8 HOME=$PWD PATH=$PWD/root/usr/bin:$PATH XDG_DATA_DIRS=$PWD/root/usr/share:/usr/share fish -i -c "complete -C '${line%:*}'" 2>/dev/null | cut -f 1)
         expect "fish completes ${line%:*}" [ "$found" = "${line##*:}" ]
     done
 }
