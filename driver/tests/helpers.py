@@ -85,7 +85,7 @@ class Repository:
         left = [name for name in (os.listdir(folder) if os.path.exists(folder) else []) if name.startswith('run.')]
         left += [name for name in os.listdir(self.room) if '.farmdawn.' in name]
         left += [line for line in self.run('git', 'worktree', 'list').stdout.splitlines() if '.farmdawn.' in line]
-        return left + subprocess.run(['pgrep', '-fa', LONG], stdout=subprocess.PIPE, text=True).stdout.splitlines()
+        return left + subprocess.run(['pgrep', '-fa', LONG], stdout=subprocess.PIPE, text=True, errors='surrogateescape').stdout.splitlines()
 
     def check_left(self) -> None:
         """Nothing of a run is left."""

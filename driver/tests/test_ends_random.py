@@ -92,7 +92,7 @@ class Case:
 
     def begin(self) -> subprocess.Popen[str]:
         """The search under way."""
-        self.files = [open(os.path.join(self.repo.room, name), 'w+', encoding='utf-8') for name in ('out', 'told')]
+        self.files = [open(os.path.join(self.repo.room, name), 'w+', encoding='utf-8', errors='surrogateescape') for name in ('out', 'told')]
         return subprocess.Popen([*self.tool, *self.words], cwd=self.repo.path, env=self.env, stdin=subprocess.DEVNULL,
                                 stdout=self.files[0], stderr=self.files[1], text=True)
 
@@ -259,7 +259,8 @@ class Random(unittest.TestCase):
             left = [name for name in os.listdir(folder) if name.startswith('run.')] if os.path.isdir(folder) else []
             left += [name for name in os.listdir(case.repo.room) if '.farmdawn.' in name]
             left += os.listdir(case.repo.path + '/.git/worktrees') if os.path.isdir(case.repo.path + '/.git/worktrees') else []
-            return ' '.join(left) + subprocess.run(['pgrep', '-a', '-f', LONG], stdout=subprocess.PIPE, text=True).stdout
+            long = subprocess.run(['pgrep', '-a', '-f', LONG], stdout=subprocess.PIPE, text=True, errors='surrogateescape')
+            return ' '.join(left) + long.stdout
         soon = 30 if case.kind in ('git', 'driver', 'guardian, driver') else 1
         try:
             wait_until(lambda: not runs(), 'the end', soon)

@@ -53,7 +53,7 @@ PLACES = ['plain', 'dirty', 'folder', 'linked', 'bare', 'partial', 'sparse', 'li
 def git(folder: str, *words: str, **more: object) -> str:
     """What git prints."""
     return subprocess.run(['git', '-C', folder, *words], **{  # type: ignore
-        'env': QUIET, 'stdout': subprocess.PIPE, 'stderr': subprocess.DEVNULL, 'text': True, 'check': True,
+        'env': QUIET, 'stdout': subprocess.PIPE, 'stderr': subprocess.DEVNULL, 'text': True, 'errors': 'surrogateescape', 'check': True,
         'timeout': SECONDS, **more}).stdout.strip()
 
 
@@ -110,7 +110,7 @@ class Case:
             text.append(repositories.head_of_commit(choice, number, named, rising))
             text.append(files_of(choice, number, statuses[number], self.look) + '\n')
         git('.', 'init', '-q', '-b', 'main', self.origin)
-        with open(self.origin + '/.git/config', 'a', encoding='utf-8') as file:
+        with open(self.origin + '/.git/config', 'a', encoding='utf-8', errors='surrogateescape') as file:
             file.write('[uploadpack]\n\tallowFilter = true\n\tallowAnySHA1InWant = true\n')
         git(self.origin, 'fast-import', '--quiet', input=''.join(text))
         self.parents, self.statuses = parents, statuses
@@ -121,7 +121,7 @@ class Case:
         path = os.path.join(self.room, 'test.sh')
         lines = ['cd "$(git rev-parse --show-toplevel)" || exit 99', 'here=$(git rev-parse HEAD) s=0', LOOKS[self.look],
                  *(BESIDE[name] for name in self.beside), f'sleep 0.0{self.choice.randrange(10)}', 'echo "$here $s" >>"$RECORD"', 'exit $s']
-        with open(path, 'w', encoding='utf-8') as file:
+        with open(path, 'w', encoding='utf-8', errors='surrogateescape') as file:
             file.write('\n'.join(lines) + '\n')
         return path
 
@@ -152,7 +152,7 @@ class Case:
         git(here, 'checkout', '-q', '--detach', self.choice.choice(self.names))
         if self.place == 'dirty':
             git(here, 'rm', '-q', '-f', 'verdict')
-            with open(here + '/number', 'a', encoding='utf-8') as file:
+            with open(here + '/number', 'a', encoding='utf-8', errors='surrogateescape') as file:
                 file.write('7\n')
         elif self.place == 'sparse':
             git(here, 'sparse-checkout', 'set', 'v')
@@ -173,7 +173,7 @@ class Case:
         for folder in ('objects/info', 'refs'):
             os.makedirs(f'{clone}/.git/{folder}')
         for file, text in (('HEAD', name), ('objects/info/alternates', self.origin + '/.git/objects'), ('config', '[core]\n\tbare = false')):
-            with open(f'{clone}/.git/{file}', 'w', encoding='utf-8') as out:
+            with open(f'{clone}/.git/{file}', 'w', encoding='utf-8', errors='surrogateescape') as out:
                 out.write(text + '\n')
         git(clone, 'reset', '-q', '--hard')
         return clone
@@ -183,14 +183,14 @@ class Case:
         clone = self.clone(os.path.join(self.room, 'clone'), name)
         done = subprocess.run(['bash', self.test], cwd=clone, env={**QUIET, 'RECORD': os.path.join(self.room, 'fresh')}, stdout=subprocess.DEVNULL,
                               stderr=subprocess.DEVNULL, stdin=subprocess.DEVNULL, timeout=SECONDS)
-        with open(clone + '/.git/HEAD', encoding='utf-8') as file:
+        with open(clone + '/.git/HEAD', encoding='utf-8', errors='surrogateescape') as file:
             stays = file.read().strip() == name
         shutil.rmtree(clone)
         return done.returncode if stays else 128            # what a test tells that moves HEAD is of no commit
 
     def state(self) -> List[str]:
         """What of the user's must be as before."""
-        with open(self.common + '/config', encoding='utf-8') as file:
+        with open(self.common + '/config', encoding='utf-8', errors='surrogateescape') as file:
             config = file.read()
         listed = sorted(os.listdir(self.common + '/worktrees')) if os.path.exists(self.common + '/worktrees') else []
         return [config, str(listed), git(self.at, 'for-each-ref'), git(self.at, 'status', '--porcelain', '-b') if self.place != 'bare' else '']
@@ -206,7 +206,7 @@ class Case:
         env = {**QUIET, 'RECORD': os.path.join(self.room, 'ran'), 'FARMDAWN_NEEDED': choice.choice(['0', '5', 'never'])}
         before = self.state()
         got = subprocess.run(['git', 'farmdawn', *words, *question.options, question.bad, *question.goods, '--', *question.test], cwd=self.at,
-                             env=env, stdout=subprocess.PIPE, stderr=subprocess.PIPE, text=True, timeout=SECONDS)
+                             env=env, stdout=subprocess.PIPE, stderr=subprocess.PIPE, text=True, errors='surrogateescape', timeout=SECONDS)
         told = f'{words} {question}\n{got.stdout}{got.stderr}'
         self.case.assertEqual(self.state(), before, told)
         self.check_left(told)
@@ -216,7 +216,7 @@ class Case:
         """Nothing is left of it."""
         self.case.assertEqual([name for name in os.listdir(self.common + '/farmdawn') if name.startswith('run.')], [], told)
         self.case.assertEqual([name for name in os.listdir(os.path.join(self.room, 'here')) if '.farmdawn.' in name], [], told)
-        runs = subprocess.run(['pgrep', '-a', '-f', LONG], stdout=subprocess.PIPE, text=True).stdout
+        runs = subprocess.run(['pgrep', '-a', '-f', LONG], stdout=subprocess.PIPE, text=True, errors='surrogateescape').stdout
         self.case.assertEqual(runs, '', told)
 
     def by_git(self, statuses: Dict[str, int], tool: Said) -> str:
@@ -231,7 +231,7 @@ class Case:
         if theirs.answer is None and 'hides' in self.beside:
             return 'git checks no commit out over a file that a test hid from it'
         if tool.answer != theirs.answer and os.path.exists(record):
-            with open(record, encoding='utf-8') as file:
+            with open(record, encoding='utf-8', errors='surrogateescape') as file:
                 ran = [line.split() for line in file]
             if any(statuses.get(name) == 128 for name, _ in ran) and 'away' in self.beside:
                 return 'a test moved HEAD, and git took its outcome for that of another commit'

@@ -107,13 +107,13 @@ class Case:
     def write(self, name: str, statuses: List[int]) -> None:
         """A line for each commit."""
         self.statuses[name] = statuses
-        with open(os.path.join(self.folder, name), 'w', encoding='utf-8') as file:
+        with open(os.path.join(self.folder, name), 'w', encoding='utf-8', errors='surrogateescape') as file:
             file.write(''.join('%d\n' % status for status in statuses))
 
     def engine(self) -> str:
         """The engine that keeps what it is told."""
         path = os.path.join(self.repo.room, 'engine')
-        with open(path, 'w', encoding='utf-8') as file:
+        with open(path, 'w', encoding='utf-8', errors='surrogateescape') as file:
             file.write(TOLD % (self.told, ENGINE, ENGINE))
         os.chmod(path, 0o755)
         return path
@@ -202,7 +202,7 @@ class Random(unittest.TestCase):
             ends = choice.choice([[], ['--check-ends']])
             case.checks = bool(ends)
         listed = os.path.join(repo.room, 'list')
-        with open(listed, 'w', encoding='utf-8') as file:
+        with open(listed, 'w', encoding='utf-8', errors='surrogateescape') as file:
             file.write('\n'.join(case.tests))
         words = ends + choice.choice([[], ['--together']]) + ['--workers', str(choice.choice([1, 2, 5, 9]))]
         words += ['--missing', f'{MISSING}=skip', '--build', BUILD % case.folder, '--tests', listed, f'c{case.count}', 'c1', '--',
