@@ -13,7 +13,7 @@ import subprocess
 import unittest
 from typing import Counter, Dict, List, NamedTuple, Set
 
-from helpers import ENGINE, ENV, SECONDS, Repository, needs_engine
+from helpers import ENGINE, ENV, SECONDS, Repository, needs_engine, wait_until
 
 CASES, SEED = int(os.environ.get('FARMDAWN_CASES') or 40), int(os.environ.get('FARMDAWN_SEED') or 1)
 STOP, MISSING = 200, 5
@@ -214,7 +214,8 @@ class Random(unittest.TestCase):
         parts = dict(zip(case.tests, re.split('^# search of .*\n', got.stdout, flags=re.M)[1:]))
         self.assertEqual(list(parts), case.tests, got.stderr)
         self.compare(case, parts, got)
-        repo.check_left()
+        # the guardian of a driver that was killed may still be at work
+        wait_until(lambda: not repo.left(), 'the end of all', 60)
 
     def end_on_its_way(self, case: Case, words: List[str], env: Dict[str, str]) -> None:
         """Ends the search when it has told some lines, where it has not come to its end before."""
