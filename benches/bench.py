@@ -27,8 +27,8 @@ Usage: benches/bench.py SUBJECT [SIZE ..] [--quick] [--program FILE]
   folders   FILES COMMITS               a search that tests in folders, beside git farmdawn and git bisect run
   logs      MARKS                       whether git and farmdawn know the same behind each other's logs
   real      REPOSITORY [PAIRS]          whether they name the same commits in a repository
-  gate      LOG .. TIMES.json           the page docs/GATE.md, of logs of the merge gate, and of what was watched beside it
-  gates     OLD NEW                     what two such pages say of the crates, beside each other
+  gate      [LOG ..] TIMES.json         a table of the merge gate, of what was watched beside it, and of its logs
+  gates     OLD NEW                     what two such tables say of the crates, beside each other
   watch     TIMES.json                  watches the merge gate until it is interrupted: the processor time of its checks
   all                                   each of these that needs no file
 
@@ -632,7 +632,7 @@ def main():
         watch.watch(*given.words)
         return True
     if given.subject == "gate":
-        print(gate.page(TOP, given.words), end="")
+        print(gate.table(TOP, given.words), end="")
         return True
     if given.subject == "gates":
         print(gate.beside(*given.words), end="")

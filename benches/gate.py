@@ -1,4 +1,4 @@
-"""A page on the merge gate, crate by crate, of the logs of `rt ci` and of what watch.py wrote beside it."""
+"""A table of the merge gate, crate by crate, of what watch.py wrote beside it, and of the logs of `rt ci` where there are some."""
 import glob
 import json
 import os
@@ -10,19 +10,7 @@ from datetime import date
 
 import watch
 
-PAGE = """# The merge gate, crate by crate
-
-What the gate proved and tried. A function is one with a body, or a law; each is proved to meet its contract. An edit is
-a wrong line that the proofs must refuse (`must-fail/`). Minutes are of processors, from nothing. Those of tests prove
-the crate once more with its tests, and those of edits begin with a proof of the crate. Numbers in brackets stand in the
-sources, and the logs do not tell of them; `-` was not seen.
-
-    benches/bench.py watch TIMES.json &
-    rt ci >LOG
-    benches/bench.py gate LOG.. TIMES.json >docs/GATE.md
-
-make this page up to the end of the table, and `benches/bench.py gates OLD NEW` lays two such tables beside each other. This one
-is of {made}.
+TABLE = """{made}
 
 | Crate | Functions proved | Tests passed | Edits refused | Proof | Tests | Edits |
 |---|---:|---:|---:|---:|---:|---:|
@@ -84,17 +72,17 @@ def minutes(seconds):
 
 
 def made(top):
-    """When a page is made, of which commit, and on what."""
+    """When a table is made, of which commit, and on what."""
     commit = subprocess.run(["git", "-C", top, "rev-parse", "--short=12", "HEAD"], capture_output=True, text=True).stdout.strip()
     with open("/proc/cpuinfo") as file:
         model = re.search(r"^model name\s*: (.*)$", file.read(), re.M)
     machine = model[1] if model else platform.machine()
     today = date.today()
-    return f"{today.day} {today:%B %Y}, of commit {commit or 'unknown'}, on {os.cpu_count()} processors ({machine})"
+    return f"The merge gate on {today.day} {today:%B %Y}, of commit {commit or 'unknown'}, on {os.cpu_count()} processors ({machine})"
 
 
 def rows_of(path):
-    """The rows of a page: the cells of each crate, as numbers where they are."""
+    """The rows of a table: the cells of each crate, as numbers where they are."""
     with open(path) as file:
         return {told[1]: told[2].split("|") for told in re.finditer(r"^\| `?(\w[\w ]*?)`? \|(.*)\|$", file.read(), re.M)
                 if told[1] != "Crate"}
@@ -106,7 +94,7 @@ def cell(row, at):
 
 
 def beside(old_path, new_path):
-    """What two pages say: each crate whose functions, tests, edits or minutes are not the same, and the sum of all."""
+    """What two tables say: each crate whose functions, tests, edits or minutes are not the same, and the sum of all."""
     old, new = rows_of(old_path), rows_of(new_path)
     text = "crate: functions, tests, edits, minutes\n"
     sums = [[0.0] * 4, [0.0] * 4]
@@ -125,14 +113,14 @@ def changes(before, after):
     return ", ".join(f"{a:g}" if a == b else f"{a:g} -> {b:g}" for a, b in ((round(x, 1), round(y, 1)) for x, y in zip(before, after)))
 
 
-def page(top, paths):
-    """The page, of the crates in the order of crates.txt; what several logs tell of a crate, the last of them tells."""
+def table(top, paths):
+    """The table, of the crates in the order of crates.txt; what several logs tell of a crate, the last of them tells."""
     rows = {}
     for path in paths:
         (read_times if path.endswith(".json") else read)(path, rows)
     with open(os.path.join(top, "crates.txt")) as file:
         crates = re.findall(r"^(\w+)[^:\n]*:", file.read(), re.M)
-    text, total = PAGE.format(made=made(top)), Row(0, 0, 0, dict.fromkeys(watch.PARTS, 0))
+    text, total = TABLE.format(made=made(top)), Row(0, 0, 0, dict.fromkeys(watch.PARTS, 0))
     for crate in crates:
         row = rows.get(crate, Row())
         tests, edits = standing(os.path.join(top, "crates", crate))
