@@ -8,8 +8,8 @@ export FARMDAWN="$farmdawn" FARMDAWN_CASES="${FARMDAWN_CASES:-6}"
 has_program || FARMDAWN=$top/driver/model/farmdawn
 case $(readlink -f "$FARMDAWN") in */model/farmdawn) ;; *) export FARMDAWN_PROGRAM="${FARMDAWN_PROGRAM:-$FARMDAWN}" ;; esac
 
-# A module, or with a class and a method one test of it.
-unit() { cd "$units" && expect "driver/tests/$1" python3 -B -m unittest "$1"; }
+# A module, or with a class and a method one test of it. What is compiled is kept for the others of this run.
+unit() { cd "$units" && expect "driver/tests/$1" python3 -X pycache_prefix="${FARMDAWN_WORK:-$work}/compiled" -m unittest "$1"; }
 
 # those of which each is a test of its own, the longest ones first
 searches='containers confirm ended ends places several noise trust told pool'

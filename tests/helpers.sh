@@ -1,7 +1,7 @@
 # What the tests of the scripts share. Each test is a function named test_..; it runs in a folder of its own, and what
 # it prints is shown where it fails. A function needs_.. with the same name says whether the test can run here; what is
 # missing passes the test over, and is told by its name. A file runs its tests one by one, or those that are named;
-# tests/check runs those of all files, several at once. TIMES=1 tells the seconds of each. FARMDAWN_DRIVER names the folder of another
+# tests/check runs those of all files, several at once. TIMES=1 tells the seconds of each, by the clock and of processors. FARMDAWN_DRIVER names the folder of another
 # git-farmdawn than that of this checkout.
 set -u
 top=$(cd "$(dirname "$0")/.." && pwd)
@@ -87,13 +87,23 @@ watches_clock() { case " ${by_clock-} " in *" $1 "*) ;; *) return 1 ;; esac; }
 # The hundredths of a second since this machine began.
 read_clock() { read -r clock _ </proc/uptime && clock=${clock%.*}${clock#*.}; }
 
+# The tenths of a second that processors gave to this shell, and to all that has ended and was waited for.
+read_processors() {
+    times >"$work/times" # in no other shell, which would have none yet
+    worked=$(awk '{ for (i = 1; i <= NF; i++) { split($i, part, /[ms]/); sum += 60 * part[1] + part[2] } } END { printf "%d", 10 * sum }' "$work/times")
+}
+
+# Seconds with a point.
+in_seconds() { echo "$(($1 / 10)).$(($1 % 10)) s"; }
+
 # Tells how the test at hand ended, with what it printed where that is no matter of course.
 tell() {
     seconds=''
     if [ -n "${TIMES-}" ]; then
         read_clock
-        seconds=$(((clock - began) / 10))
-        seconds=" [$((seconds / 10)).$((seconds % 10)) s]"
+        before=${worked:-0}
+        read_processors
+        seconds=" [$(in_seconds $(((clock - began) / 10))), of processors $(in_seconds $((worked - before)))]"
     fi
     echo "$1: $file $test${2-}$seconds"
     case $1 in ok | skipped) ;; *) sed 's/^/    /' "$work/$test.out" ;; esac
