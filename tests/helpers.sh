@@ -141,11 +141,13 @@ try_test() {
     fi
 }
 
-# Runs the tests that are named, and counts. For tests/check, which sets LISTED, they are listed alone; and where it sets COUNTS, the
-# counts go into that file, and those that want a second try into the file LATER.
+# Runs the tests that are named, and counts. For tests/check, which sets LISTED, they are listed alone, with a word for those that take
+# long; and where it sets COUNTS, the counts go into that file, and those that want a second try into the file LATER.
 run_tests() {
     if [ -n "${LISTED-}" ]; then
-        for name; do echo "$file $name"; done >>"$LISTED"
+        for name; do
+            case " ${long-} " in *" $name "*) echo "$file $name begins-first" ;; *) echo "$file $name in-order" ;; esac
+        done >>"$LISTED"
         return
     fi
     for name; do try_test "$name"; done
