@@ -1,10 +1,10 @@
 #!/bin/sh
 # The tests of driver/tests, module by module, those of whole searches test by test: each is one of unittest, over the program that was
-# built, or over the model of it. FARMDAWN_CASES says how many random searches for several tests are made here.
+# built, or over the model of it. FARMDAWN_CASES says how many random searches each of three modules makes, and FARMDAWN_SEED from which on.
 . "$(dirname "$0")/helpers.sh"
 
 units=$top/driver/tests
-export FARMDAWN="$farmdawn" FARMDAWN_CASES="${FARMDAWN_CASES:-6}"
+export FARMDAWN="$farmdawn"
 has_program || FARMDAWN=$top/driver/model/farmdawn
 case $(readlink -f "$FARMDAWN") in */model/farmdawn) ;; *) export FARMDAWN_PROGRAM="${FARMDAWN_PROGRAM:-$FARMDAWN}" ;; esac
 
