@@ -52,6 +52,8 @@ test_style() {
     expect 'flake8' flake8
 }
 
+long='random ends_random several_random types style page model test_places__Places__test_rows test_trust__Page__test_commands'
+long="$long test_ended__Ended__test_searches test_ended__Ended__test_signals test_confirm__Confirmed__test_taken_back"
 by_clock="$apart random ends_random several_random several_page loop history"
 # shellcheck disable=SC2086 # names without blanks
 [ $# -gt 0 ] || set -- $apart $modules all_named lint types style

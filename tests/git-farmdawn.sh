@@ -761,6 +761,7 @@ test_interrupts() {
     nothing_sleeps
 }
 
+long='interrupts many_skips torn_outcomes left_by_tests'
 by_clock='logs_and_limits lost_engine warnings hanging going_on dead_runs lost_output interrupts'
 [ $# -gt 0 ] || set -- line merges unrelated_good terms encodings signed signed_by_gpg sha256 shallow part_of_many submodules \
     places words folders_and_scripts tracked_files links_of_commits torn_outcomes foreign_folders environment bash_environment \

@@ -35,8 +35,8 @@ def engine_of_containers(case: unittest.TestCase, room: str) -> Dict[str, str]:
 
 
 def running(env: Dict[str, str]) -> List[str]:
-    """The names of the containers that run."""
-    return subprocess.run(['podman', 'ps'], env=env, stdout=subprocess.PIPE, text=True, check=True).stdout.split()
+    """The names of the containers that run, as `podman ps` lists them; the folder is read here, as it is often asked for."""
+    return [name[:-4] for name in os.listdir(env['CONTAINERS']) if name.endswith('.run')]
 
 
 @needs_engine
