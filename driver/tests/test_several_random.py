@@ -113,9 +113,10 @@ class Case:
 
     def engine(self) -> str:
         """The engine that keeps what it is told."""
-        path = os.path.join(self.repo.room, 'engine')
+        path, plain = (os.path.join(self.repo.room, name) for name in ('engine', 'farmdawn'))
+        os.symlink(os.path.realpath(ENGINE), plain)     # the program refuses words that are no UTF-8, as its own path may be
         with open(path, 'w', encoding='utf-8', errors='surrogateescape') as file:
-            file.write(TOLD % (self.told, ENGINE, ENGINE))
+            file.write(TOLD % (self.told, plain, plain))
         os.chmod(path, 0o755)
         return path
 
