@@ -262,10 +262,21 @@ class Random(unittest.TestCase):
             long = subprocess.run(['pgrep', '-a', '-f', LONG], stdout=subprocess.PIPE, text=True, errors='surrogateescape')
             return ' '.join(left) + long.stdout
         soon = 30 if case.kind in ('git', 'driver', 'guardian, driver') else 1
+        if case.kind.endswith('driver'):
+            self.remove_unborn(case.repo.path + '/.git/farmdawn')
         try:
             wait_until(lambda: not runs(), 'the end', soon)
         except AssertionError:
             self.fail(f'{runs()} is left: {about}')
+
+    def remove_unborn(self, folder: str) -> None:
+        """A driver that is killed while it makes the folder of its run leaves one that is empty and has no lock; searches remove it when
+        it is old."""
+        for path in [os.path.join(folder, name) for name in os.listdir(folder) if name.startswith('run.')] if os.path.isdir(folder) else []:
+            files = [name for _, _, names in os.walk(path) for name in names]
+            if files in ([], ['lock.new']):
+                shutil.rmtree(path, ignore_errors=True)
+                self.counts['killed while it made its folder'] += 1
 
     def look_at_told(self, case: Case, out: str, told: str, about: str) -> None:
         """Each outcome that was told, by a line or in the log, is kept; the ends were called so. A skip may be that of a build."""
