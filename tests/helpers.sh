@@ -1,8 +1,8 @@
 # What the tests of the scripts share. Each test is a function named test_..; it runs in a folder of its own, and what
 # it prints is shown where it fails. A function needs_.. with the same name says whether the test can run here; what is
 # missing passes the test over, and is told by its name. A file runs its tests one by one, or those that are named;
-# tests/check runs those of all files, several at once. TIMES=1 tells the seconds of each, by the clock and of processors. FARMDAWN_DRIVER names the folder of another
-# git-farmdawn than that of this checkout.
+# tests/check runs those of all files, several at once. TIMES=1 tells the seconds of each, by the clock and of processors.
+# FARMDAWN_DRIVER names the folder of another git-farmdawn than that of this checkout.
 set -u
 top=$(cd "$(dirname "$0")/.." && pwd)
 driver=${FARMDAWN_DRIVER:-$top/driver/bin}
