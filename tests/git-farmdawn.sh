@@ -121,7 +121,7 @@ test_shallow() {
 needs_part_of_many() { needs_all; }
 test_part_of_many() {
     git init -q -b main repository && cd repository || exit 1
-    awk 'BEGIN { for (i = 1; i <= 1500; i++) {
+    awk 'BEGIN { for (i = 1; i <= 2000; i++) {
         printf "commit refs/heads/main\ncommitter gen <gen> %d +0000\ndata 2\nc\n", i
         if (i == 1978) print "M 100644 inline bug\ndata 0\n" } }' | git fast-import --quiet && git reset -q --hard || exit 1
     agree main main~40
