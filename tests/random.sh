@@ -12,8 +12,8 @@ test_repositories() { FARMDAWN=$farmdawn expect 'repositories' python3 "$top/tes
 needs_paths() { needs_repositories; }
 test_paths() { FARMDAWN=$farmdawn expect 'repositories by path' python3 "$top/tests/paths.py" --count 12 --jobs 2; }
 
-# names of files that are words of the program, which takes those in UTF-8
-has_plain_path() { missing='a path in UTF-8' && printf %s "${TMPDIR-}$PWD" | iconv -f UTF-8 -t UTF-8 >/dev/null 2>&1; }
+# names of files that are words of the program, which takes those in UTF-8; the files are made where TMPDIR says
+has_plain_path() { missing='a path in UTF-8' && printf %s "${TMPDIR-}" | iconv -f UTF-8 -t UTF-8 >/dev/null 2>&1; }
 
 needs_folders() { has python3 git && has_program && has_plain_path; }
 test_folders() { FARMDAWN=$farmdawn expect 'folders of commits' python3 "$top/tests/folders.py" --count 3; }
