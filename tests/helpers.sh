@@ -101,7 +101,6 @@ tell() {
     seconds=''
     if [ -n "${TIMES-}" ]; then
         read_clock
-        before=${worked:-0}
         read_processors
         seconds=" [$(in_seconds $(((clock - began) / 10))), of processors $(in_seconds $((worked - before)))]"
     fi
@@ -112,8 +111,9 @@ tell() {
 # Tries a test, tells how it ended, and counts it. One that watches the clock has a second try behind all others.
 try_test() {
     test=$1
+    [ -z "${TIMES-}" ] || read_processors
     read_clock
-    began=$clock
+    began=$clock before=${worked-}
     can_run "$test"
     case $? in
     0) ;;
