@@ -65,7 +65,7 @@ def measure(command, given=os.devnull, limit=600.0, keep=None, folder=None, stac
         time.sleep(pause)
         pause = min(pause * 1.5, 0.02)
     seconds = time.time() - began
-    child.returncode = os.waitstatus_to_exitcode(status)
+    child.returncode = -os.WTERMSIG(status) if os.WIFSIGNALED(status) else os.WEXITSTATUS(status)
     kept = b""
     if keep:
         with open(keep, "rb") as file:

@@ -54,7 +54,7 @@ def definitions_of(file, text):
     found, comment, now = {}, [], None
     for line in text.split("\n"):
         if line.startswith("--"):
-            comment.append(line.removeprefix("--").strip())
+            comment.append(line[2:].strip())
         elif not line.strip() or re.match(r"(use|mod|pub mod)\b", line):
             comment, now = [], None
         else:
@@ -73,7 +73,7 @@ class Book:
     def __init__(self):
         self.definitions, self.imports = {}, {}
         for path in sorted(glob.glob(os.path.join(TOP, "crates", "*", "specs", "*.antt"))):
-            crate, name = path.split(os.sep)[-3], os.path.basename(path).removesuffix(".antt")
+            crate, name = path.split(os.sep)[-3], os.path.basename(path)[:-len(".antt")]
             file = f"{crate}.specs.{name}"
             self.definitions[file] = definitions_of(file, read(path))
             self.imports[file] = imports_of(read(path))

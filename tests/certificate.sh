@@ -146,7 +146,8 @@ test_wrong() {
     tree=$(git rev-parse 'main^{tree}')
     again='' refused 'a changed outcome' 's/^\(outcome .*\) 1$/\1 2/' 'sum in line 2'
     again='' refused 'another sum' '2s/[0-9a-f]*$/0000000000000000000000000000000000000000000000000000000000000000/' 'sum in line 2'
-    for line in $(seq "$(wc -l <../answer)"); do again='' refused "without line $line" "${line}d" ''; done
+    # driver/tests/test_answer.py leaves out each line
+    for line in 1 2 3 '$'; do again='' refused "without line $line" "${line}d" ''; done
     again='' refused 'a line twice' '/^reach/p' 'sum'
     again='' refused 'a blank' 's/^end$/end /' 'in no form'
     again='' refused 'bytes' 's/^word sh$/&\x1b/' 'bytes'
@@ -218,5 +219,6 @@ test_files() {
     expect 'without any test' [ "$(grep -c ^outcome ../answer)" -ge 0 ]
 }
 
+long='wrong'
 [ $# -gt 0 ] || set -- line merges terms sha256 shallow wrong files
 run_tests "$@"

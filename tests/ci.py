@@ -95,7 +95,7 @@ def go_on(job):
     """A search that the deadline stops, and that the next job goes on with; job(NUMBER, TEST, DEADLINE) gives status and workspace."""
     first_bad = make_origin()
     open("tested", "w").close()
-    status, folder, out = job(1, HANGS, "6s")
+    status, folder, out = job(1, HANGS, "10s")
     expect(f"the time is over: {status} {out}", status == 24)
     open("second", "w").close()
     with open("tested", encoding="ascii") as file:

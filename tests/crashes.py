@@ -35,7 +35,8 @@ JOURNAL = "bisect.journal"
 # A test notes its commit in the file `tested`, takes a moment, and finds its outcome in the commit's name.
 TEST = 'echo "$1" >>"$0"; sleep 0.01; case $1 in *[0-5]) exit 0 ;; *[6-d]) exit 1 ;; *) exit 125 ;; esac'
 
-SLOW = TEST.replace("sleep 0.01", "sleep 0.3")
+# one that waits for a file
+HELD = TEST.replace("sleep 0.01", 'until [ -e "$0.on" ]; do sleep 0.02; done')
 
 
 def stream():
@@ -228,14 +229,13 @@ def try_other():
 def try_two(whole):
     """A second run over a journal that one has is refused, and the first goes on undisturbed."""
     with Place() as place:
-        first = place.start(words=place.words(test=SLOW))
-        while not place.tested():
+        first = place.start(words=place.words(test=HELD))
+        while not place.tested() and first.poll() is None:
             time.sleep(0.005)
         second = place.run()
-        was_running = first.poll() is None
+        open(place.tested_file + ".on", "w").close()
         text = first.communicate()[0]
-        wrong = [] if second == (22, b"journal fault\n") or not was_running else [f"a second run: {second[0]}"]
-        wrong += [] if was_running else ["a second run came too late to tell"]
+        wrong = [] if second == (22, b"journal fault\n") else [f"a second run: {second[0]}"]
         return wrong + ([] if (first.returncode, text) == whole else ["a second run: the first one was disturbed"])
 
 

@@ -132,7 +132,8 @@ test_machine() {
         expect "it is named: $tool, in $(cat told)" grep -q "$tool.* is not here: " told
         [ ! -e prefix ] || expect 'taken away' sh unpacked/install.sh --uninstall prefix
     done
-    # the Python of the system, which needs no path
+    # the Python of the system, which needs no path, and the one that is named
+    unset FARMDAWN_PYTHON
     sed "s|/usr/bin/python3|$PWD/nowhere/python3|" unpacked/install.sh >unpacked/other.sh
     machine_without python3
     PATH=$PWD/machine sh unpacked/other.sh prefix >out 2>told

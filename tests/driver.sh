@@ -1,15 +1,15 @@
 #!/bin/sh
 # The tests of driver/tests, module by module, those of whole searches test by test: each is one of unittest, over the program that was
-# built, or over the model of it. FARMDAWN_CASES says how many random searches for several tests are made here.
+# built, or over the model of it. FARMDAWN_CASES says how many random searches each of three modules makes, and FARMDAWN_SEED from which on.
 . "$(dirname "$0")/helpers.sh"
 
 units=$top/driver/tests
-export FARMDAWN="$farmdawn" FARMDAWN_CASES="${FARMDAWN_CASES:-6}"
+export FARMDAWN="$farmdawn"
 has_program || FARMDAWN=$top/driver/model/farmdawn
 case $(readlink -f "$FARMDAWN") in */model/farmdawn) ;; *) export FARMDAWN_PROGRAM="${FARMDAWN_PROGRAM:-$FARMDAWN}" ;; esac
 
-# A module, or with a class and a method one test of it.
-unit() { cd "$units" && expect "driver/tests/$1" python3 -B -m unittest "$1"; }
+# A module, or with a class and a method one test of it. What is compiled is kept for the others of this run.
+unit() { cd "$units" && expect "driver/tests/$1" python3 -X pycache_prefix="${FARMDAWN_WORK:-$work}/compiled" -m unittest "$1"; }
 
 # those of which each is a test of its own, the longest ones first
 searches='containers confirm ended ends places several noise trust told pool'
@@ -52,6 +52,8 @@ test_style() {
     expect 'flake8' flake8
 }
 
+long='random ends_random several_random types style page model test_places__Places__test_rows test_trust__Page__test_commands'
+long="$long test_ended__Ended__test_searches test_ended__Ended__test_signals test_confirm__Confirmed__test_taken_back"
 by_clock="$apart random ends_random several_random several_page loop history"
 # shellcheck disable=SC2086 # names without blanks
 [ $# -gt 0 ] || set -- $apart $modules all_named lint types style

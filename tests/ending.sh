@@ -111,6 +111,7 @@ test_orphans() {
     done
 }
 
+long='needless stubborn'
 by_clock='needless stubborn patient children orphans'
 [ $# -gt 0 ] || set -- needless stubborn patient children worktree orphans
 run_tests "$@"

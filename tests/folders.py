@@ -19,8 +19,6 @@ import subprocess
 import sys
 import time
 
-import trials
-
 TOP = os.path.dirname(os.path.dirname(os.path.abspath(__file__)))
 FARMDAWN = os.environ.get("FARMDAWN", os.path.join(TOP, "crates/farmdawn/out/farmdawn"))
 CALM = {**os.environ, "GIT_CONFIG_GLOBAL": "/dev/null", "GIT_CONFIG_SYSTEM": "/dev/null", "GIT_CONFIG_NOSYSTEM": "1", "LC_ALL": "C"}
@@ -37,12 +35,19 @@ def git(folder, *words, data=None):
 
 def listed(repository, name):
     """The files of a commit by path, without submodules."""
-    files = {}
+    blobs = {}
     for line in git(repository, "ls-tree", "-r", "-z", "--full-tree", name).split(b"\0")[:-1]:
         head, path = line.split(b"\t", 1)
         kind, blob = head.split()[1:3]
         if kind == b"blob":
-            files[path] = git(repository, "cat-file", "blob", blob.decode())
+            blobs[path] = blob
+    text, files = git(repository, "cat-file", "--batch", data=b"".join(blob + b"\n" for blob in blobs.values())), {}
+    for path, blob in blobs.items():
+        head, _, text = text.partition(b"\n")
+        named, size = head.rsplit(b" ", 1)
+        if named != blob + b" blob" or text[int(size):int(size) + 1] != b"\n":
+            sys.exit(255)
+        files[path], text = text[:int(size)], text[int(size) + 1:]
     return files
 
 
@@ -167,7 +172,7 @@ def try_one(number, work, seed):
     due = started(work, stream, asks).communicate()[0]
     compared = os.path.join(work, "compared.py")  # by another name: a word that is no UTF-8 is refused
     os.symlink(os.path.abspath(__file__), compared)
-    test = ["--", sys.executable, compared, "--compare", repository, log]
+    test = ["--", sys.executable, "-I", "-S", compared, "--compare", repository, log]
     wrong, kills = [], 0
     for workers in ("1", "4", "4"):
         words = ["checkout", "run", "--workers", workers, *ends, *test]
@@ -182,6 +187,7 @@ def try_one(number, work, seed):
 def main():
     if sys.argv[1:2] == ["--compare"]:
         compare(*sys.argv[2:])
+    import trials   # which a comparison does not need
     arguments = trials.read_arguments(__doc__, 50)
     wrong, folders, kills = 0, 0, 0
     for number, (faults, compared, killed_here) in trials.try_all(arguments, lambda number, work: try_one(number, work, arguments.seed)):

@@ -565,27 +565,31 @@ test_full_disk() {
     done
 }
 
-# Many skips are known to the engine from the start, however many lines of requests they take.
+# A search with skips beside git bisect run, with the same words.
+skip_as_git() {
+    range=$1
+    shift
+    git farmdawn "$@" --workers 2 --skip "$range" main main~1480 -- sh -c "$command" >log 2>told
+    expect 'each is in the log once' [ "$(sed -n 's/^git bisect skip //p' log | sort -u | wc -l)" -eq "$(git rev-list --count "$range")" ]
+    expect 'and was tested never' [ "$(grep -c ': testing' told)" -lt 16 ]
+    bisected="$(git bisect start "$@" main main~1480 && git bisect skip "$range" && git bisect run sh -c "$command")"
+    git bisect reset >/dev/null 2>&1
+    expect 'the commits that git is left with' [ "$(printf '%s\n' "$bisected" | grep -xE '[0-9a-f]{40}' | sort)" = "$(grep -xE '[0-9a-f]{40}' log | sort)" ]
+    git bisect replay log >/dev/null 2>&1
+    expect 'git bisect replay takes the log' [ "$(($? == 0 || $? == 2))" -eq 1 ]
+    git bisect reset >/dev/null 2>&1
+}
+
+# Many skips are known to the engine from the start, however many lines of requests they take: those of the last search take two.
 needs_many_skips() { needs_all; }
 test_many_skips() {
     git init -q -b main repository && cd repository || exit 1
-    awk 'BEGIN { for (i = 1; i <= 5400; i++) {
+    awk 'BEGIN { for (i = 1; i <= 1500; i++) {
         printf "commit refs/heads/main\ncommitter gen <gen> %d +0000\ndata 2\nc\n", i
-        if (i == 5300) print "M 100644 inline bug\ndata 0\n" } }' | git fast-import --quiet && git reset -q --hard || exit 1
-    for range in main~150..main~20 main~5290..main~180; do
-        for terms in '' '--term-new fixed --term-old broken'; do
-            # shellcheck disable=SC2086
-            git farmdawn $terms --workers 2 --skip $range main main~5300 -- sh -c "$command" >log 2>told
-            expect 'each is in the log once' [ "$(sed -n 's/^git bisect skip //p' log | sort -u | wc -l)" -eq "$(git rev-list --count $range)" ]
-            expect 'and was tested never' [ "$(grep -c ': testing' told)" -lt 16 ]
-            bisected="$(git bisect start ${terms:+--term-new fixed --term-old broken} main main~5300 && git bisect skip "$range" && git bisect run sh -c "$command")"
-            git bisect reset >/dev/null 2>&1
-            expect 'the commits that git is left with' [ "$(printf '%s\n' "$bisected" | grep -xE '[0-9a-f]{40}' | sort)" = "$(grep -xE '[0-9a-f]{40}' log | sort)" ]
-            git bisect replay log >/dev/null 2>&1
-            expect 'git bisect replay takes the log' [ "$(($? == 0 || $? == 2))" -eq 1 ]
-            git bisect reset >/dev/null 2>&1
-        done
-    done
+        if (i == 1400) print "M 100644 inline bug\ndata 0\n" } }' | git fast-import --quiet && git reset -q --hard || exit 1
+    skip_as_git main~150..main~20
+    skip_as_git main~150..main~20 --term-new fixed --term-old broken
+    skip_as_git main~1470..main~180 --term-new fixed --term-old broken
     nothing_left
 }
 
@@ -761,6 +765,7 @@ test_interrupts() {
     nothing_sleeps
 }
 
+long='interrupts many_skips torn_outcomes left_by_tests'
 by_clock='logs_and_limits lost_engine warnings hanging going_on dead_runs lost_output interrupts'
 [ $# -gt 0 ] || set -- line merges unrelated_good terms encodings signed signed_by_gpg sha256 shallow part_of_many submodules \
     places words folders_and_scripts tracked_files links_of_commits torn_outcomes foreign_folders environment bash_environment \

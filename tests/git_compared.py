@@ -1,4 +1,6 @@
 """What git did in its own tests beside what farmdawn says of the same: one record of tests/git-kept.sh after the other."""
+from __future__ import annotations
+
 import os
 import re
 import shlex
@@ -66,7 +68,7 @@ def read_record(folder: str) -> Record:
 
 def read_marks(refs: str) -> set[tuple[str, str]]:
     """The marks of a repository, each as its term and its commit, from lines with a name and a ref below refs/bisect."""
-    return {(re.sub(f"-{NAME}$", "", ref.removeprefix("bisect/")), name) for name, ref in (line.split() for line in refs.splitlines())}
+    return {(re.sub(f"-{NAME}$", "", re.sub("^bisect/", "", ref)), name) for name, ref in (line.split() for line in refs.splitlines())}
 
 
 def plain_log(log: str) -> str:

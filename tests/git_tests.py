@@ -10,6 +10,8 @@ what is asked next, logs both ways, runs. What differs must be a row of DIFFEREN
 
   --kept FOLDER   keeps what git did there, or, where FOLDER is there, compares what it has
 """
+from __future__ import annotations
+
 import argparse
 import collections
 import os

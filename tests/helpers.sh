@@ -1,8 +1,8 @@
 # What the tests of the scripts share. Each test is a function named test_..; it runs in a folder of its own, and what
 # it prints is shown where it fails. A function needs_.. with the same name says whether the test can run here; what is
 # missing passes the test over, and is told by its name. A file runs its tests one by one, or those that are named;
-# tests/check runs those of all files, several at once. TIMES=1 tells the seconds of each. FARMDAWN_DRIVER names the folder of another
-# git-farmdawn than that of this checkout.
+# tests/check runs those of all files, several at once. TIMES=1 tells the seconds of each, by the clock and of processors.
+# FARMDAWN_DRIVER names the folder of another git-farmdawn than that of this checkout.
 set -u
 top=$(cd "$(dirname "$0")/.." && pwd)
 driver=${FARMDAWN_DRIVER:-$top/driver/bin}
@@ -87,13 +87,22 @@ watches_clock() { case " ${by_clock-} " in *" $1 "*) ;; *) return 1 ;; esac; }
 # The hundredths of a second since this machine began.
 read_clock() { read -r clock _ </proc/uptime && clock=${clock%.*}${clock#*.}; }
 
+# The tenths of a second that processors gave to this shell, and to all that has ended and was waited for.
+read_processors() {
+    times >"$work/times" # in no other shell, which would have none yet
+    worked=$(awk '{ for (i = 1; i <= NF; i++) { split($i, part, /[ms]/); sum += 60 * part[1] + part[2] } } END { printf "%d", 10 * sum }' "$work/times")
+}
+
+# Seconds with a point.
+in_seconds() { echo "$(($1 / 10)).$(($1 % 10)) s"; }
+
 # Tells how the test at hand ended, with what it printed where that is no matter of course.
 tell() {
     seconds=''
     if [ -n "${TIMES-}" ]; then
         read_clock
-        seconds=$(((clock - began) / 10))
-        seconds=" [$((seconds / 10)).$((seconds % 10)) s]"
+        read_processors
+        seconds=" [$(in_seconds $(((clock - began) / 10))), of processors $(in_seconds $((worked - before)))]"
     fi
     echo "$1: $file $test${2-}$seconds"
     case $1 in ok | skipped) ;; *) sed 's/^/    /' "$work/$test.out" ;; esac
@@ -102,8 +111,9 @@ tell() {
 # Tries a test, tells how it ended, and counts it. One that watches the clock has a second try behind all others.
 try_test() {
     test=$1
+    [ -z "${TIMES-}" ] || read_processors
     read_clock
-    began=$clock
+    began=$clock before=${worked-}
     can_run "$test"
     case $? in
     0) ;;
@@ -131,11 +141,13 @@ try_test() {
     fi
 }
 
-# Runs the tests that are named, and counts. For tests/check, which sets LISTED, they are listed alone; and where it sets COUNTS, the
-# counts go into that file, and those that want a second try into the file LATER.
+# Runs the tests that are named, and counts. For tests/check, which sets LISTED, they are listed alone, with a word for those that take
+# long; and where it sets COUNTS, the counts go into that file, and those that want a second try into the file LATER.
 run_tests() {
     if [ -n "${LISTED-}" ]; then
-        for name; do echo "$file $name"; done >>"$LISTED"
+        for name; do
+            case " ${long-} " in *" $name "*) echo "$file $name begins-first" ;; *) echo "$file $name in-order" ;; esac
+        done >>"$LISTED"
         return
     fi
     for name; do try_test "$name"; done

@@ -11,7 +11,7 @@ case depends on the seed and its number alone.
   --count N       so many cases (1000)
   --from N        the number of the first case (0)
   --jobs N        so many cases at once (1)
-  --limit S       seconds that PROGRAM may take for a case (10)
+  --limit S       seconds of a processor that PROGRAM may take for a case (10), and ten times as many by the clock
   --second-limit S    seconds that SECOND may take (300); a case that it does not end in is passed over
   --memory N      bytes of memory for each byte of the stream and the log, behind 64 MiB (1024)
   --keep DIR      keeps the files of each case that is wrong there
@@ -289,14 +289,14 @@ def make_case(seed, number):
 # ---- running
 
 
-def run(program, case, limit):
-    """What a program does with a case; None where it did not end within the limit."""
+def run(program, case, limit, patience=1):
+    """What a program does with a case; None where it took more of a processor than the limit, or so many times as long by the clock."""
     with tempfile.TemporaryDirectory() as folder:
         for name, content in (("log", case.log), ("stream", case.stream)):
             with open(os.path.join(folder, name), "wb") as file:
                 file.write(content)
-        ours = measure([program, *case.words], os.path.join(folder, "stream"), limit, os.path.join(folder, "output"), folder, due=None)
-    return ours if ours.seconds <= limit else None
+        ours = measure([program, *case.words], os.path.join(folder, "stream"), patience * limit, os.path.join(folder, "output"), folder, due=None)
+    return ours if ours.processor <= limit and ours.seconds <= patience * limit else None
 
 
 def fault_of(case, ours, arguments):
@@ -395,7 +395,7 @@ def main():
     def try_case(labelled):
         label, make = labelled
         case = make()
-        ours = run(arguments.program, case, arguments.limit)
+        ours = run(arguments.program, case, arguments.limit, patience=10)
         fault = fault_of(case, ours, arguments)
         if fault and fault != "passed over" and arguments.keep:
             keep(arguments.keep, label, case)

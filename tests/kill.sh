@@ -185,6 +185,7 @@ test_driver_killed() {
     nothing_sleeps
 }
 
+long='kill term pipe'
 by_clock='kill term pipe full slow_input driver_killed'
 [ $# -gt 0 ] || set -- kill term pipe full input said slow_input driver_killed
 run_tests "$@"

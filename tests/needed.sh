@@ -126,9 +126,10 @@ test_interrupts() {
 
 needs_random() { needs_all; }
 test_random() {
-    expect 'random searches' python3 "$top/tests/needed.py" --count 15
+    expect 'random searches' python3 "$top/tests/needed.py" --count 8
 }
 
+long='random'
 by_clock='freed again interrupts'
 [ $# -gt 0 ] || set -- freed again interrupts random
 run_tests "$@"

@@ -14,9 +14,10 @@ count_running='
     trap "rm -f running/$$; exit 255" TERM
     : >running/$$
     turns=0
-    until [ -e met ] || [ "$(ls running | wc -l)" -ge "$0" ]; do turns=$((turns + 1)) && [ $turns -lt 600 ] && sleep 0.1 || exit 255; done
+    until [ -e met ] || { set -- running/* && [ $# -ge "$0" ]; }; do turns=$((turns + 1)) && [ $turns -lt 600 ] && sleep 0.1 || exit 255; done
     [ -e met ] || sleep 0.3
-    ls running | wc -l >>counts
+    set -- running/*
+    echo $# >>counts
     : >met
     rm running/$$'
 

@@ -66,18 +66,20 @@ run_block() {
         # shellcheck source=/dev/null
         . "$command" >"$name.output" 2>&1
         # another home, another number of the command, as many outcomes as there was time for, and a test as long as it took
-        sed -i "s|$HOME|/home/ann|g; s/from [0-9]* outcomes/from N outcomes/; s/results-[0-9a-f]\{12\}/results-NUMBER/
+        sed -i "s|$HOME|/home/ann|g; s/from [0-9]* outcomes*/from N outcomes/; s/results-[0-9a-f]\{12\}/results-NUMBER/
             s/what [0-9]* searches/what N searches/; s/([0-9]* s)$/(N s)/" "$name.shown" "$name.output"
         is_shown "$name.shown" "$name.output" || { cat "$name.output" && expect "what the page shows of '$(cat "$command")'" false; }
     done
 }
 
-# The blocks that install, pack and make the practice repository are always run, and behind them those that need this; where
-# nothing is named, those that need neither ccache nor Slurm.
+# The blocks that install and that make the practice repository are always run. Behind them come those of a half of the page that
+# need neither ccache nor Slurm, or those of the whole page that need the one that is named.
+half=17
 is_wanted() {
     case ${1##*/}:$2 in
-    0[123]:*) ;;
-    *:) ! grep -qw -e ccache -e slurm "$1/needs" ;;
+    01:* | 03:*) ;;
+    *:begin) [ "${1##*/}" -le $half ] && ! grep -qw -e ccache -e slurm "$1/needs" ;;
+    *:end) [ "${1##*/}" -gt $half ] && ! grep -qw -e ccache -e slurm "$1/needs" ;;
     *) grep -qw "$2" "$1/needs" ;;
     esac
 }
@@ -94,13 +96,17 @@ run_page() {
     install_built
     cd "$top" || exit 1
     for block in "$blocks"/*; do
-        if is_wanted "$block" "${1-}"; then run_block "$block"; fi
+        if is_wanted "$block" "$1"; then run_block "$block"; fi
     done
     nothing_left
 }
 
 needs_page() { has git python3 flock setsid make cc timeout && has_program; }
-test_page() { run_page; }
+needs_begin() { needs_page; }
+test_begin() { run_page begin; }
+
+needs_end() { needs_page; }
+test_end() { run_page end; }
 
 needs_ccache() { has ccache && needs_page; }
 test_ccache() { run_page ccache; }
@@ -108,6 +114,7 @@ test_ccache() { run_page ccache; }
 needs_slurm() { needs_page && has_slurm; }
 test_slurm() { run_page slurm; }
 
-by_clock='page' # a test that takes longer than it should may be one that nobody needs any more
-[ $# -gt 0 ] || set -- page ccache slurm
+by_clock='begin end' # a test that takes longer than it should may be one that nobody needs any more
+long='begin end'
+[ $# -gt 0 ] || set -- begin end ccache slurm
 run_tests "$@"

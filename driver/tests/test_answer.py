@@ -42,8 +42,11 @@ class Lines(unittest.TestCase):
         self.assertIn('%s was called broken, and not tested' % A[:12], '\n'.join(certificate.told(untested)))
 
     def test_changed(self) -> None:
-        """Any byte, with the sum as it was."""
+        """Any byte, or a line that is left out, with the sum as it was."""
         whole = with_sum(LINES)
+        lines = whole.splitlines(True)
+        for at in range(len(lines)):
+            self.assertRaises(Fault, read_answer, b''.join(lines[:at] + lines[at + 1:]))
         for at in range(len(whole)):
             for byte in (whole[at] ^ 1, 10 if whole[at] != 10 else 32):
                 self.assertRaises(Fault, read_answer, whole[:at] + bytes([byte]) + whole[at + 1:])

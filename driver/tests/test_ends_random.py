@@ -1,8 +1,8 @@
 """Searches that are ended at random moments, however: signals, kills of the driver, of `git`, the engine, the guardian or a test, a disk that
 is full. Nothing is left running and no folder stays, each outcome that was told is kept, and the same line comes to the log and the
 answer of an undisturbed search, without testing again what is kept. Searches are for one test, for one with a build, or for several.
-FARMDAWN_CASES says how many, FARMDAWN_SEED from where on; with
-FARMDAWN_COUNTS they are counted at the end."""
+FARMDAWN_CASES says how many, FARMDAWN_SEED from where on; with FARMDAWN_COUNTS they are counted at the end. The first few are those of
+the seeds that have most of the ways to end a search."""
 from __future__ import annotations
 
 import collections
@@ -21,7 +21,7 @@ import test_ends
 from helpers import DRIVER, ENV, LONG, Repository, needs_engine, wait_until
 from test_ends import children
 
-CASES, SEED = int(os.environ.get('FARMDAWN_CASES') or 10), int(os.environ.get('FARMDAWN_SEED') or 1)
+CASES, SEED = int(os.environ.get('FARMDAWN_CASES') or 5), int(os.environ.get('FARMDAWN_SEED') or 366)
 COMMITS = 40
 # a test that leaves a process of its own; its first word makes each case another command, with outcomes of its own. It notes and prints its name
 TEST = ('echo "$0 $FARMDAWN_COMMIT" >>"$RECORD"; echo "$0"; %s %s >/dev/null 2>&1 & sleep 0.0%d; n=$(cat number); '
@@ -262,10 +262,21 @@ class Random(unittest.TestCase):
             long = subprocess.run(['pgrep', '-a', '-f', LONG], stdout=subprocess.PIPE, text=True, errors='surrogateescape')
             return ' '.join(left) + long.stdout
         soon = 30 if case.kind in ('git', 'driver', 'guardian, driver') else 1
+        if case.kind.endswith('driver'):
+            self.remove_unborn(case.repo.path + '/.git/farmdawn')
         try:
             wait_until(lambda: not runs(), 'the end', soon)
         except AssertionError:
             self.fail(f'{runs()} is left: {about}')
+
+    def remove_unborn(self, folder: str) -> None:
+        """A driver that is killed while it makes the folder of its run leaves one that is empty and has no lock; searches remove it when
+        it is old."""
+        for path in [os.path.join(folder, name) for name in os.listdir(folder) if name.startswith('run.')] if os.path.isdir(folder) else []:
+            files = [name for _, _, names in os.walk(path) for name in names]
+            if files in ([], ['lock.new']):
+                shutil.rmtree(path, ignore_errors=True)
+                self.counts['killed while it made its folder'] += 1
 
     def look_at_told(self, case: Case, out: str, told: str, about: str) -> None:
         """Each outcome that was told, by a line or in the log, is kept; the ends were called so. A skip may be that of a build."""

@@ -10,9 +10,11 @@ import subprocess
 import unittest
 from typing import Dict, List, Sequence, Tuple
 
-from helpers import PROGRAM, TOP, needs_program
+from helpers import DRIVER, PROGRAM, TOP, needs_program
 
-MODEL = os.path.join(TOP, 'driver', 'model', 'farmdawn')
+# beside the driver that is tested, whose modules may be compiled
+MODEL = next(path for path in (os.path.join(folder, 'model', 'farmdawn') for folder in (os.path.dirname(DRIVER), os.path.join(TOP, 'driver')))
+             if os.path.exists(path))
 EVENTS = ('log', 'left', 'answer', 'end', 'needless', 'certificate')
 WORDS: List[List[str]] = [[], ['--first-parent'], ['--term-new', 'broken']]
 LETTERS = {'0': 'g', '1': 'b', '125': 's', '128': 'a', 'killed': 'k'}

@@ -1,6 +1,7 @@
 """Random repositories of many kinds, and tests that behave badly in them: a search by 1 to 16 workers has the log and the answer of testing
 each commit in a clone of its own, one at a time; and `git bisect run` comes to the same commit, or it is known why not. FARMDAWN_CASES says
-how many, FARMDAWN_SEED from where on; with FARMDAWN_COUNTS they are counted at the end.
+how many, FARMDAWN_SEED from where on; with FARMDAWN_COUNTS they are counted at the end. The first few are those of the seeds that have
+most of the tests and places.
 
 The oracle: each commit between the ends is tested in a fresh clone, and `farmdawn simulate` searches the whole history by these outcomes."""
 from __future__ import annotations
@@ -22,7 +23,7 @@ sys.path.insert(1, os.path.join(TOP, 'tests'))
 import repositories  # noqa: E402
 from repositories import Question, Said, put_file  # noqa: E402
 
-CASES, SEED = int(os.environ.get('FARMDAWN_CASES') or 6), int(os.environ.get('FARMDAWN_SEED') or 1)
+CASES, SEED = int(os.environ.get('FARMDAWN_CASES') or 5), int(os.environ.get('FARMDAWN_SEED') or 4)
 QUIET = {**ENV, 'GIT_CONFIG_COUNT': '1', 'GIT_CONFIG_KEY_0': 'core.fsync', 'GIT_CONFIG_VALUE_0': 'none'}
 
 # how a commit shows its status: what a test of it runs

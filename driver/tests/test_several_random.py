@@ -1,7 +1,8 @@
 """Random searches for several tests at once. Each log and answer is that of its test alone, by an engine that has all outcomes of that
 test; and `git bisect run` for each test comes to the same commit, which is the one that broke it. Where commits are skipped, git may
 ask in another order: there both must be right. Some are ended on their way, and the same line goes on. FARMDAWN_CASES says how many,
-FARMDAWN_SEED from where on; with FARMDAWN_COUNTS it is told what they had."""
+FARMDAWN_SEED from where on; with FARMDAWN_COUNTS it is told what they had. The first few are those of the seeds that have most of this in
+the fewest tests."""
 from __future__ import annotations
 
 import collections
@@ -15,7 +16,7 @@ from typing import Counter, Dict, List, NamedTuple, Set
 
 from helpers import ENGINE, ENV, SECONDS, Repository, needs_engine, wait_until
 
-CASES, SEED = int(os.environ.get('FARMDAWN_CASES') or 40), int(os.environ.get('FARMDAWN_SEED') or 1)
+CASES, SEED = int(os.environ.get('FARMDAWN_CASES') or 4), int(os.environ.get('FARMDAWN_SEED') or 87)
 STOP, MISSING = 200, 5
 # what a commit, by its number, ends with: that of its build, and that of a test; by words of sh alone, which start no process
 FIND = 'read n <number; i=0; while read -r s && i=$((i + 1)) && [ $i -lt "$n" ]; do :; done <'
@@ -112,9 +113,10 @@ class Case:
 
     def engine(self) -> str:
         """The engine that keeps what it is told."""
-        path = os.path.join(self.repo.room, 'engine')
+        path, plain = (os.path.join(self.repo.room, name) for name in ('engine', 'farmdawn'))
+        os.symlink(os.path.realpath(ENGINE), plain)     # the program refuses words that are no UTF-8, as its own path may be
         with open(path, 'w', encoding='utf-8', errors='surrogateescape') as file:
-            file.write(TOLD % (self.told, ENGINE, ENGINE))
+            file.write(TOLD % (self.told, plain, plain))
         os.chmod(path, 0o755)
         return path
 

@@ -3,6 +3,8 @@ from __future__ import annotations
 
 import os
 import re
+import shutil
+import signal
 import stat
 import subprocess
 import tempfile
@@ -12,6 +14,7 @@ from typing import Dict, List, Set
 from helpers import ROOM, TOP
 
 STARTER = os.path.join(TOP, 'driver', 'bin', 'git-farmdawn')
+HOLDS = subprocess.run(['env', '--block-signal=INT', 'true'], stderr=subprocess.DEVNULL, check=False).returncode == 0
 
 
 class Starter(unittest.TestCase):
@@ -89,6 +92,18 @@ class Starter(unittest.TestCase):
         link = self.room + '/bin/git-farmdawn'
         os.symlink(self.starter, link)
         self.assertEqual(subprocess.run([link, '-h'], cwd=self.room + '/evil', stdout=subprocess.DEVNULL, check=False).returncode, 0)
+
+    @unittest.skipUnless(HOLDS, 'an env that holds a signal back is not here')
+    def test_interrupted_early(self) -> None:
+        """Ctrl-C while Python starts is held back, and then just ends it. A path with a = is no variable for env."""
+        for name in ('env', 'true'):
+            os.symlink(str(shutil.which(name)), os.path.join(self.room, 'bin', name))
+        early = f'#!/bin/sh\nkill -INT $$\n: >{self.room}/held\nexec /usr/bin/python3 "$@"\n'
+        done = self.start('-h', FARMDAWN_PYTHON=self.program('early/python3', early))
+        self.assertEqual((done.returncode, done.stdout, done.stderr), (-signal.SIGINT, '', ''))
+        self.assertTrue(os.path.exists(self.room + '/held'))
+        done = self.start('-h', FARMDAWN_PYTHON=self.program('a=b/python3', '#!/bin/sh\nexec /usr/bin/python3 "$@"\n'))
+        self.assertEqual((done.returncode, done.stderr), (0, ''))
 
 
 if __name__ == '__main__':
