@@ -3,7 +3,7 @@ from __future__ import annotations
 
 from typing import Dict, List, Mapping, Sequence, Set
 
-from .drawing import OUTCOMES, filling, legend, page_text, patterns
+from .drawing import OUTCOMES, apart, filling, legend, page_text, patterns
 from .overview import BrokenFact, OutcomesFact, OverviewFacts, SearchFact
 from .page import block, shown_time
 from .report_facts import Facts
@@ -44,7 +44,7 @@ class OverviewPage:
 
     def link(self, name: str) -> str:
         """The name of a test, with a link to its page."""
-        return '<a href="%s/index.html">%s</a>' % (page_text(self.tests[name]['folder']), page_text(name))
+        return '<a href="%s/index.html">%s</a>' % (page_text(self.tests[name]['folder']), apart(name))
 
     # -- answers -------------------------------------------------------------------
 
@@ -53,14 +53,14 @@ class OverviewPage:
         commit, first = broken['commit'], self.searches[broken['tests'][0]]
         name = page_text(commit['name'])
         shown = '<a href="%s">%s</a>' % (page_text(first['link']), name) if first['link'] else name
-        rows = [('Commit', '<span class="name">%s</span>' % shown), ('Author', page_text(commit['author'])), ('Date', shown_time(commit['date'])),
+        rows = [('Commit', '<span class="name">%s</span>' % shown), ('Author', apart(commit['author'])), ('Date', shown_time(commit['date'])),
                 ('Broke', ', '.join(self.link(test) for test in broken['tests']))]
-        out = ['<section class="verdict card">', '<h2>%s</h2>' % page_text(commit['subject']),
+        out = ['<section class="verdict card">', '<h2>%s</h2>' % apart(commit['subject']),
                '<dl>%s</dl>' % ''.join('<dt>%s</dt><dd>%s</dd>' % row for row in rows)]
         output = first['output']
         if output is not None:
             lines = page_text('\n'.join(output['lines'][-MOST_OUTPUT:]))
-            out += ['<p class="kind">The last lines of %s</p>' % page_text(broken['tests'][0]), block(lines)]
+            out += ['<p class="kind">The last lines of %s</p>' % apart(broken['tests'][0]), block(lines, 'prose')]
         return out + ['</section>']
 
     def others(self) -> List[str]:

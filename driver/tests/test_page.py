@@ -228,8 +228,8 @@ class Pages(Room):
             self.assertEqual(one['tests'], {test.name: 'bad' if test.known[one['commit']] else 'good' for test in search.tests if one['commit'] in test.known})
         root = ElementTree.fromstring(OverviewPage(facts, searches).text().encode('utf-8'))
         tag = '{http://www.w3.org/1999/xhtml}'
-        self.assertEqual([card.findtext(tag + 'h2') for card in root.iter(tag + 'section')], ['c3', 'c7'])
-        rows = [(row.findtext(tag + 'td/' + tag + 'a') or '', [cell.get('class') for cell in row.iter() if cell.tag in (tag + 'rect', tag + 'path')])
+        self.assertEqual([card.findtext(tag + 'h2/' + tag + 'bdi') for card in root.iter(tag + 'section')], ['c3', 'c7'])
+        rows = [(row.findtext(tag + 'td/' + tag + 'a/' + tag + 'bdi') or '', [cell.get('class') for cell in row.iter() if cell.tag in (tag + 'rect', tag + 'path')])
                 for row in root.iter(tag + 'tr')][1:]
         self.assertEqual([name for name, _ in rows], [names[at] for at in (1, 4, 0, 3, 2)])
         for name, cells in rows:
