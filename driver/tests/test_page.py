@@ -11,7 +11,7 @@ import tempfile
 import types
 import unittest
 import xml.etree.ElementTree as ElementTree
-from typing import Any, List, Optional
+from typing import Any, List, Optional, Sequence
 from unittest import mock
 
 sys.path.insert(0, os.path.dirname(os.path.dirname(os.path.abspath(__file__))))
@@ -77,7 +77,7 @@ def make_search(room: str, texts: List[str], answer: Optional[int]) -> Any:
                                  log_lines=lambda one, with_answer=True: one.log + (one.answer if with_answer else []))
 
 
-def make_several(room: str, texts: List[str], answers: List[Optional[int]]) -> Any:
+def make_several(room: str, texts: List[str], answers: List[Optional[int]], names: Sequence[str] = ()) -> Any:
     """Searches for several tests, each with the number of its answer; None is one that is left out."""
     search = make_search(room, texts, 1)
     search.builds, order, base = [], search.history.order, vars(search.tests[0])
@@ -86,7 +86,7 @@ def make_several(room: str, texts: List[str], answers: List[Optional[int]]) -> A
         known = {name: int(at >= (answer or 0)) for at, name in enumerate(order[1:-1], 1) if at % 4 != number % 4 or at == answer}
         wrong = None if answer else types.SimpleNamespace(text='it was called bad')
         last = [b'%s is the first bad commit' % order[answer].encode()] if answer else []
-        search.tests.append(types.SimpleNamespace(**{**base, 'name': HOSTILE_NAMES[number], 'short': 't%d' % number, 'known': known, 'rows': [],
+        search.tests.append(types.SimpleNamespace(**{**base, 'name': (names or HOSTILE_NAMES)[number], 'short': 't%d' % number, 'known': known, 'rows': [],
                                                      'wrong': wrong, 'answer': last, 'status': 0 if answer else 1, 'missing': set()}))
     return search
 
