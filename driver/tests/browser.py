@@ -102,8 +102,8 @@ class Browser:
 
     def start(self, case: unittest.TestCase) -> None:
         """Starts it in a folder of its own."""
-        room = tempfile.TemporaryDirectory(ignore_cleanup_errors=True)
-        case.addCleanup(room.cleanup)
+        room = tempfile.mkdtemp()
+        case.addCleanup(shutil.rmtree, room, ignore_errors=True)        # its last processes may write there still
         pipes = [os.pipe(), os.pipe()]
         given, self.sends, self.reads, gives = (fcntl.fcntl(end, fcntl.F_DUPFD_CLOEXEC, 10) for pipe in pipes for end in pipe)
         for end in pipes[0] + pipes[1]:
@@ -113,7 +113,7 @@ class Browser:
             """It reads its third descriptor and writes its fourth."""
             os.dup2(given, 3)
             os.dup2(gives, 4)
-        words = [CHROMIUM, '--headless', '--no-sandbox', '--disable-gpu', '--hide-scrollbars', '--remote-debugging-pipe', '--user-data-dir=' + room.name]
+        words = [CHROMIUM, '--headless', '--no-sandbox', '--disable-gpu', '--hide-scrollbars', '--remote-debugging-pipe', '--user-data-dir=' + room]
         self.process = subprocess.Popen([*words, 'about:blank'], preexec_fn=join, close_fds=False, start_new_session=True,
                                         stdout=subprocess.DEVNULL, stderr=subprocess.DEVNULL)
         case.addCleanup(self.end)

@@ -54,14 +54,15 @@ class Drawn(Room):
             Report(os.path.join(self.room, 'reports', name), search, '0.1.0').write(0 if search.tests[0].name == '' else 1)
         browser = Browser(self, os.path.join(self.room, 'reports'))
         for name, search in made.items():
-            is_one, least = search.tests[0].name == '', 2 * len(search.tests) + len(search.tests[0].rows)
+            least = 2 * len(search.tests) + len(search.tests[0].rows)
+            folded = {'twelve': 0, 'hundreds': 6}.get(name, 1)      # of many the names of each commit, those without an answer, and the rows
             for width in (NARROW, WIDE):
                 for scheme in ('light', 'dark'):
-                    for kind in ('policy', 'plain'):
+                    for kind in ('policy', 'plain') if scheme == 'light' else ('policy',):
                         with self.subTest(name=name, width=width, scheme=scheme, kind=kind):
                             browser.show('%s/%s/index.html' % (kind, name), width, scheme)
                             seen = browser.probe()
-                            self.assertEqual((seen.wrong, seen.folded), ([], int(is_one)))
+                            self.assertEqual((seen.wrong, seen.folded), ([], folded))
                             browser.unfold()
                             seen = browser.probe()
                             self.assertEqual((seen.wrong, seen.folded), ([], 0))

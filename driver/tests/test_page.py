@@ -244,6 +244,37 @@ class Pages(Room):
         self.check_summary(summary)
         self.assertEqual(re.findall(r'^\[`0{12}`\]\(https.*\) (.*)$', summary, re.M), ['c3', 'c7'])
 
+    def test_many(self) -> None:
+        """Of many tests most names of a commit are folded, and so are the rows: what they printed stands near the top."""
+        names = ['suite::test %d' % at for at in range(60)]
+        search = make_several(self.room, ['c%d' % at for at in range(12)], [3 if at % 3 else None for at in range(60)], names)
+        facts = Overview(search, '0.1.0').facts(1, '')
+        searches = {test.name: Collector(search, test, '0.1.0').collect(test.status, '', test.wrong is None) for test in search.tests}
+        page = OverviewPage(facts, searches).text()
+        root, tag = ElementTree.fromstring(page.encode('utf-8')), '{http://www.w3.org/1999/xhtml}'
+        self.assertEqual([folded.findtext(tag + 'summary') for folded in root.iter(tag + 'details')], ['and 35 more', 'and 15 more', '60 tests'])
+        self.assertEqual([folded.get('open') for folded in root.iter(tag + 'details')], [None] * 3)
+        self.assertEqual(sorted(link.findtext(tag + 'bdi') or '' for link in root.iter(tag + 'a') if link.find(tag + 'bdi') is not None), sorted(names * 2))
+        self.assertIn('<li>it was called bad: <a href="t0/index.html">', page)
+        self.assertLess(page.index('and 35 more'), page.index('Without an answer'))
+
+    def test_stopped(self) -> None:
+        """Of several, a test that has its answer has it in its own report too, where the others run or were stopped; the overview says the same."""
+        search = make_several(self.room, ['c%d' % at for at in range(12)], [7, 3, None, 7, 3])
+        search.tests[3].status, search.tests[3].answer = None, []
+        for status, reason, state in ((None, '', 'running'), (143, 'stopped by a signal', 'stopped')):
+            target = report.Report(self.room + '/report', search, '0.1.0')
+            target.write(status, reason, False)
+            with open(self.room + '/report/result.json', encoding='utf-8') as file:
+                whole: OverviewFacts = json.load(file)
+            self.assertEqual([one['state'] for one in whole['searches']], ['found', 'found', 'left out', state, 'found'])
+            for one, test in zip(whole['searches'], search.tests):
+                with open(os.path.join(self.room, 'report', test.short, 'result.json'), encoding='utf-8') as file:
+                    own: Facts = json.load(file)
+                self.assertEqual(own['reason'], one['reason'])
+                if test.wrong is None:
+                    self.assertEqual((own['state'], own['answer'] and own['answer']['name'], bool(own['link'])), (one['state'], one['answer'], one['answer'] is not None))
+
     def test_wide_matrix(self) -> None:
         """Of very many commits those are shown that most tests say something of, and the answers in any case."""
         search = make_several(self.room, ['c%d' % at for at in range(4 * MOST_COLUMNS)], [7, 3, None, 7, 600])
