@@ -15,12 +15,14 @@ TOP = os.path.dirname(os.path.dirname(os.path.abspath(__file__)))
 PAGE = os.path.join(TOP, "docs", "CI.md")
 COMMITS, FIRST_BAD = 40, 23
 # what the forms must refuse: a text of the page, and one that is wrong in its place
-WRONG = {"gitlab": [("max: 2", "max: 3"), ("when: always", "when: allways"), ("  script:", "  scripts:"), ("exit_codes: [24]", "exit_codes: [240000]"),
-                    ("timeout: 1h", "timeout: an hour"), ("rules:", "rule:"), ('GIT_DEPTH: "0"', "GIT_DEPTH: 0"), ("junit: ", "junits: "), ("- report/", "- $REPORT/")],
+WRONG = {"gitlab": [("max: 2", "max: 3"), ("when: always", "when: allways"), ("  script:", "  scripts:"), ("exit_codes: [24]", "exit_codes: [999]"),
+                    ("timeout: 1h", "timeout: an hour"), ("rules:", "rule:"), ('GIT_DEPTH: "0"', "GIT_DEPTH: 0"), ("junit: ", "junits: "),
+                    ("- report/", "- $REPORT/")],
          "github": [("inputs.bad }}", "inputs.bed }}"), ("id: search", "id: find"), ('echo "status=', 'echo "state='), ("fetch-depth: 0", "fetch-depht: 0"),
                     ("timeout-minutes: 350", "timeout-minutes: 400"), ("required: true", "required: yes, it is"), ("actions: write", "actions: read"),
-                    ('-f good="$GOOD"', ""), ("restore-keys:", "restore-key:"), ("if: always()", "if: allways()"), ('"$BAD" "$GOOD" --', '"${{ inputs.bad }}" "$GOOD" --'),
-                    ("vars.FARMDAWN_SUM", "variables.FARMDAWN_SUM"), ("    steps:", "    step:"), ("uses: actions/checkout@v4", "uses: actions/checkout@v400")],
+                    ('-f good="$GOOD"', ""), ("restore-keys:", "restore-key:"), ("if: always()", "if: allways()"),
+                    ('"$BAD" "$GOOD" --', '"${{ inputs.bad }}" "$GOOD" --'), ("vars.FARMDAWN_SUM", "variables.FARMDAWN_SUM"), ("    steps:", "    step:"),
+                    ("uses: actions/checkout@v4", "uses: actions/checkout@v400")],
          "jenkins": [("stages {", "stage {"), ("returnStatus:", "returnsStatus:"), ("unstable(", "unsteady("), ("post {", "afterwards {"), ("    }\n  }\n}", "    }\n  }"),
                      ("[cloneOption(shallow: false, noTags: false)]", "[cloneOption(shallow: false, noTags: false)"), ("noTags:", "tags:")]}
 
@@ -294,8 +296,8 @@ def forms():
     for text in scripts():
         done = subprocess.run(["shellcheck", "-s", "bash", "-e", "SC2154", "-"], input=text, text=True, stdout=subprocess.PIPE)
         expect(f"shellcheck: {text}{done.stdout}", done.returncode == 0)
-    jobs = {"gitlab": (blocks("yaml")[0], lambda text: ci_forms.of_gitlab(yaml_of(text))), "github": (blocks("yaml")[1], lambda text: ci_forms.of_github(yaml_of(text))),
-            "jenkins": (blocks("groovy")[0], ci_forms.of_jenkins)}
+    jobs = {"gitlab": (blocks("yaml")[0], lambda text: ci_forms.of_gitlab(yaml_of(text))),
+            "github": (blocks("yaml")[1], lambda text: ci_forms.of_github(yaml_of(text))), "jenkins": (blocks("groovy")[0], ci_forms.of_jenkins)}
     for name, (text, faults) in jobs.items():
         found = list(faults(text))
         expect(f"{name} knows the form: {found}", not found)

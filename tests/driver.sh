@@ -12,7 +12,7 @@ case $(readlink -f "$FARMDAWN") in */model/farmdawn) ;; *) export FARMDAWN_PROGR
 unit() { cd "$units" && expect "driver/tests/$1" python3 -B -m unittest "$1"; }
 
 # those of which each is a test of its own, the longest ones first
-searches='containers confirm ended ends places several noise trust told pool'
+searches='containers reader confirm ended ends places several noise trust told pool'
 modules='random ends_random several_random several_page browser page model history names house kept answer evidence loop starter words lists engine telling'
 apart=''
 for module in $searches; do

@@ -35,7 +35,7 @@ PROBE = r'''(() => {
   const walk = document.createTreeWalker(document.body, NodeFilter.SHOW_TEXT);
   for (let node = walk.nextNode(); node; node = walk.nextNode()) {
     const e = node.parentElement;
-    if (!node.data.trim() || !seen(e)) continue;
+    if (!node.data.trim() || !seen(e) || e.matches('details:not([open])')) continue;
     const style = getComputedStyle(e), ink = light(e.namespaceURI.endsWith('svg') ? style.fill : style.color), paper = light(behind(e));
     if ((Math.max(ink, paper) + 0.05) / (Math.min(ink, paper) + 0.05) < 4.5) wrong.push('pale: ' + e.tagName + ' ' + node.data.slice(0, 40));
     if (scrolls(e)) continue;

@@ -14,7 +14,8 @@ from git_farmdawn.facts import Row                              # noqa: E402
 from git_farmdawn.report import Report                          # noqa: E402
 from test_page import Room, make_search, make_several           # noqa: E402
 
-SUBJECTS = ['修复解析器在空文件上的崩溃，并且为此添加一个测试', 'إصلاح خطأ في قراءة الملفات الطويلة (issue 17)', 'תיקון באג בקריאת קבצים', 'x',
+SUBJECTS = ['修复解析器在空文件上的崩溃，并且为此添加一个测试', 'إصلاح خطأ في قراءة الملفات الطويلة (issue 17)',
+            'תיקון באג בקריאת קבצים', 'x',
             'Supercalifragilisticexpialidocious' * 4, 'Make the reader of src/' + 'very/long/' * 9 + 'path.c faster', 'A quite ordinary subject']
 LONG = 'tests/integration/test_module_with_a_long_name.py::TestClassOfSomething::test_that_number_%d_holds'
 NARROW, WIDE = 390, 1280
@@ -37,13 +38,15 @@ class Drawn(Room):
         search.repo.text_shown, search.settings.workers = PATCH, workers
         test = search.tests[0]
         test.words = ['sh', '-c', 'make -s test || { echo "%s" >&2; exit 2; }; : %s' % (LONG % 7, 'y' * 300)]
-        test.rows = [Row(row.commit, at % workers, 5.0 + at // 4 * 1000, 900.0 + at // 4 * 1000, row.status, host='node-%d.cluster.example.org' % (at % workers))
+        host = 'node-%d.cluster.example.org'
+        test.rows = [Row(row.commit, at % workers, 5.0 + at // 4 * 1000, 900.0 + at // 4 * 1000, row.status, host=host % (at % workers))
                      for at, row in enumerate(test.rows)]
         return search
 
     def several(self, tests: int) -> Any:
         """Searches for so many tests, some of them without an answer."""
-        search = make_several(self.room, texts_of(60), [None if at % 11 == 5 else 9 + at % 4 * 12 for at in range(tests)], [LONG % at for at in range(tests)])
+        answers = [None if at % 11 == 5 else 9 + at % 4 * 12 for at in range(tests)]
+        search = make_several(self.room, texts_of(60), answers, [LONG % at for at in range(tests)])
         search.repo.text_shown = PATCH
         return search
 
@@ -71,16 +74,18 @@ class Drawn(Room):
     def test_probe(self) -> None:
         """What is wrong is found."""
         page = '<!DOCTYPE html><html><head><meta charset="utf-8"><link rel="stylesheet" href="report.css"></head><body>%s</body></html>'
-        css = 'body { max-width: 70rem; background: #fff; color: #222; margin: 0 }\n.w { width: 3000px } .o { position: absolute; top: 4px } .p { color: #999 }'
+        css = 'body { max-width: 70rem; background: #fff; color: #222; margin: 0 }\n'
+        css += '.w { width: 3000px } .o { position: absolute; top: 4px } .p { color: #999 }'
         os.makedirs(self.room + '/pages')
-        for name, text in (('report.css', css), ('wide.html', page % '<p class="w">wide</p>'), ('over.html', page % '<p class="o">first</p><p class="o">second</p>'),
+        for name, text in (('report.css', css), ('wide.html', page % '<p class="w">wide</p>'),
+                           ('over.html', page % '<p class="o">first</p><p class="o">second</p>'),
                            ('pale.html', page % '<p class="p">pale</p>'), ('style.html', page % '<p style="color: red">a style</p>'),
                            ('bare.html', (page % '<p>bare</p>').replace('report', 'other')), ('well.html', page % '<p>well</p>')):
             with open(os.path.join(self.room, 'pages', name), 'w', encoding='utf-8') as file:
                 file.write(text)
         browser = Browser(self, self.room + '/pages')
-        for name, due in (('wide', 'outside: P wide'), ('wide', 'sideways'), ('over', 'over each other: first | second'), ('pale', 'pale: P pale'), ('bare', 'no style'),
-                          ('style', 'Content Security Policy')):
+        for name, due in (('wide', 'outside: P wide'), ('wide', 'sideways'), ('over', 'over each other: first | second'), ('pale', 'pale: P pale'),
+                          ('bare', 'no style'), ('style', 'Content Security Policy')):
             browser.show('policy/%s.html' % name, NARROW, 'light')
             self.assertTrue([text for text in browser.probe().wrong if due in text], (name, due, browser.probe().wrong))
         browser.show('policy/well.html', NARROW, 'light')

@@ -160,7 +160,7 @@ class Pages(Room):
         self.assertEqual((page.count(': may be the first one</title>'), page.count(' doubt" fill=')), (2, 2))
         self.assertEqual(page.count('<a href="https://gitlab.example.org/team/tool/-/commit/'), 2)
         self.assertIn('## One of 2 commits', summary)
-        self.assertIn("--skip %s --copy 'a b' --submodules " % first, facts['again']['search'])
+        self.assertIn("cd deep/ && git farmdawn --build make --skip %s --copy '../a b' --submodules " % first, facts['again']['search'])
         search.settings.noise = (0.05, 0.02)
         for sure, words in ((0.99, '--noise 0.05,0.02 --build'), (0.999, '--noise 0.05,0.02 --sure 0.999 --build')):
             search.settings.sure = sure
