@@ -2,24 +2,29 @@
 """Runs the jobs of docs/CI.md with stand-ins for GitLab, GitHub and Jenkins, which clone as these do, keep caches and artifacts as the job
 says, and start the next job. ci.py gitlab|github|jenkins|forms; run in an empty folder, it prints what is not so and ends with 1.
 
-`forms` looks at the texts themselves: yamllint where it is there, shellcheck for each script, and whether each key is one that the server knows."""
+`forms` looks at the texts themselves: yamllint where it is there, shellcheck for each script, and the forms that the servers know (ci_forms.py)."""
 import os
 import re
 import shutil
 import subprocess
 import sys
 
+import ci_forms
+
 TOP = os.path.dirname(os.path.dirname(os.path.abspath(__file__)))
 PAGE = os.path.join(TOP, "docs", "CI.md")
 COMMITS, FIRST_BAD = 40, 23
-# the keys that this page uses, as the servers' references have them
-GITLAB = {"image", "rules", "timeout", "variables", "cache", "script", "retry", "allow_failure", "artifacts"}
-GITLAB_PARTS = {"cache": {"key", "when", "paths"}, "retry": {"max", "exit_codes"}, "allow_failure": {"exit_codes"},
-                "artifacts": {"when", "expose_as", "paths", "reports"}}
-WORKFLOW, JOB, STEP = {"name", "on", "permissions", "jobs"}, {"runs-on", "timeout-minutes", "env", "steps"}, {"uses", "with", "name", "id", "env", "run", "if"}
-ACTIONS = {"actions/checkout@v4": {"fetch-depth"}, "actions/cache/restore@v4": {"path", "key", "restore-keys"}, "actions/cache/save@v4": {"path", "key"},
-           "actions/upload-artifact@v4": {"name", "path"}}
-
+# what the forms must refuse: a text of the page, and one that is wrong in its place
+WRONG = {"gitlab": [("max: 2", "max: 3"), ("when: always", "when: allways"), ("  script:", "  scripts:"), ("exit_codes: [24]", "exit_codes: [999]"),
+                    ("timeout: 1h", "timeout: an hour"), ("rules:", "rule:"), ('GIT_DEPTH: "0"', "GIT_DEPTH: 0"), ("junit: ", "junits: "),
+                    ("- report/", "- $REPORT/")],
+         "github": [("inputs.bad }}", "inputs.bed }}"), ("id: search", "id: find"), ('echo "status=', 'echo "state='), ("fetch-depth: 0", "fetch-depht: 0"),
+                    ("timeout-minutes: 350", "timeout-minutes: 400"), ("required: true", "required: yes, it is"), ("actions: write", "actions: read"),
+                    ('-f good="$GOOD"', ""), ("restore-keys:", "restore-key:"), ("if: always()", "if: allways()"),
+                    ('"$BAD" "$GOOD" --', '"${{ inputs.bad }}" "$GOOD" --'), ("vars.FARMDAWN_SUM", "variables.FARMDAWN_SUM"), ("    steps:", "    step:"),
+                    ("uses: actions/checkout@v4", "uses: actions/checkout@v400")],
+         "jenkins": [("stages {", "stage {"), ("returnStatus:", "returnsStatus:"), ("unstable(", "unsteady("), ("post {", "afterwards {"), ("    }\n  }\n}", "    }\n  }"),
+                     ("[cloneOption(shallow: false, noTags: false)]", "[cloneOption(shallow: false, noTags: false)"), ("noTags:", "tags:")]}
 
 def expect(what, holds):
     if not holds:
@@ -279,29 +284,11 @@ def jenkins():
 
 # -- the texts ---------------------------------------------------------------------
 
-def known_keys(what, given, known):
-    expect(f"{what} is known: {sorted(set(given) - known)}", set(given) <= known)
-
-
 def scripts():
     """The scripts of all jobs, as they stand."""
     yield from blocks("sh")
-    job = yaml_of(blocks("yaml")[0])["bisect"]
-    known_keys("a key of GitLab", job, GITLAB)
-    for name, known in GITLAB_PARTS.items():
-        known_keys(f"a key of {name}", job[name], known)
-    yield "\n".join(job["script"])
-    workflow = yaml_of(blocks("yaml")[1])
-    known_keys("a key of GitHub", workflow, WORKFLOW)
-    for job in workflow["jobs"].values():
-        known_keys("a key of a job", job, JOB)
-        for step in job["steps"]:
-            known_keys("a key of a step", step, STEP)
-            if "uses" in step:
-                known_keys(f"a word of {step['uses']}", step.get("with", {}), ACTIONS[step["uses"]])
-            else:
-                expect("no expression within a script: its words would be run", "${{" not in step["run"])
-                yield step["run"]
+    yield "\n".join(yaml_of(blocks("yaml")[0])["bisect"]["script"])
+    yield from (step["run"] for step in yaml_of(blocks("yaml")[1])["jobs"]["bisect"]["steps"] if "run" in step)
     yield re.search(r"'''(.*?)'''", blocks("groovy")[0], re.S)[1]
 
 
@@ -309,14 +296,14 @@ def forms():
     for text in scripts():
         done = subprocess.run(["shellcheck", "-s", "bash", "-e", "SC2154", "-"], input=text, text=True, stdout=subprocess.PIPE)
         expect(f"shellcheck: {text}{done.stdout}", done.returncode == 0)
-    text = re.sub(r"'''.*?'''|'[^'\n]*'|\"[^\"\n]*\"", "", blocks("groovy")[0], flags=re.S)
-    open_ones = []
-    for sign in re.findall(r"[(){}\[\]]", text):
-        if sign in "({[":
-            open_ones.append(sign)
-        else:
-            expect("each bracket of the pipeline is closed", open_ones and open_ones.pop() + sign in ("()", "{}", "[]"))
-    expect("each bracket is closed", not open_ones)
+    jobs = {"gitlab": (blocks("yaml")[0], lambda text: ci_forms.of_gitlab(yaml_of(text))),
+            "github": (blocks("yaml")[1], lambda text: ci_forms.of_github(yaml_of(text))), "jenkins": (blocks("groovy")[0], ci_forms.of_jenkins)}
+    for name, (text, faults) in jobs.items():
+        found = list(faults(text))
+        expect(f"{name} knows the form: {found}", not found)
+        for right, wrong in WRONG[name]:
+            expect(f"the job has {right}", right in text)
+            expect(f"{wrong} is refused", list(faults(text.replace(right, wrong))))
     if shutil.which("yamllint"):
         for text in blocks("yaml"):
             rules = "{extends: default, rules: {document-start: disable, truthy: {check-keys: false}, line-length: {max: 140}}}"

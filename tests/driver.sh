@@ -12,8 +12,8 @@ case $(readlink -f "$FARMDAWN") in */model/farmdawn) ;; *) export FARMDAWN_PROGR
 unit() { cd "$units" && expect "driver/tests/$1" python3 -X pycache_prefix="${FARMDAWN_WORK:-$work}/compiled" -m unittest "$1"; }
 
 # those of which each is a test of its own, the longest ones first
-searches='containers confirm ended ends places several noise trust told pool'
-modules='random ends_random several_random several_page page model history names house kept answer evidence loop starter words lists engine telling'
+searches='containers reader confirm ended ends places several noise trust told pool'
+modules='random ends_random several_random several_page browser page model history names house kept answer evidence loop starter words lists engine telling'
 apart=''
 for module in $searches; do
     apart="$apart $(awk -v module="test_$module" '
@@ -24,6 +24,8 @@ for name in $apart; do
     eval "needs_$name() { has python3 git; }; test_$name() { unit $(echo "$name" | sed 's/__/./g'); }"
 done
 for name in $modules; do eval "needs_$name() { has python3 git; }; test_$name() { unit test_$name; }"; done
+
+needs_browser() { has python3 chromium; }
 
 # A module that is not named here would be tested never.
 needs_all_named() { :; }

@@ -141,7 +141,7 @@ def check_page(page, result):
     root = ElementTree.fromstring(page)
     tags = {element.tag.split("}")[1] for element in root.iter()}
     expect(f"no other tags: {tags}", tags <= set("html head meta title style body svg defs pattern rect path header p h1 h2 dl dt dd code span link "
-                                                  "ul li line text a desc pre details summary table thead tr th tbody td footer".split()))
+                                                  "ul li line text a bdi desc pre details summary table thead tr th tbody td footer".split()))
     for element in root.iter():
         for key, value in element.attrib.items():
             expect(f"no script: {key}", not key.startswith("on"))

@@ -37,6 +37,11 @@ def page_text(text: str) -> str:
     return escape(plain(text))
 
 
+def apart(text: str) -> str:
+    """The same where it may run from right to left: what stands beside it keeps its place."""
+    return '<bdi>%s</bdi>' % page_text(text)
+
+
 def patterns() -> str:
     """What fills the bars and cells."""
     out = ['<svg width="0" height="0" aria-hidden="true" class="patterns"><defs>']

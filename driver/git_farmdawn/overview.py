@@ -92,7 +92,7 @@ class Overview:
             'repository': text_of(os.fsencode(search.repo.top or search.repo.gitdir)), 'bad': settings.bad, 'good': settings.goods,
             'status': status, 'reason': text_of(os.fsencode(reason)) or None, 'started': round(search.began + self.offset - 0.01, 2),
             'ended': None if status is None else round(time.time() + 0.01, 2), 'workers': settings.workers,
-            'commits': search.history.left, 'answers': self.answers(), 'searches': [self.search_of(test, status) for test in search.tests],
+            'commits': search.history.left, 'answers': self.answers(), 'searches': [self.search_of(test, status, reason) for test in search.tests],
             'outcomes': self.outcomes(), 'builds': [self.build_of(row) for row in search.builds]}
 
     def answers(self) -> List[BrokenFact]:
@@ -105,21 +105,24 @@ class Overview:
                 found.append({'commit': answer, 'tests': [text_of(os.fsencode(test.name)) for test in tests]})
         return found
 
-    def search_of(self, test: Test, status: Optional[int]) -> SearchFact:
-        """One search, as far as it is."""
+    def search_of(self, test: Test, status: Optional[int], why: str) -> SearchFact:
+        """One search, as far as it is; where it has no end of its own, that of all says why."""
         own = test.status if test.status is not None else status
         name = self.ending.named(test) if test.status == 0 else None
         collector = Collector(self.search, test, self.version)
         state = 'left out' if test.wrong is not None else 'found' if name else Collector.state(own, None)
-        reason = test.wrong.text if test.wrong is not None else None if name else collector.reason(own, self.log_of(test))
+        reason = test.wrong.text if test.wrong is not None else None if name else self.reason_of(test, own, why)
         candidates: List[CommitFact] = collector.candidates(self.ending)
         return {'test': text_of(os.fsencode(test.name)), 'folder': test.short,
                 'command': [text_of(os.fsencode(word)) for word in test.words], 'state': state, 'status': own, 'answer': name,
                 'reason': reason, 'candidates': [one['name'] for one in candidates], 'missing': len(test.missing)}
 
-    def log_of(self, test: Test) -> List[str]:
-        """The log of a search with its answer."""
-        return [text_of(line) for line in self.search.log_lines(test, True)]
+    def reason_of(self, test: Test, status: Optional[int], why: str) -> str:
+        """Why a search has no answer."""
+        if test.status is None and why:
+            return text_of(os.fsencode(why))
+        log = [text_of(line) for line in self.search.log_lines(test, True)]
+        return Collector(self.search, test, self.version).reason(status, log)
 
     def outcomes(self) -> List[OutcomesFact]:
         """The commits that have an outcome for some test, in the order of the history."""

@@ -3,7 +3,7 @@ from __future__ import annotations
 
 from typing import Dict, List, Mapping, Sequence, Set
 
-from .drawing import OUTCOMES, filling, legend, page_text, patterns
+from .drawing import OUTCOMES, apart, filling, legend, page_text, patterns
 from .overview import BrokenFact, OutcomesFact, OverviewFacts, SearchFact
 from .page import block, shown_time
 from .report_facts import Facts
@@ -11,6 +11,7 @@ from .telling import NAME, span
 from .words import counted
 
 MOST_COLUMNS, MOST_CANDIDATES, MOST_OUTPUT = 160, 20, 5
+MOST_NAMES, MOST_ROWS = 5, 40           # tests of a commit, and rows, that are not folded
 CELL, HEIGHT, MARGIN = 9, 18, 4         # pixels
 
 
@@ -44,7 +45,15 @@ class OverviewPage:
 
     def link(self, name: str) -> str:
         """The name of a test, with a link to its page."""
-        return '<a href="%s/index.html">%s</a>' % (page_text(self.tests[name]['folder']), page_text(name))
+        return '<a href="%s/index.html">%s</a>' % (page_text(self.tests[name]['folder']), apart(name))
+
+    def links(self, names: Sequence[str]) -> str:
+        """Some tests; of many, most are folded."""
+        shown = [self.link(name) for name in names]
+        first = ', '.join(shown[:MOST_NAMES])
+        if len(shown) <= MOST_NAMES + 1:
+            return ', '.join(shown)
+        return '%s <details><summary>and %d more</summary>%s</details>' % (first, len(shown) - MOST_NAMES, ', '.join(shown[MOST_NAMES:]))
 
     # -- answers -------------------------------------------------------------------
 
@@ -53,14 +62,14 @@ class OverviewPage:
         commit, first = broken['commit'], self.searches[broken['tests'][0]]
         name = page_text(commit['name'])
         shown = '<a href="%s">%s</a>' % (page_text(first['link']), name) if first['link'] else name
-        rows = [('Commit', '<span class="name">%s</span>' % shown), ('Author', page_text(commit['author'])), ('Date', shown_time(commit['date'])),
-                ('Broke', ', '.join(self.link(test) for test in broken['tests']))]
-        out = ['<section class="verdict card">', '<h2>%s</h2>' % page_text(commit['subject']),
+        rows = [('Commit', '<span class="name">%s</span>' % shown), ('Author', apart(commit['author'])), ('Date', shown_time(commit['date'])),
+                ('Broke', self.links(broken['tests']))]
+        out = ['<section class="verdict card">', '<h2>%s</h2>' % apart(commit['subject']),
                '<dl>%s</dl>' % ''.join('<dt>%s</dt><dd>%s</dd>' % row for row in rows)]
         output = first['output']
         if output is not None:
             lines = page_text('\n'.join(output['lines'][-MOST_OUTPUT:]))
-            out += ['<p class="kind">The last lines of %s</p>' % page_text(broken['tests'][0]), block(lines)]
+            out += ['<p class="kind">The last lines of %s</p>' % apart(broken['tests'][0]), block(lines, 'prose')]
         return out + ['</section>']
 
     def others(self) -> List[str]:
@@ -71,7 +80,8 @@ class OverviewPage:
                 found.setdefault(page_text(one['reason'] or one['state']) + self.candidates_of(one), []).append(one['test'])
         if not found:
             return []
-        rows = ['<li>%s: %s</li>' % (', '.join(self.link(test) for test in tests), why) for why, tests in found.items()]
+        rows = ['<li>%s: %s</li>' % (why, self.links(tests)) if len(tests) > 1 else '<li>%s: %s</li>' % (self.link(tests[0]), why)
+                for why, tests in found.items()]
         return ['<h2>Without an answer</h2>', '<ul>%s</ul>' % ''.join(rows)]
 
     @staticmethod
@@ -107,10 +117,12 @@ class OverviewPage:
         words: Set[str] = {word for column in columns for word in column['tests'].values()}
         new = next(iter(self.searches.values()))['terms']['new']
         line = 'a line stands before the first %s commit' % page_text(new)
+        many = len(self.tests) > MOST_ROWS
         out = ['<h2>All outcomes</h2>', *legend([word for word in OUTCOMES if word in words], line),
+               *['<details><summary>%s</summary>' % counted(len(self.tests), 'test')] * many,
                '<table class="matrix">', '<thead><tr><th>test</th><th>from the oldest commit to the newest one</th></tr></thead>', '<tbody>']
         out += ['<tr><td>%s</td><td class="what">%s</td></tr>' % (self.link(test), self.row(test, columns)) for test in self.order()]
-        out += ['</tbody></table>']
+        out += ['</tbody></table>' + '</details>' * many]
         left = len(self.facts['outcomes']) - len(columns)
         rest = ' %s that fewer tests say something of are left out, too.' % counted(left, 'commit') if left else ''
         return out + ['<p class="kind">Commits without an outcome are left out.%s</p>' % rest]

@@ -5,7 +5,7 @@ import re
 import time
 from typing import TYPE_CHECKING, List, Optional
 
-from .drawing import farm, page_text, patterns, strip
+from .drawing import apart, farm, page_text, patterns, strip
 from .odds import of_hundred
 from .remote import form_of, link_of
 from .report_facts import AnswerFact, Facts, TestFact, is_needless, was_taken_back
@@ -80,20 +80,20 @@ class Page:
         facts = self.facts
         name = page_text(answer['name'])
         shown = '<a href="%s">%s</a>' % (page_text(facts['link']), name) if facts['link'] else name
-        rows = ['<dt>Commit</dt><dd class="name">%s</dd>' % shown, fact('Author', answer['author']),
+        rows = ['<dt>Commit</dt><dd class="name">%s</dd>' % shown, '<dt>Author</dt><dd>%s</dd>' % apart(answer['author']),
                 fact('Date', shown_time(answer['date']))]
         own = self.row_of(answer['name'])
         if own:
             rows.append(fact('Its test', 'ended with %d' % (own['status'] or 0)))
         rows += self.parents()
         return ['<header class="verdict">\n<p class="kind">First %s commit</p>\n<h1>%s</h1>\n<dl>%s</dl>\n</header>'
-                % (page_text(facts['terms']['new']), page_text(answer['subject']), ''.join(rows))]
+                % (page_text(facts['terms']['new']), apart(answer['subject']), ''.join(rows))]
 
     def parents(self) -> List[str]:
         """The parents of the answer that were good."""
         old = page_text(self.facts['terms']['old'])
         return ['<dt>Last %s one</dt><dd>%s %s (%s)</dd>' %
-                (old, self.linked(one['commit']), page_text(one['subject']), 'called so, and not tested' if one['status'] is None else 'tested')
+                (old, self.linked(one['commit']), apart(one['subject']), 'called so, and not tested' if one['status'] is None else 'tested')
                 for one in self.facts['last_good']]
 
     def linked(self, name: str) -> str:
@@ -110,7 +110,7 @@ class Page:
             return ['<header class="verdict none">\n<p class="kind">%s</p>\n<h1>%s</h1>\n</header>' % (kind, page_text(facts['reason'] or ''))]
         out = ['<header class="verdict">\n<p class="kind">First %s commit</p>\n<h1>One of %s</h1>\n<ul>'
                % (page_text(facts['terms']['new']), counted(len(listed), 'commit'))]
-        out += ['<li>%s %s%s</li>' % (self.linked(one['name']), page_text(one['subject']), ' (%s)' % one['outcome'] if one['outcome'] else '')
+        out += ['<li>%s %s%s</li>' % (self.linked(one['name']), apart(one['subject']), ' (%s)' % one['outcome'] if one['outcome'] else '')
                 for one in listed[:MOST_LISTED]]
         if len(listed) > MOST_LISTED:
             out.append('<li>and %d more, which <a href="result.json">result.json</a> has</li>' % (len(listed) - MOST_LISTED))
@@ -125,7 +125,7 @@ class Page:
         output = self.facts['output']
         if output is None:
             return []
-        return ['<h2>The last lines of the output of %s</h2>' % output['commit'][:NAME] + block(page_text('\n'.join(output['lines'])))]
+        return ['<h2>The last lines of the output of %s</h2>' % output['commit'][:NAME] + block(page_text('\n'.join(output['lines'])), 'prose')]
 
     def again(self) -> List[str]:
         """How the fault is seen, and how it is searched again."""
@@ -137,7 +137,7 @@ class Page:
     def doubts(self) -> List[str]:
         """What speaks against the answer, and whether the ends were tested."""
         facts = self.facts
-        out = ['<li class="doubt">%s %s: %s</li>' % (one['commit'][:NAME], page_text(one['subject']), page_text(one['why']))
+        out = ['<li class="doubt">%s %s: %s</li>' % (one['commit'][:NAME], apart(one['subject']), page_text(one['why']))
                for one in facts['contradictions']]
         for end in facts['ends']:
             if facts['answer'] and end['status'] is None:
@@ -156,7 +156,7 @@ class Page:
 
     def odds(self) -> List[str]:
         """The odds of the commits that have most of them, of a search by odds."""
-        return ['<li>%s: %s %s</li>' % (of_hundred(one['odds']), one['commit'][:NAME], page_text(one['subject']))
+        return ['<li>%s: %s %s</li>' % (of_hundred(one['odds']), one['commit'][:NAME], apart(one['subject']))
                 for one in self.facts['odds'][:MOST_TOLD]]
 
     # -- the change --------------------------------------------------------------------
@@ -199,7 +199,7 @@ class Page:
             status = end['status']
             how = 'not tested' if status is None else 'its test ended with %d' % status
             out.append('<dt>%s</dt><dd><span class="name">%s</span> %s (%s)</dd>' %
-                       (page_text(end['called']), end['commit'][:NAME], page_text(end['subject']), how))
+                       (page_text(end['called']), end['commit'][:NAME], apart(end['subject']), how))
         out += [fact('Path', path) for path in facts['paths']]
         took = '' if facts['ended'] is None else ', took ' + span(facts['ended'] - facts['started'])
         out += [fact('Commits', '%d to search%s' % (facts['commits'], ', by first parents' if facts['first_parent'] else '')),
@@ -226,5 +226,5 @@ class Page:
             link = '<a href="%s" aria-label="output of %s">output</a>' % (one['log'], one['commit'][:NAME]) if one['log'] else ''
             host = '<td>%s</td>' % page_text(one['host'] or '') if hosts else ''
             out.append('<tr id="t%d"><td>%s%s</td><td class="name">%s</td><td class="what">%s</td>%s<td class="number">%s</td><td>%s</td></tr>'
-                       % (number, one['outcome'], note, one['commit'][:NAME], page_text(one['subject']), host, spent, link))
+                       % (number, one['outcome'], note, one['commit'][:NAME], apart(one['subject']), host, spent, link))
         return out + ['</tbody>\n</table>']

@@ -89,11 +89,9 @@ class Report:
         searches = {}
         for test in self.search.tests:
             folder = os.path.join(self.folder, test.short) if test.name else self.folder
-            own = test.status if with_answer and test.status is not None and status in range(7) else status
             try:
                 os.makedirs(folder, exist_ok=True)
-                collector = Collector(self.search, test, self.version)
-                facts = collector.collect(own, reason, with_answer) if test.wrong is None else collector.collect(1, test.wrong.text, False)
+                facts = self.facts_of(test, status, reason, with_answer)
                 self.write_one(folder, test, facts)
                 searches[test.name] = facts
             except OSError:
@@ -102,6 +100,16 @@ class Report:
                 raise
         if self.search.tests[0].name:
             self.write_overview(status, reason, searches)
+
+    def facts_of(self, test: Test, status: Optional[int], reason: str, with_answer: bool) -> Facts:
+        """The facts of one search. Of several, one that has its end has it also where others still run or were stopped."""
+        collector = Collector(self.search, test, self.version)
+        if test.wrong is not None:
+            return collector.collect(1, test.wrong.text, False)
+        if test.name and test.status is not None:
+            return collector.collect(test.status, '', True)
+        own = test.status if with_answer and test.status is not None and status in range(7) else status
+        return collector.collect(own, reason, with_answer)
 
     def write_overview(self, status: Optional[int], reason: str, searches: Mapping[str, Facts]) -> None:
         """The files of several searches together."""

@@ -62,8 +62,13 @@ def folder_of(search: Search) -> List[str]:
     return ['cd ' + quoted(search.repo.prefix)] if search.repo.prefix else []
 
 
+def from_folder(search: Search, path: str) -> str:
+    """A path below the top of the work tree, as one names it in that folder."""
+    return os.path.relpath('/' + path, '/' + search.repo.prefix)
+
+
 def again(search: Search, test: Test, answer: str) -> Dict[str, str]:
-    """The lines of sh by which one sees the fault of the answer, and by which one searches again."""
+    """The lines of sh by which one sees the fault of the answer, and by which one searches again: both begin at the top of the work tree."""
     settings = search.settings
     typed = settings.typed.get(test.name, test.words)
     is_line = bool(test.name) and not settings.is_list          # of sh
@@ -71,7 +76,8 @@ def again(search: Search, test: Test, answer: str) -> Dict[str, str]:
     see = ' && '.join(['git checkout ' + answer] + folder_of(search) + (settings.build or [])[2:] + [command]) if answer else ''
     line = [ME, *options_of(search), settings.bad, *settings.goods]
     line += ['--test', test.name, quoted(command)] if is_line else ['--', command]
-    return {'see': text_of(os.fsencode(see)), 'search': text_of(os.fsencode(' '.join(line)))}
+    again_all = ' && '.join([*folder_of(search), ' '.join(line)])
+    return {'see': text_of(os.fsencode(see)), 'search': text_of(os.fsencode(again_all))}
 
 
 def options_of(search: Search) -> List[str]:
@@ -87,6 +93,8 @@ def options_of(search: Search) -> List[str]:
             words += [option, quoted(value[0] if isinstance(value, list) else str(value))]
     for status, meant in settings.missing.items():
         words += ['--missing', '%d=%s' % (status, next(word for word, meaning in MEANINGS.items() if meaning == meant))]
-    for option, values in (('--path', [path[len(TOP):] for path in settings.paths]), ('--skip', settings.skips), ('--copy', settings.copies)):
+    paths = [from_folder(search, path[len(TOP):]) for path in settings.paths]
+    copies = [from_folder(search, path) for path in settings.copies]
+    for option, values in (('--path', paths), ('--skip', settings.skips), ('--copy', copies)):
         words += [word for value in values for word in (option, quoted(value))]
     return words + (['--submodules'] if settings.submodules else [])

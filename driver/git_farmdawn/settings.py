@@ -259,7 +259,7 @@ class Filler:
         """A test with a name of its own, which sh runs."""
         others = [other for other, _ in self.settings.tests] + ['build']
         if not re.fullmatch('[A-Za-z0-9][A-Za-z0-9._-]{0,39}', name) or name in others:
-            raise Stop(1, '--test wants a name of letters, digits, dots and hyphens that no other test has, '
+            raise Stop(1, '--test wants a name of at most 40 letters, digits, dots, hyphens and underscores that no other test has, '
                           "not '%s'" % name)
         if not command.strip():
             raise values.wants_value('--test')

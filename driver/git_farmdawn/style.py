@@ -16,7 +16,7 @@ h2 { font-size: 1.1rem; margin: 2rem 0 .5rem }
 code, pre, .name { font-family: ui-monospace, monospace; font-size: .85rem }
 pre { background: var(--plate); border: 1px solid var(--line); border-radius: 4px; padding: .6rem; margin: .5rem 0; overflow: auto;
   max-height: 40rem; overflow-wrap: normal; line-height: 1.4 }
-pre.prose { white-space: pre-wrap; overflow-wrap: anywhere }
+pre.prose { white-space: pre-wrap; overflow-wrap: anywhere; unicode-bidi: plaintext }
 .kind { color: var(--soft); font-size: .9rem; margin: 0 }
 .verdict { border-left: 6px solid var(--bad); padding: .1rem 0 .1rem 1rem }
 .card { margin: 1.5rem 0 } .card h2 { margin-top: .3rem } .matrix svg { max-width: 100%; height: auto }

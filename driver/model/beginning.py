@@ -1,11 +1,19 @@
 """The words of a search, and the state at which it begins."""
+from __future__ import annotations
+
 import os
+from typing import TYPE_CHECKING, Callable, Dict, List, Optional, TypeVar
 
 import states
 from logs import replay, waiting_line
 from names import Unnamed, place_of, places_of
 from refusals import LONGEST_LOG, MOST_WORDS, Refused, name_refused, too_large, usage
-from states import SKIP, STANDARD, look_at_bases, mark, terms_fault
+from states import SKIP, STANDARD, Asked, Terms, look_at_bases, mark, terms_fault
+
+if TYPE_CHECKING:
+    from history import History
+
+Found = TypeVar('Found')
 
 FLAGS = (b'--first-parent', b'--lenient-exit')
 VALUES = (b'--term-new', b'--term-old', b'--skip', b'--replay')
@@ -15,18 +23,19 @@ FORBIDDEN_BY_LOG = (b'--first-parent', b'--term-new', b'--term-old')
 class Words:
     """The words of a search, by their numbers; that of the request is word 0."""
 
-    def __init__(self, words):
+    def __init__(self, words: List[bytes]) -> None:
         self.words = [b'search'] + words
-        self.options = {}           # an option, and the number of its word
-        self.values = {}            # an option, and the number of its value
-        self.skips, self.ends = [], []
+        self.options: Dict[bytes, int] = {}           # an option, and the number of its word
+        self.values: Dict[bytes, int] = {}            # an option, and the number of its value
+        self.skips: List[int] = []
+        self.ends: List[int] = []
         if len(self.words) > MOST_WORDS:
             raise usage(MOST_WORDS)
         self.read()
         self.terms = self.check_terms()
         self.check_ends()
 
-    def read(self):
+    def read(self) -> None:
         """From left to right: what each word is."""
         at = 1
         while at < len(self.words):
@@ -46,7 +55,7 @@ class Words:
                 self.skips += [at] if word == b'--skip' else []
             at += 1
 
-    def check_terms(self):
+    def check_terms(self) -> Optional[Terms]:
         """The terms where one is given, else None."""
         new_at, old_at = self.values.get(b'--term-new'), self.values.get(b'--term-old')
         if new_at is None and old_at is None:
@@ -55,10 +64,10 @@ class Words:
         old = self.words[old_at] if old_at is not None else STANDARD[1]
         fault = terms_fault(new, old)
         if fault is not None:
-            raise usage({'new': new_at, 'old': old_at, 'same': max(new_at or 0, old_at or 0)}[fault])
+            raise usage({'new': new_at or 0, 'old': old_at or 0, 'same': max(new_at or 0, old_at or 0)}[fault])
         return new, old
 
-    def check_ends(self):
+    def check_ends(self) -> None:
         """A log has the ends, the terms and the parents; without one a bad and a good commit are named."""
         if b'--replay' in self.options:
             forbidden = [self.options[option] for option in FORBIDDEN_BY_LOG if option in self.options]
@@ -69,7 +78,7 @@ class Words:
         elif len(self.ends) < 2:
             raise usage(len(self.words))
 
-    def resolved(self, call, history, at):
+    def resolved(self, call: Callable[[History, bytes], Found], history: History, at: int) -> Found:
         """What a word names."""
         try:
             return call(history, self.words[at])
@@ -77,7 +86,7 @@ class Words:
             raise name_refused(at, fault.why) from None
 
 
-def read_file(name):
+def read_file(name: bytes) -> bytes:
     """The bytes of a log."""
     try:
         with open(os.fsdecode(name), 'rb') as file:
@@ -94,7 +103,8 @@ def read_file(name):
 class Begun:
     """A search that has begun: its state, its entries, and how many of them are those of a log."""
 
-    def __init__(self, words, history):
+    def __init__(self, words: Words, history: History) -> None:
+        self.entries: List[Asked]
         if b'--replay' in words.options:
             self.state, self.entries = replay(history, read_file(words.words[words.values[b'--replay']]))
             self.replayed = len(self.entries)

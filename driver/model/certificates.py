@@ -1,14 +1,22 @@
 """The certificate of an answer: the good commits, and steps from them to the parents of the first bad one."""
+from __future__ import annotations
+
+from typing import TYPE_CHECKING, Dict, List, Set
+
 import graphs
 
+if TYPE_CHECKING:
+    from history import History
+    from states import State
 
-def certificate_lines(history, state):
+
+def certificate_lines(history: History, state: State) -> List[bytes]:
     """Its lines. A step leads from a good commit, or one that a step reached, to one of its parents."""
     good = graphs.behind_any(history, state.goods)
     parents = history.parents[state.bad][:1] if state.first_parent else history.parents[state.bad]
     # the places on a way to one of the parents, and for each the first good place that it is a parent of
-    above = set()
-    first_above = {}
+    above: Set[int] = set()
+    first_above: Dict[int, int] = {}
     for place in range(len(history)):
         if place in parents or any(parent in above for parent in history.parents[place]):
             above.add(place)

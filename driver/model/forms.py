@@ -1,4 +1,7 @@
 """The forms of small texts: numbers, names, refs, identities, paths."""
+from __future__ import annotations
+
+from typing import Optional, Tuple
 
 DIGITS = frozenset(b'0123456789')
 HEX = frozenset(b'0123456789abcdefABCDEF')
@@ -6,7 +9,7 @@ HEX = frozenset(b'0123456789abcdefABCDEF')
 ESCAPES = {ord('a'): 7, ord('b'): 8, ord('t'): 9, ord('n'): 10, ord('v'): 11, ord('f'): 12, ord('r'): 13, ord('"'): 34, ord('\\'): 92}
 
 
-def decimal(text):
+def decimal(text: bytes) -> Optional[int]:
     """The number of 1 to 20 digits, leading zeros allowed, below 2^64; else None."""
     if not 1 <= len(text) <= 20 or not DIGITS.issuperset(text):
         return None
@@ -14,22 +17,22 @@ def decimal(text):
     return number if number < 1 << 64 else None
 
 
-def is_hex(text):
+def is_hex(text: bytes) -> bool:
     """Whether a text is hexadecimal digits."""
     return len(text) > 0 and HEX.issuperset(text)
 
 
-def object_name(text):
+def object_name(text: bytes) -> Optional[bytes]:
     """The 20 bytes of 40 hexadecimal digits, or None."""
     return bytes.fromhex(text.decode('ascii')) if len(text) == 40 and is_hex(text) else None
 
 
-def is_ref(text):
+def is_ref(text: bytes) -> bool:
     """Whether a text may be the name of a ref."""
     return len(text) > 0 and b'..' not in text and not any(byte <= 32 or byte == 127 or byte in b'~^:?*[\\' for byte in text)
 
 
-def is_time(text):
+def is_time(text: bytes) -> bool:
     """Whether a text is seconds since 1970 and a zone, as 1700000000 +0130."""
     seconds, _, zone = text.partition(b' ')
     if not (1 <= len(seconds) <= 18 and DIGITS.issuperset(seconds)):
@@ -37,7 +40,7 @@ def is_time(text):
     return len(zone) == 5 and zone[:1] in (b'+', b'-') and DIGITS.issuperset(zone[1:]) and int(zone[1:]) <= 1400
 
 
-def identity_fault(text):
+def identity_fault(text: bytes) -> Optional[bytes]:
     """None where a text is a name, an address in angles and a time; else why it is refused."""
     name, open_angle, rest = text.partition(b'<')
     address, close_angle, tail = rest.partition(b'>')
@@ -48,7 +51,7 @@ def identity_fault(text):
     return None if is_time(tail[1:]) else b'unsupported'
 
 
-def unquoted(text):
+def unquoted(text: bytes) -> Optional[bytes]:
     """The bytes of the text of a path, which may be quoted as in C; None where a quoted one is in no form."""
     if not text.startswith(b'"'):
         return text
@@ -72,7 +75,7 @@ def unquoted(text):
     return None
 
 
-def read_path(text):
+def read_path(text: bytes) -> Optional[Tuple[bytes, ...]]:
     """The path of a text, as its parts; None where it is none."""
     raw = unquoted(text)
     if raw is None:

@@ -1,25 +1,33 @@
 """The history that a stream tells: its commits by place, in the order in which they come, with git's names; and its refs."""
+from __future__ import annotations
+
 import hashlib
+from typing import Any, Dict, Iterable, List, Set, Tuple
 
 import stream
 from forms import decimal, is_ref, object_name, read_path
 from refusals import MOST_COMMITS, MOST_ENTRIES, at_line, too_large
 
 
-def hashed(kind, body):
+Path = Tuple[bytes, ...]
+Files = Dict[Path, Tuple[bytes, bytes]]
+Listed = Tuple[Tuple[Path, bytes, bytes], ...]      # a path, a mode and a name each
+
+
+def hashed(kind: bytes, body: bytes) -> bytes:
     """git's name of a blob, a tree or a commit: 20 bytes."""
     return hashlib.sha1(kind + b' %d\0' % len(body) + body).digest()
 
 
 # -- files: a dict from a path, as its parts, to a mode and a name -------------------
 
-def remove_file(files, path):
+def remove_file(files: Files, path: Path) -> None:
     """Takes a file or a folder away."""
     for other in [other for other in files if other[:len(path)] == path]:
         del files[other]
 
 
-def set_file(files, path, mode, name):
+def set_file(files: Files, path: Path, mode: bytes, name: bytes) -> None:
     """Puts a file, in place of a file or folder there, and of files where it needs folders."""
     for depth in range(1, len(path)):
         files.pop(path[:depth], None)
@@ -27,20 +35,20 @@ def set_file(files, path, mode, name):
     files[path] = (mode, name)
 
 
-def frozen(files):
+def frozen(files: Files) -> Listed:
     """The same as a list by path: one value for one tree."""
     return tuple(sorted((path, mode, name) for path, (mode, name) in files.items()))
 
 
-def by_first_part(listed):
+def by_first_part(listed: Listed) -> Dict[bytes, List[Tuple[Path, bytes, bytes]]]:
     """What a folder has: for each name the rest of each path below it, with its mode and name."""
-    out = {}
+    out: Dict[bytes, List[Tuple[Path, bytes, bytes]]] = {}
     for path, mode, name in listed:
         out.setdefault(path[0], []).append((path[1:], mode, name))
     return out
 
 
-def tree_name(listed):
+def tree_name(listed: Listed) -> bytes:
     """git's name of the tree of a list of files."""
     entries = []
     for first, below in by_first_part(listed).items():
@@ -52,7 +60,7 @@ def tree_name(listed):
     return hashed(b'tree', b''.join(text for _, text in sorted(entries)))
 
 
-def folders(listed):
+def folders(listed: Listed) -> List[Listed]:
     """The lists of a folder and of all folders below it."""
     out = [listed]
     for below in by_first_part(listed).values():
@@ -61,7 +69,7 @@ def folders(listed):
     return out
 
 
-def commit_body(tree, parents, header, message):
+def commit_body(tree: bytes, parents: Iterable[bytes], header: stream.Header, message: bytes) -> bytes:
     """The text of a commit, of which its name is made."""
     lines = [b'tree ' + tree.hex().encode()] + [b'parent ' + parent.hex().encode() for parent in parents]
     lines += [b'author ' + (header.author if header.author is not None else header.committer), b'committer ' + header.committer]
@@ -74,16 +82,22 @@ def commit_body(tree, parents, header, message):
 class History:
     """The commits by place: parents, names and subjects. `original` says whether the names are those that commits say of themselves."""
 
-    def __init__(self, original=False):
-        self.parents, self.names, self.subjects, self.original = [], [], [], original
-        self.place_of = {}      # from a name to its place
-        self.refs = {}          # from a ref to a place
-        self.rows, self.weights, self.left = {}, {}, {}         # what graphs.py and states.py compute once
+    def __init__(self, original: bool = False) -> None:
+        self.original = original
+        self.parents: List[List[int]] = []
+        self.names: List[bytes] = []
+        self.subjects: List[bytes] = []
+        self.place_of: Dict[bytes, int] = {}      # from a name to its place
+        self.refs: Dict[bytes, int] = {}          # from a ref to a place
+        # what graphs.py and states.py compute once
+        self.rows: Dict[Tuple[int, bool], Set[int]] = {}
+        self.weights: Dict[Tuple[Tuple[int, ...], bool], Dict[int, int]] = {}
+        self.left: Dict[Any, List[int]] = {}
 
-    def __len__(self):
+    def __len__(self) -> int:
         return len(self.names)
 
-    def hex(self, place):
+    def hex(self, place: int) -> bytes:
         """The name of a commit in digits."""
         return self.names[place].hex().encode()
 
@@ -91,22 +105,24 @@ class History:
 class Fold:
     """Takes command after command. While it reads, commits have the names that git would give them."""
 
-    def __init__(self, original):
+    def __init__(self, original: bool) -> None:
         self.history = History(original)
-        self.originals = []     # the name that each commit says of itself
-        self.files = []         # by place
-        self.marks = {}         # by number: ('blob', name), ('place', place) or ('tag',)
-        self.trees = {}         # the names of trees that were met
-        self.lists, self.entries = set(), 0     # the lists of folders that were met, and how many entries they have
+        self.originals: List[bytes] = []     # the name that each commit says of itself
+        self.files: List[Listed] = []         # by place
+        self.marks: Dict[int, Any] = {}         # by number: ('blob', name), ('place', place) or ('tag',)
+        self.trees: Dict[Listed, bytes] = {}         # the names of trees that were met
+        self.lists: Set[Listed] = set()
+        self.entries = 0        # the lists of folders that were met, and how many entries they have
 
-    def target(self, target, of_tag=False):
+    def target(self, target: stream.Target, of_tag: bool = False) -> int:
         """The place that a text leads to: a mark, a name or a ref."""
         text = target.text
         if text.startswith(b':') and decimal(text[1:]) is not None:
-            mark = self.marks.get(decimal(text[1:]))
+            mark = self.marks.get(decimal(text[1:]) or 0)
             if mark is None or mark[0] != 'place':
                 raise at_line(target.line, b'unsupported' if mark is not None and of_tag else b'bad from')
-            return mark[1]
+            place: int = mark[1]
+            return place
         name = object_name(text)
         if name is not None:
             if name not in self.history.place_of:
@@ -117,7 +133,7 @@ class Fold:
             return self.history.refs[ref]
         raise at_line(target.line, b'bad from')
 
-    def command(self, command):
+    def command(self, command: Any) -> None:
         """One command of the stream."""
         if isinstance(command, stream.Blob):
             if command.mark is not None:
@@ -134,21 +150,24 @@ class Fold:
             else:
                 self.history.refs[command.branch] = self.target(command.target)
 
-    def content(self, change):
+    def content(self, change: stream.Modify) -> bytes:
         """The name of the content that a file gets."""
         kind, value = change.content
+        found: bytes
         if kind == 'mark':
             mark = self.marks.get(value)
             if change.mode == stream.MODULE or mark is None or mark[0] != 'blob':
                 raise at_line(change.line, b'bad mark')
-            return mark[1]
+            found = mark[1]
+            return found
         if kind == 'inline':
             if change.mode == stream.MODULE:
                 raise at_line(change.line, b'bad mark')
             return hashed(b'blob', value)
-        return value
+        found = value
+        return found
 
-    def change(self, change, files):
+    def change(self, change: Any, files: Files) -> None:
         """One change of a commit's files."""
         if isinstance(change, stream.DeleteAll):
             files.clear()
@@ -162,7 +181,7 @@ class Fold:
         else:
             set_file(files, path, change.mode, name)
 
-    def tree(self, listed):
+    def tree(self, listed: Listed) -> bytes:
         """The name of a tree. Each list of a folder is held once, and there is a limit for all of them."""
         if listed not in self.trees:
             self.trees[listed] = tree_name(listed)
@@ -174,12 +193,12 @@ class Fold:
             raise too_large(b'entries')
         return self.trees[listed]
 
-    def commit(self, command):
+    def commit(self, command: stream.Commit) -> None:
         """A commit: without `from` it lies on its branch. The same commit again is the same place."""
         history = self.history
         first = self.target(command.parents.first) if command.parents.first is not None else history.refs.get(command.branch)
         parents = ([] if first is None else [first]) + [self.target(target) for target in command.parents.merges]
-        listed = () if first is None else self.files[first]
+        listed: Listed = () if first is None else self.files[first]
         if command.changes:
             files = {path: (mode, name) for path, mode, name in listed}
             for change in command.changes:
@@ -193,7 +212,7 @@ class Fold:
         if command.mark is not None:
             self.marks[command.mark] = ('place', history.place_of[name])
 
-    def add(self, name, parents, command, listed):
+    def add(self, name: bytes, parents: List[int], command: stream.Commit, listed: Listed) -> None:
         """A commit that was not there before."""
         history = self.history
         if len(history) == MOST_COMMITS:
@@ -206,7 +225,7 @@ class Fold:
         self.originals.append(command.original)
 
 
-def load(data, original):
+def load(data: bytes, original: bool) -> History:
     """The history of a stream; raises Refused at the first fault in it."""
     fold = Fold(original)
     for command in stream.commands(data, original):

@@ -3,9 +3,16 @@
 An entry is ('start', first parents, terms given, bad, goods), ('mark', verdict, place), ('skipped base', place), ('found', place) or
 ('only skipped', places).
 """
+from __future__ import annotations
+
+from typing import TYPE_CHECKING, Any, Iterable, List, Optional, Sequence, Set, Tuple
+
 from names import Unnamed, place_of
 from refusals import log_refused
-from states import BAD, GOOD, KILLED, SKIP, STANDARD, ask, begun, mark, terms_fault
+from states import BAD, GOOD, KILLED, SKIP, STANDARD, Asked, State, Terms, ask, begun, mark, terms_fault
+
+if TYPE_CHECKING:
+    from history import History
 
 BLANK = b' \t'
 TERM_OPTIONS = {b'--term-new': 0, b'--term-bad': 0, b'--term-old': 1, b'--term-good': 1}
@@ -13,7 +20,7 @@ TERM_OPTIONS = {b'--term-new': 0, b'--term-bad': 0, b'--term-old': 1, b'--term-g
 
 # -- writing -------------------------------------------------------------------------
 
-def waiting_line(terms, has_bad, goods):
+def waiting_line(terms: Terms, has_bad: bool, goods: int) -> bytes:
     """What is wanted before a search can begin."""
     if not has_bad and goods == 0:
         return b'waiting for both %s and %s commits' % terms
@@ -25,15 +32,16 @@ def waiting_line(terms, has_bad, goods):
 class Writer:
     """Writes the entries of a search in turn."""
 
-    def __init__(self, history, terms):
+    def __init__(self, history: History, terms: Terms) -> None:
         self.history, self.terms = history, terms
-        self.has_bad, self.goods = False, set()
+        self.has_bad = False
+        self.goods: Set[int] = set()
 
-    def label(self, place):
+    def label(self, place: int) -> bytes:
         """A commit in a comment."""
         return b'[' + self.history.hex(place) + b'] ' + self.history.subjects[place]
 
-    def lines(self, entry):
+    def lines(self, entry: Asked) -> List[bytes]:
         """The lines of an entry."""
         new, old = self.terms
         if entry[0] == 'skipped base':
@@ -54,7 +62,7 @@ class Writer:
             lines.append(b'# status: ' + waiting_line(self.terms, self.has_bad, len(self.goods)))
         return lines
 
-    def start(self, first_parent, are_given, bad, goods):
+    def start(self, first_parent: bool, are_given: bool, bad: Optional[int], goods: Iterable[int]) -> List[bytes]:
         """The lines of a start."""
         new, old = self.terms
         lines = [b'# ' + new + b': ' + self.label(bad)] if bad is not None else []
@@ -66,7 +74,7 @@ class Writer:
         return lines + [b'git bisect start' + b''.join(b" '" + word + b"'" for word in words)]
 
 
-def answer_lines(history, terms, end):
+def answer_lines(history: History, terms: Terms, end: Asked) -> List[bytes]:
     """The lines of the answer."""
     new, old = terms
     if end[0] == 'only skipped':
@@ -86,9 +94,10 @@ def answer_lines(history, terms, end):
 
 # -- reading -------------------------------------------------------------------------
 
-def split_words(text):
+def split_words(text: bytes) -> Optional[List[bytes]]:
     """The words of a line of sh with single quotes; None where a quote is open at its end."""
-    words, at = [], 0
+    words: List[bytes] = []
+    at = 0
     while True:
         while at < len(text) and text[at] in BLANK:
             at += 1
@@ -109,9 +118,11 @@ def split_words(text):
         words.append(bytes(word))
 
 
-def read_start(words, line):
+def read_start(words: List[bytes], line: int) -> Tuple[bool, List[Optional[bytes]], List[bytes]]:
     """The words of a start: whether first parents alone, the two terms or None, and the names."""
-    first_parent, terms, names, at = False, [None, None], [], 0
+    terms: List[Optional[bytes]] = [None, None]
+    names: List[bytes] = []
+    first_parent, at = False, 0
     while at < len(words):
         word, at = words[at], at + 1
         option, has_value, value = word.partition(b'=')
@@ -130,9 +141,9 @@ def read_start(words, line):
     return first_parent, terms, names
 
 
-def read_log(data):
+def read_log(data: bytes) -> List[Tuple[int, Tuple[Any, ...]]]:
     """The commands of a log: pairs of the number of a line and its words, ('start', ..) or ('mark', term, name)."""
-    out = []
+    out: List[Tuple[int, Tuple[Any, ...]]] = []
     rows = data.split(b'\n')
     for number, row in enumerate(rows[:-1] if rows[-1] == b'' else rows, 1):
         row = row.lstrip(BLANK)
@@ -151,21 +162,23 @@ def read_log(data):
 class Replayed:
     """What the commands of a log leave: a state and entries."""
 
-    def __init__(self, history):
-        self.history, self.state, self.entries = history, None, []
+    def __init__(self, history: History) -> None:
+        self.history = history
+        self.state: Optional[State] = None
+        self.entries: List[Asked] = []
 
-    def start(self, first_parent, terms, names):
+    def start(self, first_parent: bool, terms: Sequence[Optional[bytes]], names: List[bytes]) -> bool:
         """A start begins anew; the words for bad and good are open where it has neither terms nor names. False where it is refused."""
         are_given = terms != [None, None]
-        both = tuple(given if given is not None else standard for given, standard in zip(terms, STANDARD))
-        if terms_fault(*both) is not None:
+        new, old = (given if given is not None else standard for given, standard in zip(terms, STANDARD))
+        if terms_fault(new, old) is not None:
             return False
         places = [place_of(self.history, name) for name in names]
-        self.state = begun(both, not are_given and not names, first_parent, places[0] if places else None, places[1:])
+        self.state = begun((new, old), not are_given and not names, first_parent, places[0] if places else None, places[1:])
         self.entries = [('start', first_parent, are_given, self.state.bad, self.state.goods)]
         return True
 
-    def mark(self, term, name):
+    def mark(self, term: bytes, name: bytes) -> bool:
         """A mark. False where it is refused."""
         if self.state is None:
             return False
@@ -182,7 +195,7 @@ class Replayed:
         return True
 
 
-def replay(history, data):
+def replay(history: History, data: bytes) -> Tuple[State, List[Asked]]:
     """The state and the entries of a log; raises Refused at the first line that cannot be."""
     commands = read_log(data)
     if not commands:
@@ -190,9 +203,10 @@ def replay(history, data):
     replayed = Replayed(history)
     for line, (kind, *words) in commands:
         try:
-            taken = (replayed.start if kind == 'start' else replayed.mark)(*words)
+            taken = replayed.start(*words) if kind == 'start' else replayed.mark(*words)
         except Unnamed:
             taken = False
         if not taken:
             raise log_refused(line)
+    assert replayed.state is not None           # the first command is a start
     return replayed.state, replayed.entries

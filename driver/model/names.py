@@ -1,27 +1,35 @@
 """Names of commits, as git reads them: a ref or digits, then steps as ~2, ^2 and ^{commit}."""
+from __future__ import annotations
+
 import re
+from typing import TYPE_CHECKING, List, Tuple
 
 from forms import decimal, is_hex, object_name
 from graphs import ancestors
 
+if TYPE_CHECKING:
+    from history import History
+
 FORMS = (b'%s', b'refs/%s', b'refs/tags/%s', b'refs/heads/%s', b'refs/remotes/%s', b'refs/remotes/%s/HEAD')
+Parsed = Tuple[bytes, List[Tuple[bytes, int]]]
 STEP = re.compile(rb'(\^\{(?:commit)?\})|([~^])([0-9]*)')
 
 
 class Unnamed(Exception):
     """A text names no commit; the text says why."""
 
-    def __init__(self, why):
+    def __init__(self, why: bytes) -> None:
         Exception.__init__(self, why)
         self.why = why
 
 
-def parse(text):
+def parse(text: bytes) -> Parsed:
     """What a name begins at, and its steps: pairs of a sign and a number."""
-    begin = re.match(rb'[^~^]*', text).group()
+    begin = re.split(rb'[~^]', text, maxsplit=1)[0]
     if begin == b'' or b' ' in begin or b':' in begin or b'@{' in begin:
         raise Unnamed(b'bad form')
-    steps, at = [], len(begin)
+    steps: List[Tuple[bytes, int]] = []
+    at = len(begin)
     while at < len(text):
         step = STEP.match(text, at)
         if step is None:
@@ -35,7 +43,7 @@ def parse(text):
     return begin, steps
 
 
-def begin_of(history, text):
+def begin_of(history: History, text: bytes) -> int:
     """The place that a name begins at."""
     text = b'HEAD' if text == b'@' else text
     name = object_name(text)
@@ -56,7 +64,7 @@ def begin_of(history, text):
     raise Unnamed(b'unknown')
 
 
-def walk(history, parsed):
+def walk(history: History, parsed: Parsed) -> int:
     """The place behind the steps of a name."""
     begin, steps = parsed
     place = begin_of(history, begin)
@@ -73,12 +81,12 @@ def walk(history, parsed):
     return place
 
 
-def place_of(history, text):
+def place_of(history: History, text: bytes) -> int:
     """The place that a name stands for."""
     return walk(history, parse(text))
 
 
-def places_of(history, text):
+def places_of(history: History, text: bytes) -> List[int]:
     """The places that a name or a range A..B stands for, by place."""
     if b'..' not in text:
         return [place_of(history, text)]

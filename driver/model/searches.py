@@ -1,7 +1,14 @@
 """One search for several workers: what is known, who tests what, and what is worth a test next."""
+from __future__ import annotations
+
+from typing import TYPE_CHECKING, Any, Dict, Iterable, List, Optional, Set, Tuple, Union
+
 from beginning import Begun, Words
 from logs import Writer, answer_lines
-from states import BAD, GOOD, STOP, ask, left_of, mark, verdict_of
+from states import BAD, GOOD, STOP, Asked, State, ask, left_of, mark, verdict_of
+
+if TYPE_CHECKING:
+    from history import History
 
 STATUS = {'found': 0, 'only skipped': 2, 'merge base': 3, 'no ancestor': 4, 'both': 5, 'aborted': 6}
 
@@ -9,7 +16,7 @@ STATUS = {'found': 0, 'only skipped': 2, 'merge base': 3, 'no ancestor': 4, 'bot
 class Search:
     """The state behind what was taken in, the outcomes by place, and the claims: who tests which place."""
 
-    def __init__(self, history, words):
+    def __init__(self, history: History, words: List[bytes]) -> None:
         read = Words(words)
         begun = Begun(read, history)
         self.history, self.state, self.entries = history, begun.state, begun.entries
@@ -18,17 +25,20 @@ class Search:
         self.writer = Writer(history, self.terms)
         for entry in self.entries[:begun.replayed]:     # those of a log are not told again
             self.writer.lines(entry)
-        self.outcomes, self.claims = {}, {}
-        self.end = None                         # ('found', place) and so on, or ('aborted', place, outcome)
-        self.entries_told, self.end_told, self.left_told, self.needless_told = begun.replayed, False, None, []
+        self.outcomes: Dict[int, Union[int, str]] = {}
+        self.claims: Dict[int, int] = {}
+        self.end: Optional[Asked] = None                         # ('found', place) and so on, or ('aborted', place, outcome)
+        self.entries_told, self.end_told = begun.replayed, False
+        self.left_told: Optional[Tuple[int, int]] = None
+        self.needless_told: List[int] = []
         self.take_in()
 
-    def outcome(self, place):
+    def outcome(self, place: int) -> Union[int, str]:
         """What is known of a place: with --lenient-exit, a command that cannot be run is bad."""
         outcome = self.outcomes[place]
         return 1 if self.lenient and outcome in (126, 127) else outcome
 
-    def take_in(self):
+    def take_in(self) -> None:
         """Goes on as one test at a time does, as far as the outcomes lead."""
         while self.end is None:
             self.state, passed_by, asked = ask(self.history, self.state)
@@ -49,10 +59,10 @@ class Search:
 
     # -- what to test next: paths of outcomes, known ones and guesses --------------
 
-    def walk(self, state):
+    def walk(self, state: State) -> Optional[Tuple[State, int, Tuple[str, ...]]]:
         """Along what is known from a state on: the state that asks for an unknown place, the place, and the verdicts on the way; None
         where the path ends."""
-        verdicts = ()
+        verdicts: Tuple[str, ...] = ()
         while True:
             state, _, asked = ask(self.history, state)
             if asked[0] != 'test':
@@ -65,13 +75,13 @@ class Search:
                 return None
             state, verdicts = mark(state, verdict, place), (*verdicts, verdict)
 
-    def best(self):
+    def best(self) -> Optional[int]:
         """The place of the best path at whose end nobody tests, or None: that with most commits left, then the shortest, then the one
         that guesses good first."""
-        found = self.best_path(self.state, (), set(self.claims.values())) if self.end is None else None
+        found: Any = self.best_path(self.state, (), set(self.claims.values())) if self.end is None else None
         return None if found is None else found[1]
 
-    def best_path(self, state, path, claimed):
+    def best_path(self, state: State, path: Tuple[str, ...], claimed: Set[int]) -> Any:
         """The rank and the place of the best path from a state on, or None. A path is the verdicts so far; the best has the least rank."""
         stop = self.walk(state)
         if stop is None:
@@ -83,15 +93,15 @@ class Search:
         found = [self.best_path(mark(state, verdict, place), (*path, verdict), claimed) for verdict in (GOOD, BAD)]
         return min((one for one in found if one is not None), default=None)
 
-    def asked_for(self, places):
+    def asked_for(self, places: Iterable[int]) -> Set[int]:
         """Those of the places that some path still asks for."""
         wanted = {place for place in places if place not in self.outcomes}
-        found = set()
+        found: Set[int] = set()
         if self.end is None:
             self.find_asked(self.state, wanted, found)
         return found
 
-    def find_asked(self, state, wanted, found):
+    def find_asked(self, state: State, wanted: Set[int], found: Set[int]) -> None:
         """Adds those that paths from a state on ask for."""
         stop = self.walk(state) if wanted - found else None
         if stop is None:
@@ -106,14 +116,14 @@ class Search:
         for verdict in (GOOD, BAD):
             self.find_asked(mark(state, verdict, place), wanted, found)
 
-    def needless(self):
+    def needless(self) -> List[int]:
         """The workers, ascending, whose places no path asks for."""
-        asked = self.asked_for(self.claims.values()) if self.claims else set()
+        asked: Set[int] = self.asked_for(self.claims.values()) if self.claims else set()
         return [worker for worker in sorted(self.claims) if self.claims[worker] not in asked]
 
     # -- what is told --------------------------------------------------------------
 
-    def news(self, number):
+    def news(self, number: int) -> List[bytes]:
         """What has changed since it was told, as the lines of events."""
         out = [b'log %d ' % number + line for entry in self.entries[self.entries_told:] for line in self.writer.lines(entry)]
         self.entries_told = len(self.entries)

@@ -22,16 +22,20 @@ status of it. Each request gets lines of events, then one reply:
 Events: `log S LINE`, `left S COMMITS SKIPPED`, `answer S LINE`, `end S STATUS`, `needless S W..`. What is not legal is `refused` with
 the reason, and changes nothing.
 """
+from __future__ import annotations
+
 import os
 import sys
+from typing import BinaryIO, Callable, Dict, List, Optional, Tuple, Union
 
 from certificates import certificate_lines
 from forms import decimal, object_name
-from history import load
+from history import History, load
 from refusals import LONGEST_LINE, LONGEST_PART, MOST_WORDS, Refused
 from searches import Search
 from states import KILLED
 
+Reply = Tuple[List[bytes], Optional[Search]]
 MOST_WORKERS, MOST_SEARCHES = 1024, 64
 DEEPEST = 100000
 
@@ -40,7 +44,7 @@ class Illegal(Exception):
     """A request that is not legal now; its first word is why."""
 
 
-def number(word, most, what):
+def number(word: bytes, most: int, what: bytes) -> int:
     """A number from 1 on."""
     value = decimal(word)
     if value is None or word[:1] == b'0' or not 1 <= value <= most:
@@ -48,7 +52,7 @@ def number(word, most, what):
     return value
 
 
-def read_outcome(word):
+def read_outcome(word: bytes) -> Union[int, str]:
     """An exit status, or that a test was killed."""
     value = decimal(word)
     if word == b'killed':
@@ -61,13 +65,16 @@ def read_outcome(word):
 class Server:
     """The searches over one history. Each method below is a request: it gives the reply, and the search of which news may be told."""
 
-    def __init__(self, history):
-        self.history, self.searches, self.standing = history, [], []    # words that stand before those of the next search
-        self.forms = {b'words': (self.words, 0, LONGEST_LINE), b'search': (self.search, 0, LONGEST_LINE), b'pick': (self.pick, 1, 1),
-                      b'post': (self.post, 2, 2), b'give': (self.give, 1, 1), b'learn': (self.learn, 3, 3),
-                      b'wanted': (self.wanted, 1, 1), b'certificate': (self.certificate, 1, 1)}
+    def __init__(self, history: History) -> None:
+        self.history = history
+        self.searches: List[Search] = []
+        self.standing: List[bytes] = []         # words that stand before those of the next search
+        self.forms: Dict[bytes, Tuple[Callable[..., Reply], int, int]] = {
+            b'words': (self.words, 0, LONGEST_LINE), b'search': (self.search, 0, LONGEST_LINE), b'pick': (self.pick, 1, 1),
+            b'post': (self.post, 2, 2), b'give': (self.give, 1, 1), b'learn': (self.learn, 3, 3), b'wanted': (self.wanted, 1, 1),
+            b'certificate': (self.certificate, 1, 1)}
 
-    def answer(self, line):
+    def answer(self, line: bytes) -> List[bytes]:
         """All lines that a request gets."""
         verb, *words = line.split(b' ')
         try:
@@ -85,25 +92,25 @@ class Server:
 
     # -- what words name -----------------------------------------------------
 
-    def search_of(self, word):
+    def search_of(self, word: bytes) -> Search:
         """The search of a number."""
         value = number(word, MOST_SEARCHES, b'search')
         if value > len(self.searches):
             raise Illegal(b'no such search')
         return self.searches[value - 1]
 
-    def place_of(self, word):
+    def place_of(self, word: bytes) -> int:
         """The place of a whole name."""
         name = object_name(word)
         if name is None or name not in self.history.place_of:
             raise Illegal(b'no such commit')
         return self.history.place_of[name]
 
-    def holder(self, worker):
+    def holder(self, worker: int) -> Optional[Search]:
         """The search whose test a worker has, or None."""
         return next((search for search in self.searches if worker in search.claims), None)
 
-    def held(self, word):
+    def held(self, word: bytes) -> Tuple[int, Search]:
         """A worker that has a test, and the search of it."""
         worker = number(word, MOST_WORKERS, b'worker')
         search = self.holder(worker)
@@ -113,14 +120,14 @@ class Server:
 
     # -- requests ------------------------------------------------------------
 
-    def words(self, *words):
+    def words(self, *words: bytes) -> Reply:
         """Words that do not fit into the line of a search; without any, those that stand are forgotten."""
         if len(self.standing) + len(words) > MOST_WORDS:
             raise Illegal(b'too many words')
         self.standing = self.standing + list(words) if words else []
         return [b'ok'], None
 
-    def search(self, *words):
+    def search(self, *words: bytes) -> Reply:
         """Begins a search."""
         if len(self.searches) >= MOST_SEARCHES:
             raise Illegal(b'too many searches')
@@ -129,9 +136,9 @@ class Server:
         self.searches.append(search)
         return [b'search %d' % len(self.searches)], search
 
-    def pick(self, worker):
+    def pick(self, word: bytes) -> Reply:
         """Work for a worker: that of the search with fewest claims, the first of several."""
-        worker = number(worker, MOST_WORKERS, b'worker')
+        worker = number(word, MOST_WORKERS, b'worker')
         if self.holder(worker):
             raise Illegal(b'worker has a test')
         for search in sorted(self.searches, key=lambda search: len(search.claims)):
@@ -141,23 +148,23 @@ class Server:
                 return [b'test %d ' % (self.searches.index(search) + 1) + self.history.hex(place)], search
         return [b'wait' if any(search.end is None for search in self.searches) else b'over'], None
 
-    def post(self, worker, outcome):
+    def post(self, word: bytes, ended: bytes) -> Reply:
         """How a test ended."""
-        worker, search = self.held(worker)
-        outcome = read_outcome(outcome)
+        worker, search = self.held(word)
+        outcome = read_outcome(ended)
         search.outcomes[search.claims.pop(worker)] = outcome
         search.take_in()
         return [b'ok'], search
 
-    def give(self, worker):
+    def give(self, word: bytes) -> Reply:
         """A test that was lost."""
-        worker, search = self.held(worker)
+        worker, search = self.held(word)
         del search.claims[worker]
         return [b'ok'], search
 
-    def learn(self, search, commit, outcome):
+    def learn(self, word: bytes, commit: bytes, ended: bytes) -> Reply:
         """An outcome that is known from elsewhere."""
-        search, place, outcome = self.search_of(search), self.place_of(commit), read_outcome(outcome)
+        search, place, outcome = self.search_of(word), self.place_of(commit), read_outcome(ended)
         if place in search.outcomes:
             raise Illegal(b'has an outcome')
         if place in search.claims.values():
@@ -166,12 +173,12 @@ class Server:
         search.take_in()
         return [b'ok'], search
 
-    def wanted(self, commit):
+    def wanted(self, commit: bytes) -> Reply:
         """The searches some path of which asks for a commit."""
         place = self.place_of(commit)
         return [b'wanted' + b''.join(b' %d' % count for count, search in enumerate(self.searches, 1) if search.asked_for([place]))], None
 
-    def certificate(self, word):
+    def certificate(self, word: bytes) -> Reply:
         """What shows that the parents of the first bad commit are good."""
         search = self.search_of(word)
         if search.end is None or search.end[0] != 'found':
@@ -179,9 +186,9 @@ class Server:
         return [b'certificate ' + word + b' ' + line for line in certificate_lines(self.history, search.state)] + [b'ok'], None
 
 
-def read_stream(source):
+def read_stream(source: BinaryIO) -> bytes:
     """The bytes of a stream up to its command `done`, and none behind it."""
-    out = []
+    out: List[bytes] = []
     while True:
         line = source.readline()
         out.append(line)
@@ -195,11 +202,11 @@ def read_stream(source):
             out.append(source.read(count) if count and count <= LONGEST_PART else b'')
 
 
-def main(words):
+def main(words: List[str]) -> int:
     """Serves until the input ends."""
     source, sink = sys.stdin.buffer, sys.stdout.buffer
 
-    def tell(lines):
+    def tell(lines: List[bytes]) -> None:
         sink.write(b''.join(line + b'\n' for line in lines))
         sink.flush()
     try:

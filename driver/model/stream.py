@@ -4,10 +4,13 @@ What is refused is told by the first line that is not as it must be: `syntax` wh
 a form and this program does not, `truncated` where the stream ends within a command, `no done` where it ends without the line that a
 `feature done` promised.
 """
+from __future__ import annotations
+
 from collections import namedtuple
+from typing import Any, Iterator, List, Optional, Set
 
 from forms import decimal, identity_fault, is_ref, object_name
-from refusals import LONGEST_LINE, LONGEST_PART, LONGEST_STREAM, at_line, too_large
+from refusals import LONGEST_LINE, LONGEST_PART, LONGEST_STREAM, Refused, at_line, too_large
 
 Blob = namedtuple('Blob', 'line mark content')
 Commit = namedtuple('Commit', 'line branch mark original header message parents changes')
@@ -30,29 +33,34 @@ class Line:
     """A line that was looked at, and not taken yet."""
 
     __slots__ = ('after', 'text', 'number', 'too_long', 'word')
+    after: int
+    text: bytes
+    number: int
+    too_long: bool
+    word: bytes
 
 
 class Reader:
     """Reads the commands of a stream that is in hand as a whole. With `original` each commit must say its own name."""
 
-    def __init__(self, data, original):
+    def __init__(self, data: bytes, original: bool) -> None:
         self.data, self.original = data, original
         self.at, self.number = 0, 1             # where it stands, and the number of the line there
         self.must_be_done = False
-        self.names = set()                      # own names so far
+        self.names: Set[bytes] = set()                      # own names so far
 
     # -- lines ---------------------------------------------------------------
 
-    def move(self, to):
+    def move(self, to: int) -> None:
         """Goes on to a byte."""
         self.number += self.data.count(b'\n', self.at, to)
         self.at = to
 
-    def last_line(self):
+    def last_line(self) -> int:
         """The number of the line behind the last one that has an end."""
         return self.number + self.data.count(b'\n', self.at)
 
-    def look(self):
+    def look(self) -> Optional[Line]:
         """The line here, behind those that begin with #; None at the end of the stream."""
         while self.at < len(self.data):
             end = self.data.find(b'\n', self.at)
@@ -73,11 +81,11 @@ class Reader:
             return line
         return None
 
-    def take(self, line):
+    def take(self, line: Line) -> None:
         """Goes behind a line."""
         self.move(line.after)
 
-    def part(self, *words):
+    def part(self, *words: bytes) -> Optional[Line]:
         """The next line where it begins with one of these words, else None."""
         line = self.look()
         if line is None or line.word not in words:
@@ -86,7 +94,7 @@ class Reader:
             raise too_large(b'line')
         return line
 
-    def missing(self):
+    def missing(self) -> Refused:
         """What is said where a part must stand and does not."""
         line = self.look()
         if line is None:
@@ -94,7 +102,7 @@ class Reader:
         return too_large(b'line') if line.too_long else at_line(line.number, b'syntax')
 
     @staticmethod
-    def rest(line):
+    def rest(line: Line) -> bytes:
         """What follows the first word and its blank."""
         if not line.text.startswith(line.word + b' '):
             raise at_line(line.number, b'syntax')
@@ -102,7 +110,7 @@ class Reader:
 
     # -- parts ---------------------------------------------------------------
 
-    def mark(self):
+    def mark(self) -> Optional[int]:
         """The number of a mark, or None."""
         line = self.part(b'mark')
         if line is None:
@@ -114,7 +122,7 @@ class Reader:
         self.take(line)
         return number
 
-    def original_oid(self):
+    def original_oid(self) -> Optional[bytes]:
         """What a command says of its own name, or None."""
         line = self.part(b'original-oid')
         if line is None:
@@ -123,7 +131,7 @@ class Reader:
         self.take(line)
         return text
 
-    def identity(self, word, must):
+    def identity(self, word: bytes, must: bool) -> Optional[bytes]:
         """Who, and when."""
         line = self.part(word)
         if line is None:
@@ -137,7 +145,7 @@ class Reader:
         self.take(line)
         return text
 
-    def target(self, word):
+    def target(self, word: bytes) -> Optional[Target]:
         """What a command leads to."""
         line = self.part(word)
         if line is None:
@@ -146,7 +154,7 @@ class Reader:
         self.take(line)
         return target
 
-    def content(self):
+    def content(self) -> bytes:
         """The bytes of a data part, and behind them one end of a line where it stands there."""
         line = self.part(b'data')
         if line is None:
@@ -160,7 +168,7 @@ class Reader:
                 self.move(self.at + 1)
         return content
 
-    def counted(self, line, count):
+    def counted(self, line: Line, count: Optional[int]) -> bytes:
         """So many bytes."""
         if count is None:
             raise at_line(line.number, b'syntax')
@@ -173,7 +181,7 @@ class Reader:
         self.move(start + count)
         return self.data[start:start + count]
 
-    def delimited(self, line, end_line):
+    def delimited(self, line: Line, end_line: bytes) -> bytes:
         """The lines up to one that is this."""
         if not end_line:
             raise at_line(line.number, b'syntax')
@@ -195,7 +203,7 @@ class Reader:
 
     # -- commands ------------------------------------------------------------
 
-    def next(self):
+    def next(self) -> Any:
         """The next command, or None at the end."""
         line = self.look()
         while line is not None and line.text == b'':
@@ -215,19 +223,19 @@ class Reader:
             self.take(line)
             mark, _ = self.mark(), self.original_oid()
             return Blob(line.number, mark, self.content())
-        forms = {b'progress': self.passed_over, b'option': self.passed_over, b'feature': self.feature, b'commit': self.commit,
-                 b'tag': self.tag, b'reset': self.reset}
+        forms: Any = {b'progress': self.passed_over, b'option': self.passed_over, b'feature': self.feature, b'commit': self.commit,
+                      b'tag': self.tag, b'reset': self.reset}
         if line.word not in forms:
             raise at_line(line.number, b'syntax')
         return forms[line.word](line)
 
-    def passed_over(self, line):
+    def passed_over(self, line: Line) -> Ignored:
         """A command that means nothing here."""
         self.rest(line)
         self.take(line)
         return Ignored(line.number)
 
-    def feature(self, line):
+    def feature(self, line: Line) -> Ignored:
         """What a stream says of itself; `done` promises that it ends with that line."""
         text = self.rest(line)
         if text not in (b'done', b'date-format=raw'):
@@ -236,7 +244,7 @@ class Reader:
         self.take(line)
         return Ignored(line.number)
 
-    def ref(self, line):
+    def ref(self, line: Line) -> bytes:
         """The name of a ref behind the first word."""
         text = self.rest(line)
         if not is_ref(text):
@@ -244,11 +252,11 @@ class Reader:
         self.take(line)
         return text
 
-    def reset(self, line):
+    def reset(self, line: Line) -> Reset:
         """A ref that is set, or removed."""
         return Reset(line.number, self.ref(line), self.target(b'from'))
 
-    def tag(self, line):
+    def tag(self, line: Line) -> Tag:
         """A tag with a message."""
         name, mark, target = self.ref(line), self.mark(), self.target(b'from')
         if target is None:
@@ -258,7 +266,7 @@ class Reader:
         self.content()
         return Tag(line.number, name, mark, target)
 
-    def commit(self, line):
+    def commit(self, line: Line) -> Commit:
         """A commit with all that it has."""
         branch, mark, original = self.ref(line), self.mark(), self.original_oid()
         author, committer = self.identity(b'author', False), self.identity(b'committer', True)
@@ -278,7 +286,7 @@ class Reader:
         name = self.own_name(line, original) if self.original else None
         return Commit(line.number, branch, mark, name, header, message, Parents(first, merges), changes)
 
-    def own_name(self, line, text):
+    def own_name(self, line: Line, text: Optional[bytes]) -> bytes:
         """The name that a commit says of itself, which no other has."""
         name = object_name(text) if text is not None else None
         if name is None or name in self.names:
@@ -286,7 +294,7 @@ class Reader:
         self.names.add(name)
         return name
 
-    def encoding(self):
+    def encoding(self) -> Optional[bytes]:
         """The encoding of a message, or None."""
         line = self.part(b'encoding')
         if line is None:
@@ -298,13 +306,13 @@ class Reader:
         self.no_signature()
         return text
 
-    def no_signature(self):
+    def no_signature(self) -> None:
         """Signed commits are refused."""
         line = self.part(b'gpgsig')
         if line is not None:
             raise at_line(line.number, b'unsupported')
 
-    def change(self):
+    def change(self) -> Any:
         """A change of a commit's files, or None behind the last one."""
         line = self.part(b'M', b'D', b'deleteall')
         if line is None:
@@ -320,7 +328,7 @@ class Reader:
             return Delete(line.number, text)
         return self.modify(line, text.split(b' ', 2))
 
-    def modify(self, line, pieces):
+    def modify(self, line: Line, pieces: List[bytes]) -> Modify:
         """A file that is put: its mode, where its content is from, and its path."""
         if pieces[0] in (b'040000', b'40000'):
             raise at_line(line.number, b'unsupported')
@@ -331,7 +339,7 @@ class Reader:
             self.take(line)
             return Modify(line.number, mode, ('inline', self.content()), path)
         if content.startswith(b':') and decimal(content[1:]):
-            found = ('mark', decimal(content[1:]))
+            found: Any = ('mark', decimal(content[1:]))
         elif object_name(content) is not None:
             found = ('name', object_name(content))
         else:
@@ -340,7 +348,7 @@ class Reader:
         return Modify(line.number, mode, found, path)
 
 
-def commands(data, original):
+def commands(data: bytes, original: bool) -> Iterator[Any]:
     """The commands of a stream in turn; raises Refused at the first fault."""
     reader = Reader(data, original)
     command = reader.next()

@@ -11,7 +11,7 @@ import tempfile
 import types
 import unittest
 import xml.etree.ElementTree as ElementTree
-from typing import Any, List, Optional
+from typing import Any, List, Optional, Sequence
 from unittest import mock
 
 sys.path.insert(0, os.path.dirname(os.path.dirname(os.path.abspath(__file__))))
@@ -77,7 +77,7 @@ def make_search(room: str, texts: List[str], answer: Optional[int]) -> Any:
                                  log_lines=lambda one, with_answer=True: one.log + (one.answer if with_answer else []))
 
 
-def make_several(room: str, texts: List[str], answers: List[Optional[int]]) -> Any:
+def make_several(room: str, texts: List[str], answers: List[Optional[int]], names: Sequence[str] = ()) -> Any:
     """Searches for several tests, each with the number of its answer; None is one that is left out."""
     search = make_search(room, texts, 1)
     search.builds, order, base = [], search.history.order, vars(search.tests[0])
@@ -86,7 +86,7 @@ def make_several(room: str, texts: List[str], answers: List[Optional[int]]) -> A
         known = {name: int(at >= (answer or 0)) for at, name in enumerate(order[1:-1], 1) if at % 4 != number % 4 or at == answer}
         wrong = None if answer else types.SimpleNamespace(text='it was called bad')
         last = [b'%s is the first bad commit' % order[answer].encode()] if answer else []
-        search.tests.append(types.SimpleNamespace(**{**base, 'name': HOSTILE_NAMES[number], 'short': 't%d' % number, 'known': known, 'rows': [],
+        search.tests.append(types.SimpleNamespace(**{**base, 'name': (names or HOSTILE_NAMES)[number], 'short': 't%d' % number, 'known': known, 'rows': [],
                                                      'wrong': wrong, 'answer': last, 'status': 0 if answer else 1, 'missing': set()}))
     return search
 
@@ -160,7 +160,7 @@ class Pages(Room):
         self.assertEqual((page.count(': may be the first one</title>'), page.count(' doubt" fill=')), (2, 2))
         self.assertEqual(page.count('<a href="https://gitlab.example.org/team/tool/-/commit/'), 2)
         self.assertIn('## One of 2 commits', summary)
-        self.assertIn("--skip %s --copy 'a b' --submodules " % first, facts['again']['search'])
+        self.assertIn("cd deep/ && git farmdawn --build make --skip %s --copy '../a b' --submodules " % first, facts['again']['search'])
         search.settings.noise = (0.05, 0.02)
         for sure, words in ((0.99, '--noise 0.05,0.02 --build'), (0.999, '--noise 0.05,0.02 --sure 0.999 --build')):
             search.settings.sure = sure
@@ -228,8 +228,8 @@ class Pages(Room):
             self.assertEqual(one['tests'], {test.name: 'bad' if test.known[one['commit']] else 'good' for test in search.tests if one['commit'] in test.known})
         root = ElementTree.fromstring(OverviewPage(facts, searches).text().encode('utf-8'))
         tag = '{http://www.w3.org/1999/xhtml}'
-        self.assertEqual([card.findtext(tag + 'h2') for card in root.iter(tag + 'section')], ['c3', 'c7'])
-        rows = [(row.findtext(tag + 'td/' + tag + 'a') or '', [cell.get('class') for cell in row.iter() if cell.tag in (tag + 'rect', tag + 'path')])
+        self.assertEqual([card.findtext(tag + 'h2/' + tag + 'bdi') for card in root.iter(tag + 'section')], ['c3', 'c7'])
+        rows = [(row.findtext(tag + 'td/' + tag + 'a/' + tag + 'bdi') or '', [cell.get('class') for cell in row.iter() if cell.tag in (tag + 'rect', tag + 'path')])
                 for row in root.iter(tag + 'tr')][1:]
         self.assertEqual([name for name, _ in rows], [names[at] for at in (1, 4, 0, 3, 2)])
         for name, cells in rows:
@@ -243,6 +243,37 @@ class Pages(Room):
         summary = summary_of_all(facts, searches)
         self.check_summary(summary)
         self.assertEqual(re.findall(r'^\[`0{12}`\]\(https.*\) (.*)$', summary, re.M), ['c3', 'c7'])
+
+    def test_many(self) -> None:
+        """Of many tests most names of a commit are folded, and so are the rows: what they printed stands near the top."""
+        names = ['suite::test %d' % at for at in range(60)]
+        search = make_several(self.room, ['c%d' % at for at in range(12)], [3 if at % 3 else None for at in range(60)], names)
+        facts = Overview(search, '0.1.0').facts(1, '')
+        searches = {test.name: Collector(search, test, '0.1.0').collect(test.status, '', test.wrong is None) for test in search.tests}
+        page = OverviewPage(facts, searches).text()
+        root, tag = ElementTree.fromstring(page.encode('utf-8')), '{http://www.w3.org/1999/xhtml}'
+        self.assertEqual([folded.findtext(tag + 'summary') for folded in root.iter(tag + 'details')], ['and 35 more', 'and 15 more', '60 tests'])
+        self.assertEqual([folded.get('open') for folded in root.iter(tag + 'details')], [None] * 3)
+        self.assertEqual(sorted(link.findtext(tag + 'bdi') or '' for link in root.iter(tag + 'a') if link.find(tag + 'bdi') is not None), sorted(names * 2))
+        self.assertIn('<li>it was called bad: <a href="t0/index.html">', page)
+        self.assertLess(page.index('and 35 more'), page.index('Without an answer'))
+
+    def test_stopped(self) -> None:
+        """Of several, a test that has its answer has it in its own report too, where the others run or were stopped; the overview says the same."""
+        search = make_several(self.room, ['c%d' % at for at in range(12)], [7, 3, None, 7, 3])
+        search.tests[3].status, search.tests[3].answer = None, []
+        for status, reason, state in ((None, '', 'running'), (143, 'stopped by a signal', 'stopped')):
+            target = report.Report(self.room + '/report', search, '0.1.0')
+            target.write(status, reason, False)
+            with open(self.room + '/report/result.json', encoding='utf-8') as file:
+                whole: OverviewFacts = json.load(file)
+            self.assertEqual([one['state'] for one in whole['searches']], ['found', 'found', 'left out', state, 'found'])
+            for one, test in zip(whole['searches'], search.tests):
+                with open(os.path.join(self.room, 'report', test.short, 'result.json'), encoding='utf-8') as file:
+                    own: Facts = json.load(file)
+                self.assertEqual(own['reason'], one['reason'])
+                if test.wrong is None:
+                    self.assertEqual((own['state'], own['answer'] and own['answer']['name'], bool(own['link'])), (one['state'], one['answer'], one['answer'] is not None))
 
     def test_wide_matrix(self) -> None:
         """Of very many commits those are shown that most tests say something of, and the answers in any case."""

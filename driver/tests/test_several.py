@@ -276,7 +276,8 @@ class Several(unittest.TestCase):
                            (['--tests', '../list', '--', 'make', 'test'], '{} in it stands for the test, as in: -- make test {}'),
                            (['--tests', os.devnull, '--', 'make', '{}'], '/dev/null: no line is a test'),
                            (['--together', '--', 'make'], '--together is for several tests'),
-                           (['--test', 'a b', 'make'], '--test wants a name of letters'),
+                           (['--test', 'a b', 'make'], '--test wants a name of at most 40 letters'),
+                           (['--test', 41 * 'a', 'make'], '--test wants a name of at most 40 letters'),
                            (['--test', 'a', 'make', '--test', 'a', 'make'], 'that no other test has')):
             with self.subTest(words):
                 got = repo.search(*repo.ends(), *words)
