@@ -52,14 +52,13 @@ impl<'r> Consumed<'r> {
         let walked = tree.run(table, left)?;
         let Walked {
             entries: mut more,
-            used,
             ending,
             state,
             path,
         } = walked;
         entries.append(&mut more)?;
         tree.jump(path.as_slice());
-        let left = left_after(left, used.len());
+        let left = left_after(left, path.len());
         Ok(Consumed {
             tree,
             entries,
@@ -142,14 +141,13 @@ impl<'r> Consumed<'r> {
     {
         let Walked {
             mut entries,
-            used,
             ending,
             state,
             path,
         } = walked;
         self.entries.append(&mut entries)?;
         self.tree.jump(path.as_slice());
-        self.left = left_after(self.left, used.len());
+        self.left = left_after(self.left, path.len());
         self.state = state;
         self.ending = ending;
         Ok(())
