@@ -69,7 +69,7 @@ impl<'r> Consumed<'r> {
     }
 
     /// Goes on as far as the outcomes of a table lead, which has those of the run's table and perhaps
-    /// more. Of these claims it gives the workers whose place no path asks for then, ascending. After an
+    /// more. Of these claims it returns the workers whose place no path asks for then, ascending. After an
     /// error all is as before, and no node is lost.
     pub(crate) fn consume(
         &mut self,
@@ -99,7 +99,7 @@ impl<'r> Consumed<'r> {
     }
 
     /// Puts the outcome of a place that has none into a table, and goes on as far as its outcomes lead. Of
-    /// these claims it gives the workers whose place no path asks for then, ascending. After an error all is
+    /// these claims it returns the workers whose place no path asks for then, ascending. After an error all is
     /// as before, the table too, and no node is lost.
     pub(crate) fn learn(
         &mut self,
