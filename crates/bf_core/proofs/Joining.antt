@@ -16,9 +16,10 @@ use Rattle.bf_search.specs.Outcomes.{Outcomes, outcomes_of_table}
 use Rattle.bf_search.specs.State.{Search, Asked, IsSearchOver, ask}
 use Rattle.bf_search.specs.Run.{End, Answered, Leg, Open, Aborted, Run, with_entries, leg_of, left_after, run}
 use Rattle.bf_search.specs.Farm.{Setting, consumed}
-use Rattle.bf_state.specs.Runs.{is_open, in_sequence}
+use Rattle.bf_state.specs.Runs.{is_open, is_unfinished, in_sequence}
 use Rattle.bf_state.specs.Session.{Session, with_search}
 use Rattle.bf_state.proofs.Asks.{ask_leaves, decision_within}
+use Rattle.bf_state.proofs.Causes.{used_are_marked}
 use Rattle.bf_state.proofs.Tables.{seq_ends_alike}
 use Rattle.bf_spec.specs.Walks.{Tells}
 use Rattle.bf_spec.specs.Tree.{Guesses}
@@ -94,7 +95,6 @@ ended_consumes old new table e same = λ setting first before g over part h.
 pub record IsWalk (tree : Guesses) (known : Outcomes) (left : Option ℕ) (walked : Walked) (r : Run) : Type 0 where
   pub is : r ≡ run tree.graph known left tree.root.search
   pub entries : walked.entries.items ≡ r.entries
-  pub used : walked.used.items ≡ r.used
   pub ending : Tells walked.ending r.end
   pub state : walked.state ≡ with_search tree.session r.search
   pub path : walked.path.items ≡ marks_of r.entries
@@ -115,6 +115,14 @@ pub record IsWhole (whole r : Run) (entries : List Entry) (count : ℕ) : Type 0
   pub search : whole.search ≡ r.search
   pub end : whole.end ≡ r.end
 
+-- while a run waits, a walk has a mark for each outcome that it used
+counted : (tree : Guesses) (known : Outcomes) (left : Option ℕ) (walked : Walked) (r : Run) → IsWalk tree known left walked r
+    → is_unfinished r.end ≡ true → length walked.path.items ≡ length r.used
+counted tree known left walked r walk on =
+    ap (λ (ms : List Mark). length ms) walk.path
+    ∙ sym (subst (λ (x : Run). is_unfinished x.end ≡ true → length x.used ≡ length (marks_of x.entries)) (sym walk.is)
+    (used_are_marked known tree.graph left tree.root.search) on)
+
 pub joined_is_run : (setting : Setting) (first : Session) (whole r : Run) (tree : Guesses) (entries : List Entry) (count : ℕ) (left : Option ℕ)
     (known : Outcomes) (walked : Walked) (new : Consumed)
     → tree.graph ≡ setting.graph → first ≡ with_search tree.session setting.start → left ≡ left_after (leg_of setting.leg) count
@@ -129,9 +137,10 @@ joined_is_run setting first whole r tree entries count left known walked new on_
   waits = λ p e. record {
     search = ap (λ (a : Asked). a.search) joined.root ∙ walk.there (open_no_leg r.end p (sym w.end ∙ e)) ∙ sym w.search;
     left = joined.left
-        ∙ ap (λ (l : Option ℕ). left_after l (length walked.used.items)) on_left
-        ∙ left_after-again (leg_of setting.leg) count (length walked.used.items)
-        ∙ ap (λ (n : ℕ). left_after (leg_of setting.leg) n) (ap (λ (us : List (ℕ × Outcome)). count + length us) walk.used ∙ sym w.used);
+        ∙ ap (λ (l : Option ℕ). left_after l (length walked.path.items)) on_left
+        ∙ left_after-again (leg_of setting.leg) count (length walked.path.items)
+        ∙ ap (λ (n : ℕ). left_after (leg_of setting.leg) n)
+        (ap (λ (n : ℕ). count + n) (counted tree known left walked r walk (ap is_unfinished (sym w.end ∙ e))) ∙ sym w.used);
   };
   asked = has_asked (asked_at tree.graph tree.root walked.path.items) new.tree.root tree.graph new.tree.graph (with_search tree.session r.search) new.state
       joined.root joined.graph (joined.state ∙ walk.state) walk.asked;
@@ -341,17 +350,16 @@ module _ (core : Consumed) (table : List (Option Outcome)) (asks : HasAsked core
 
 pub walk_of : (tree mid : Guesses) (known : Outcomes) (left : Option ℕ) (walked : Walked) → IsSameTree tree mid
     → walked.entries.items ≡ (run tree.graph known left tree.root.search).entries
-    → walked.used.items ≡ (run tree.graph known left tree.root.search).used → Tells walked.ending (run tree.graph known left tree.root.search).end
+    → Tells walked.ending (run tree.graph known left tree.root.search).end
     → walked.state ≡ with_search tree.session (run tree.graph known left tree.root.search).search
     → walked.path.items ≡ marks_of (run tree.graph known left tree.root.search).entries
     → ((run tree.graph known left tree.root.search).end ≢ Leg
     → (asked_at tree.graph tree.root walked.path.items).search ≡ (run tree.graph known left tree.root.search).search)
     → (asked_at tree.graph tree.root walked.path.items).search ≡ (ask tree.graph (run tree.graph known left tree.root.search).search).search
     → IsWalk mid known left walked (run tree.graph known left tree.root.search)
-walk_of tree mid known left walked same entries used ending state path there asked = record {
+walk_of tree mid known left walked same entries ending state path there asked = record {
   is = ap (λ (g : List (List ℕ)). run g known left tree.root.search) (sym same.graph) ∙ ap (λ (a : Asked). run mid.graph known left a.search) (sym same.root);
   entries = entries;
-  used = used;
   ending = ending;
   state = state ∙ ap (λ (s : Session). with_search s (run tree.graph known left tree.root.search).search) (sym same.session);
   path = path;

@@ -66,7 +66,7 @@ pub record IsJoined (tree : Guesses) (before : List Entry) (marks : Option ℕ) 
   pub entries : new.entries.items ≡ before ++ walked.entries.items
   pub state : new.state ≡ walked.state
   pub ending : new.ending ≡ walked.ending
-  pub left : new.left ≡ left_after marks (length walked.used.items)
+  pub left : new.left ≡ left_after marks (length walked.path.items)
 
 -- a walk was added to a run
 abbrev pub IsJoinedTo : Consumed → Walked → Consumed → Type 0

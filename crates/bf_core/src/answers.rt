@@ -45,7 +45,7 @@ pub enum ApplyFault {
     /// This event is not legal here.
     #[error("the event is not legal here: {event:?}")]
     Illegal { event: Event },
-    /// Memory ran out.
+    /// Want of memory.
     #[error("out of memory")]
     NoMemory,
 }

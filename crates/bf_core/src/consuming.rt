@@ -52,14 +52,13 @@ impl<'r> Consumed<'r> {
         let walked = tree.run(table, left)?;
         let Walked {
             entries: mut more,
-            used,
             ending,
             state,
             path,
         } = walked;
         entries.append(&mut more)?;
         tree.jump(path.as_slice());
-        let left = left_after(left, used.len());
+        let left = left_after(left, path.len());
         Ok(Consumed {
             tree,
             entries,
@@ -70,7 +69,7 @@ impl<'r> Consumed<'r> {
     }
 
     /// Goes on as far as the outcomes of a table lead, which has those of the run's table and perhaps
-    /// more. Of these claims it gives the workers whose place no path asks for then, ascending. After an
+    /// more. Of these claims it returns the workers whose place no path asks for then, ascending. After an
     /// error all is as before, and no node is lost.
     pub(crate) fn consume(
         &mut self,
@@ -100,7 +99,7 @@ impl<'r> Consumed<'r> {
     }
 
     /// Puts the outcome of a place that has none into a table, and goes on as far as its outcomes lead. Of
-    /// these claims it gives the workers whose place no path asks for then, ascending. After an error all is
+    /// these claims it returns the workers whose place no path asks for then, ascending. After an error all is
     /// as before, the table too, and no node is lost.
     pub(crate) fn learn(
         &mut self,
@@ -142,14 +141,13 @@ impl<'r> Consumed<'r> {
     {
         let Walked {
             mut entries,
-            used,
             ending,
             state,
             path,
         } = walked;
         self.entries.append(&mut entries)?;
         self.tree.jump(path.as_slice());
-        self.left = left_after(self.left, used.len());
+        self.left = left_after(self.left, path.len());
         self.state = state;
         self.ending = ending;
         Ok(())

@@ -170,7 +170,7 @@ impl<'r> Core<'r> {
     }
 
     /// The best open place, which [`Core::pick`] would claim. There is none where the run has ended, nor
-    /// where no path is open. No node is lost, also where memory runs out.
+    /// where no path is open. No node is lost, even after want of memory.
     pub fn best_place(&mut self) -> Result<Option<u32>, AllocError>
         ensures best { IfOk result (λ best.
             best ≡ best_place (setting_of self.old) (farm_of self.old)) }
@@ -207,7 +207,7 @@ impl<'r> Core<'r> {
     }
 
     /// Ends a claim that stands, and puts the outcome of its place into the table. The run goes on as far
-    /// as the outcomes lead. It gives the workers whose claimed place no path asks for any more. After an
+    /// as the outcomes lead. It returns the workers whose claimed place no path asks for any more. After an
     /// error all is as before, and no node is lost.
     pub fn post(
         &mut self,
@@ -227,7 +227,7 @@ impl<'r> Core<'r> {
         self.put(worker, place, outcome, true)
     }
 
-    /// As `post`, which gives nobody unless it is asked whose tests are wanted.
+    /// As `post`, which returns nobody unless it is asked whose tests are wanted.
     fn put(
         &mut self,
         worker: u32,
@@ -254,7 +254,7 @@ impl<'r> Core<'r> {
     }
 
     /// Puts the outcome of a place that nobody tests and that has none into the table. The claims stand as
-    /// they were, and the run goes on as far as the outcomes lead. It gives the workers whose claimed place no
+    /// they were, and the run goes on as far as the outcomes lead. It returns the workers whose claimed place no
     /// path asks for any more. After an error all is as before, and no node is lost.
     pub fn learn(&mut self, place: u32, outcome: Outcome) -> Result<Withdrawn, AllocError>
         requires { IsFree (length self.old.table) (outcomes_of_table self.old.table)
@@ -274,7 +274,7 @@ impl<'r> Core<'r> {
     }
 
     /// Whether some path asks for the outcome of a place, whether a worker tests it or not. None does where
-    /// the search has ended, nor where the outcome is known. No node is lost, also where memory runs out.
+    /// the search has ended, nor where the outcome is known. No node is lost, even after want of memory.
     pub fn wants(&mut self, place: u32) -> Result<bool, AllocError>
         ensures wanted { IfOk result (λ wanted.
             IsTrue wanted ↔ WantsOutcome self.old place) }
@@ -369,7 +369,7 @@ impl<'r> Core<'r> {
         Ok(())
     }
 
-    /// Claims a place for a worker where that is legal, and says whether it is. After an error all is as
+    /// Claims a place for a worker where that is legal, and returns whether it is. After an error all is as
     /// before, and no node is lost.
     fn claim(&mut self, worker: u32, place: u32) -> Result<bool, AllocError>
         ensures claimed { IfOk result (ClaimsIf self.old worker place self.new) }

@@ -122,7 +122,7 @@ fn take_turn<R: Host, T: Tester>(
     }
 }
 
-/// Tests one commit after another until the run has ended or a test fails; then it gives the place of
+/// Tests one commit after another until the run has ended or a test fails; then it returns the place of
 /// that test.
 pub(crate) fn go_on<R: Host, T: Tester>(
     rt: &R,

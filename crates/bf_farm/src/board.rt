@@ -109,7 +109,7 @@ impl<'r> Board<'r> {
         Ok(pick)
     }
 
-    /// Does an event again where it is legal, and answers whether it is. An event that is not legal
+    /// Does an event again where it is legal, and returns whether it is. An event that is not legal
     /// changes nothing but the room, and so does want of memory.
     pub(crate) fn redo(&mut self, event: Event) -> Result<bool, AllocError>
         ensures done { IfOk result (λ legal. DoesIf legal self.old self.new event) }
@@ -167,7 +167,7 @@ impl<'r> Board<'r> {
         self.events
     }
 
-    /// Ends the test of a claimed place with its outcome, and gives the workers whose tests nobody waits
+    /// Ends the test of a claimed place with its outcome, and returns the workers whose tests nobody waits
     /// for any more, ascending. Where the claim does not stand nothing changes, and the list is empty.
     #[tactic(auto, using(crate::proofs::Seen::withdrawn_seen))]
     pub fn post(

@@ -57,7 +57,7 @@ fn share_out<R: Host, T: Tester>(rt: &R, shared: Shared<'_, '_>, workers: &mut [
     thread::for_each_mut(rt, workers, threads, &part);
 }
 
-/// Runs the workers over a board, and gives the events that it then has. Nothing more is known of them.
+/// Runs the workers over a board, and returns the events that it then has. Nothing more is known of them.
 pub(crate) fn run_workers<R: Host, T: Tester>(
     rt: &R,
     board: Board<'_>,

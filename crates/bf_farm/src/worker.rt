@@ -66,7 +66,7 @@ fn withdraw(flags: &[AtomicBool], workers: &[u32]) {
     }
 }
 
-/// Posts an outcome, and answers whether there was memory for it; if not, the claim is given back.
+/// Posts an outcome, and returns whether there was memory for it; if not, the claim is given back.
 fn post<R: Wait>(
     rt: &R,
     shared: Shared<'_, '_>,
@@ -96,7 +96,7 @@ fn give<R: Wait>(rt: &R, shared: Shared<'_, '_>, worker: u32, place: u32) {
     shared.changed.notify_all();
 }
 
-/// Tests a claimed place, and answers whether the worker goes on.
+/// Tests a claimed place, and returns whether the worker goes on.
 fn test_claimed<R: Host, T: Tester>(
     rt: &R,
     shared: Shared<'_, '_>,
@@ -125,7 +125,7 @@ fn test_claimed<R: Host, T: Tester>(
     }
 }
 
-/// The work of one worker, until the run has ended, a test fails or memory runs out.
+/// The work of one worker, until the run has ended, a test fails or there is want of memory.
 pub(crate) fn work<R: Host, T: Tester>(rt: &R, shared: Shared<'_, '_>, worker: &mut Worker<T>)
     requires { AnswersFollow (T.told worker.old.tester) (T.answers worker.old.tester) }
     ensures { IsPart T.Tester worker.old.tester worker.new.tester }

@@ -128,7 +128,7 @@ impl<'r> ManyCore<'r> {
     }
 
     /// Ends a claim that stands, and puts the outcome of its place into the table of its search, which
-    /// goes on as far as its outcomes lead. It gives the workers whose claimed place no path of this
+    /// goes on as far as its outcomes lead. It returns the workers whose claimed place no path of this
     /// search asks for any more. No other search changes, and an outcome that the search does not wait for
     /// moves its run neither. After an error all is as before, and no node is lost.
     pub fn post(
@@ -154,7 +154,7 @@ impl<'r> ManyCore<'r> {
 
     /// Puts the outcome of a place that nobody tests in a search, and that has none there, into the table of
     /// this search, which goes on as far as its outcomes lead. No claim ends, and no other search changes. It
-    /// gives the workers whose claimed place no path of this search asks for any more. After an error all is
+    /// returns the workers whose claimed place no path of this search asks for any more. After an error all is
     /// as before, and no node is lost.
     pub fn learn(
         &mut self,
@@ -176,7 +176,7 @@ impl<'r> ManyCore<'r> {
     }
 
     /// The searches, ascending, some path of which asks for the outcome of a place, whether a worker tests it
-    /// there or not. No node is lost, also where memory runs out.
+    /// there or not. No node is lost, even after want of memory.
     pub fn wanted(&mut self, place: u32) -> Result<Vec<u32>, AllocError>
         ensures wanted { IfOk result (λ searches. AreWanting self.old place searches.items) }
         ensures ascending { IfOk result (λ searches. IsStrictlyIncreasing searches.items) }
@@ -205,7 +205,7 @@ impl<'r> ManyCore<'r> {
         self.cores[search as usize].give(worker, place);
     }
 
-    /// Does an event where it is legal, and answers whether it is. Otherwise, and after want of memory,
+    /// Does an event where it is legal, and returns whether it is. Otherwise, and after want of memory,
     /// all is as before, and no node is lost.
     pub(crate) fn apply(&mut self, e: ManyEvent) -> Result<bool, AllocError>
         ensures done { IfOk result (StepsIf self.old e self.new) }

@@ -1,7 +1,7 @@
 -- Walks to a place that some path asks for.
 use Rattle.std.proofs.Common.{◌≡◌, ℕ, zero, suc, ◌<◌, ◌⊎◌, Bool, true, false, not, ◌&&◌, ◌==◌, cond, List, [], ◌∷◌, ◌++◌, length, get_or, replicate, Option, Some, None}
 use Rattle.std.proofs.Common.{refl, sym, ap, ◌∙◌, subst, inl, inr, ⊎_elim, eqb-true, eq-eqb}
-use Rattle.std.proofs.lemmas.Bool.{and_parts, not-true, both_ways, cases_Bool}
+use Rattle.std.proofs.lemmas.Bool.{and_parts, not-true, both_ways}
 use Rattle.std.proofs.lemmas.List.Elements.{Contains-get_or}
 use Rattle.std.specs.Arc.{arc_value}
 use Rattle.std.specs.List.{Contains}
@@ -32,7 +32,7 @@ use Rattle.bf_spec.specs.Guessed.{next_asked}
 use Rattle.bf_spec.specs.Nodes.{path_of, asked_of, AreNodes, Extends, left_at}
 use Rattle.bf_spec.specs.Sights.{IsSight}
 use Rattle.bf_spec.specs.Ways.{IsAsked, is_no_candidate, way_by_verdict, way_by_outcome, way_of, IsGuessTowards, GoesTowards}
-use Rattle.bf_spec.proofs.Growing.{sight_of, extends_nodes, extends_has, extends_at, extends_length, read_as}
+use Rattle.bf_spec.proofs.Growing.{sight_of, extends_nodes, extends_has, extends_at, read_as}
 use Rattle.bf_spec.proofs.Sights.{mask_asked}
 use Rattle.bf_spec.proofs.Walking.{NodeFacts, node_facts, child_asks, child_search, IsChildAt, child_at_left}
 

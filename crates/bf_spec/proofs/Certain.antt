@@ -1,22 +1,20 @@
 -- Where the check has passed, and no outcome is known of the places that may be asked, some path asks for each of them.
 use Rattle.std.proofs.Common.{◌≡◌, ℕ, zero, suc, ◌<◌, ◌≤◌, ◌⊎◌, Bool, true, false, ◌||◌, ◌==◌, cond, leb, List, [], ◌∷◌, length, Option, Some, None}
-use Rattle.std.proofs.Common.{get_or, slice_index, not, ◌&&◌, refl, sym, ap, ◌∙◌, subst, inl, inr, ⊎_elim, arith, eqb-true, eq-eqb, IfSome}
+use Rattle.std.proofs.Common.{get_or, slice_index, not, refl, sym, ap, ◌∙◌, subst, inl, inr, ⊎_elim, arith, eqb-true, eq-eqb, IfSome}
 use Rattle.std.proofs.lemmas.List.Elements.{All-contains}
 use Rattle.std.specs.Arc.{arc_value}
 use Rattle.std.proofs.lemmas.Bool.{and_from, and_parts, not-true, ne_eqb, both_ways, cases_eq, cases_Bool, cond-true, cond-false, le-leb}
 use Rattle.std.specs.List.{Contains, find, list_all}
 use Rattle.bf_graph.specs.Graph.{IsGraph}
-use Rattle.bf_search.specs.declared.asks.Ask.{Ask}
 use Rattle.bf_search.specs.declared.asks.Ask.TheVariants.{Test, FirstBad}
 use Rattle.bf_search.specs.declared.outcomes.Mark.TheVariants.{Good, Bad}
 use Rattle.bf_search.specs.declared.outcomes.Outcome.{Outcome}
 use Rattle.bf_search.specs.Candidates.{is_in, is_candidate, candidate_row, candidates, weights}
 use Rattle.bf_search.specs.Choice.{best, count_in, eligible, first_greatest, is_eligible, value_of}
-use Rattle.bf_search.specs.Guesses.{is_candidate_below, is_candidate_of, IsParted}
+use Rattle.bf_search.specs.Guesses.{is_candidate_below, is_candidate_of}
 use Rattle.bf_search.specs.LeftToAsk.{left_to_ask}
-use Rattle.bf_search.specs.OpenPaths.{left_of, Allows, Leads}
+use Rattle.bf_search.specs.OpenPaths.{left_of, Allows}
 use Rattle.bf_search.specs.Outcomes.{Outcomes, outcomes_of_table}
-use Rattle.bf_search.specs.Reach.{in_mode}
 use Rattle.bf_search.specs.State.{Search, Asked, IsSearchOver, ask, ask_among, ask_best, best_of, is_place, mark, without_test}
 use Rattle.bf_search.proofs.CandidateLemmas.{IsCandidate-from_test, is_in-candidate_row, length-candidate_row}
 use Rattle.bf_search.proofs.Modes.{IsGraph-in_mode}
@@ -35,7 +33,7 @@ use Rattle.bf_state.proofs.Shrinking.{candidate_before}
 use Rattle.bf_spec.specs.declared.node.Node.{Node}
 use Rattle.bf_spec.specs.Nodes.{AreNodes, IsNode}
 use Rattle.bf_spec.specs.Sights.{IsSight}
-use Rattle.bf_spec.specs.Ways.{AreUntold, IsAsked, IsSure, IsUntold, MayBeAsked, may_be_asked as node_may}
+use Rattle.bf_spec.specs.Ways.{AreUntold, IsAsked, IsSure, MayBeAsked, may_be_asked as node_may}
 use Rattle.bf_spec.proofs.Asking.{in_mask}
 use Rattle.bf_spec.proofs.Growing.{sight_of, read_as}
 use Rattle.bf_spec.proofs.Walking.{NodeFacts, node_facts}

@@ -22,6 +22,7 @@ use Rattle.bf_search.specs.Run.{turn, run}
 use Rattle.bf_search.specs.State.{Search, Asked, IsSearchOver, ask_best, ask_among, best_of, ask_candidates, ask_checked, ask, mark}
 use Rattle.bf_search.proofs.Turns.{run-is}
 use Rattle.bf_state.proofs.Asks.{known_ends}
+use Rattle.bf_spec.specs.declared.follow.Halt.TheVariants as halts
 use Rattle.bf_spec.specs.declared.follow.Next.{Next}
 use Rattle.bf_spec.specs.declared.follow.Next.TheVariants as nexts
 use Rattle.bf_spec.specs.declared.node.Node.{Node}
@@ -29,8 +30,8 @@ use Rattle.bf_state.specs.Ends.{HasEnds}
 use Rattle.bf_spec.specs.Guessed.{next_asked}
 use Rattle.bf_spec.specs.Nodes.{path_of, asked_of, IsNode, AreNodes, Extends, left_at}
 use Rattle.bf_state.specs.Ends.{marks_of}
-use Rattle.bf_spec.specs.Walks.{next_by_verdict, next_by_outcome, next_of, IsAnswer, answer_entries, is_over, run_below, behind}
-use Rattle.bf_spec.proofs.Growing.{extends_nodes, extends_has, extends_at, read_as}
+use Rattle.bf_spec.specs.Walks.{next_by_verdict, next_by_outcome, next_of, IsAnswer, answer_entries, is_over, run_below, LeadsInto, HaltsAt}
+use Rattle.bf_spec.proofs.Growing.{extends_nodes, extends_has, extends_length, extends_at, read_as}
 use Rattle.bf_spec.proofs.Walking.{NodeFacts, node_facts, marked_over, child_asks, IsChildAt, child_at_left}
 
 -- ---- a search with both ends does not wait for one
@@ -85,19 +86,24 @@ module _ (known : Outcomes) (go : Option ℕ → Search → Run) (left : Option 
   abbrev NextTells : Next → Ask → Type 0
   NextTells nexts.Answered a = NoWait a → IsAnswer a × (Rest a ≡ ended (answer_entries a) s (Answered a))
   NextTells nexts.Waits a = (p : ℕ) × (a ≡ Test p) × (Rest a ≡ ended [] s (Open p))
-  NextTells (nexts.Aborted p outcome) a = Rest a ≡ with_used p outcome (ended [] s (Aborted p outcome))
-  NextTells (nexts.Marked p outcome m) a = (a ≡ Test p) × (Rest a ≡ with_used p outcome (with_entries (Marked m p ∷ []) (go (marked_one left) (mark s m p))))
+  NextTells (nexts.Aborted p outcome) a = LeadsInto [] (ended [] s (Aborted p outcome)) (Rest a)
+  NextTells (nexts.Marked p m) a = (a ≡ Test p) × LeadsInto (Marked m p ∷ []) (go (marked_one left) (mark s m p)) (Rest a)
 
   next_tells : (a : Ask) → NextTells (next_of known a) a
   next_tells (Test p) = by_outcome (known p) refl
     where
-      by_verdict : (outcome : Outcome) (v : Verdict) → verdict_of outcome ≡ v → known p ≡ Some outcome → NextTells (next_by_verdict p outcome v) (Test p)
-      by_verdict outcome Abort e o = ap (λ (x : Option Outcome). after_look known go left s p x) o ∙ ap
+      looked : (outcome : Outcome) (v : Verdict) → verdict_of outcome ≡ v → known p ≡ Some outcome
+          → Rest (Test p) ≡ with_used p outcome (after_verdict go left s p outcome v)
+      looked outcome v e o = ap (λ (x : Option Outcome). after_look known go left s p x) o ∙ ap
           (λ (v : Verdict). with_used p outcome (after_verdict go left s p outcome v)) e
+
+      by_verdict : (outcome : Outcome) (v : Verdict) → verdict_of outcome ≡ v → known p ≡ Some outcome → NextTells (next_by_verdict p outcome v) (Test p)
+      by_verdict outcome Abort e o = subst (λ (r : Run). LeadsInto [] (ended [] s (Aborted p outcome)) r) (sym (looked outcome Abort e o))
+          (record { entries = refl; search = refl; end = refl })
       by_verdict outcome (MarkOf m) e o = (
         refl,
-        ap (λ (x : Option Outcome). after_look known go left s p x) o ∙ ap
-            (λ (v : Verdict). with_used p outcome (after_verdict go left s p outcome v)) e,
+        subst (λ (r : Run). LeadsInto (Marked m p ∷ []) (go (marked_one left) (mark s m p)) r) (sym (looked outcome (MarkOf m) e o))
+            (record { entries = refl; search = refl; end = refl }),
       )
 
       by_outcome : (o : Option Outcome) → known p ≡ o → NextTells (next_by_outcome p o) (Test p)
@@ -115,21 +121,19 @@ module _ (known : Outcomes) (go : Option ℕ → Search → Run) (left : Option 
   pub tells : (a : Ask) (next : Next) → next ≡ next_of known a → NextTells next a
   tells a next h = subst (λ (n : Next). NextTells n a) (sym h) (next_tells a)
 
--- ---- entries and what was used before
+-- ---- runs that lead into others
 
-pub behind_same : (es fs : List Entry) (us vs : List (ℕ × Outcome)) (r : Run) → es ≡ fs → us ≡ vs → behind es us r ≡ behind fs vs r
-behind_same es fs us vs r e u = ap (λ (xs : List Entry). behind xs us r) e ∙ ap (λ (ys : List (ℕ × Outcome)). behind fs ys r) u
+-- a run leads into another one, and that into a third
+leads_on : (es fs : List Entry) (r s t : Run) → LeadsInto es r t → LeadsInto fs s r → LeadsInto (es ++ fs) s t
+leads_on es fs r s t h k = record {
+  entries = h.entries ∙ ap (λ (xs : List Entry). es ++ xs) k.entries ∙ sym (append_assoc es fs s.entries);
+  search = h.search ∙ k.search;
+  end = h.end ∙ k.end;
+}
 
-pub behind_none : (r : Run) → behind [] [] r ≡ r
-behind_none r = refl
-
-pub behind_used : (es : List Entry) (us : List (ℕ × Outcome)) (p : ℕ) (outcome : Outcome) (r : Run)
-    → behind es us (with_used p outcome r) ≡ behind es (us ++ (p, outcome) ∷ []) r
-behind_used es us p outcome r = ap (λ (ys : List (ℕ × Outcome)). record r { entries = es ++ r.entries; used = ys })
-    (sym (append_assoc us ((p, outcome) ∷ []) r.used))
-
-pub behind_entries : (es ws : List Entry) (us : List (ℕ × Outcome)) (r : Run) → behind es us (with_entries ws r) ≡ behind (es ++ ws) us r
-behind_entries es ws us r = ap (λ (xs : List Entry). record r { entries = xs; used = us ++ r.used }) (sym (append_assoc es ws r.entries))
+-- other names of the same
+pub leads_as : (es fs : List Entry) (r s t : Run) → es ≡ fs → r ≡ s → LeadsInto es r t → LeadsInto fs s t
+leads_as es fs r s t e h k = subst (λ (x : Run). LeadsInto fs x t) h (subst (λ (xs : List Entry). LeadsInto xs r t) e k)
 
 marks_append : (es fs : List Entry) → marks_of (es ++ fs) ≡ marks_of es ++ marks_of fs
 marks_append [] fs = refl
@@ -143,18 +147,18 @@ marks_warned : (ps : List ℕ) → marks_of (map (λ p. SkippedBase p) ps) ≡ [
 marks_warned [] = refl
 marks_warned (p ∷ ps) = marks_warned ps
 
-append_none : (xs : List Mark) → xs ++ [] ≡ xs
-append_none [] = refl
-append_none (x ∷ xs) = ap (λ ys. x ∷ ys) (append_none xs)
+pub append_nil : {X : Type 0} (xs : List X) → xs ++ [] ≡ xs
+append_nil [] = refl
+append_nil (x ∷ xs) = ap (λ ys. x ∷ ys) (append_nil xs)
 
 pub marks_marked : (es : List Entry) (m : Mark) (p : ℕ) → marks_of (es ++ Marked m p ∷ []) ≡ marks_of es ++ m ∷ []
 marks_marked es m p = marks_append es (Marked m p ∷ [])
 
 pub marks_after : (es : List Entry) (ps : List ℕ) → marks_of (es ++ map (λ p. SkippedBase p) ps) ≡ marks_of es
-marks_after es ps = marks_append es (map (λ p. SkippedBase p) ps) ∙ ap (λ (ms : List Mark). marks_of es ++ ms) (marks_warned ps) ∙ append_none (marks_of es)
+marks_after es ps = marks_append es (map (λ p. SkippedBase p) ps) ∙ ap (λ (ms : List Mark). marks_of es ++ ms) (marks_warned ps) ∙ append_nil (marks_of es)
 
 pub marks_answer : (es : List Entry) (a : Ask) → marks_of (es ++ answer_entries a) ≡ marks_of es
-marks_answer es a = marks_append es (answer_entries a) ∙ ap (λ (ms : List Mark). marks_of es ++ ms) (none a) ∙ append_none (marks_of es)
+marks_answer es a = marks_append es (answer_entries a) ∙ ap (λ (ms : List Mark). marks_of es ++ ms) (none a) ∙ append_nil (marks_of es)
   where
     none : (b : Ask) → marks_of (answer_entries b) ≡ []
     none (Test p) = refl
@@ -209,47 +213,66 @@ module _ (graph : List (List ℕ)) (known : Outcomes) (left : Option ℕ) (nodes
   pub same_at : (d b : Node) → get_or nodes i d ≡ get_or nodes i b
   same_at d b = read_as nodes i node d l e ∙ sym (read_as nodes i node b l e)
 
-  pub halt_answered : (d : Node) → nexts.Answered ≡ next_of known node.step.ask
-      → IsAnswer (get_or nodes i d).step.ask × (run_below graph known left (get_or nodes i d) ≡ ended (answer_entries (get_or nodes i d).step.ask)
-      (get_or nodes i d).state.search (Answered (get_or nodes i d).step.ask))
-  halt_answered d h =
-      subst (λ (n : Node). IsAnswer n.step.ask × (run_below graph known left n ≡ ended (answer_entries n.step.ask) n.state.search (Answered n.step.ask)))
-      (sym (read_as nodes i node d l e))
-      (tells known (run graph known) left node.state.search node.step.ask nexts.Answered h (no_wait_node graph nodes node t (i, l, sym e)))
+  -- what was made so far leads from a run into the one below the node
+  module _ (whole : Run) (es : List Entry) (d : Node) (so_far : LeadsInto es (run_below graph known left (get_or nodes i d)) whole)
+      (path : (b : Node) → path_of (get_or nodes i b) ≡ marks_of es) where
+    -- the run that is left at the node, where it is another one by its name
+    at_node : (b : Node) (of : Node → Run) → run_below graph known left node ≡ of node → LeadsInto es (of (get_or nodes i b)) whole
+    at_node b of h =
+        leads_as es es (run_below graph known left (get_or nodes i d)) (of (get_or nodes i b)) whole refl
+        (ap (λ (n : Node). run_below graph known left n) (read_as nodes i node d l e) ∙ h ∙ ap of (sym (read_as nodes i node b l e))) so_far
 
-  pub halt_waits : (d : Node) → nexts.Waits ≡ next_of known node.step.ask
-      → (p : ℕ) × ((get_or nodes i d).step.ask ≡ Test p) × (run_below graph known left (get_or nodes i d) ≡ ended [] (get_or nodes i d).state.search (Open p))
-  halt_waits d h =
-      subst (λ (n : Node). (p : ℕ) × (n.step.ask ≡ Test p) × (run_below graph known left n ≡ ended [] n.state.search (Open p)))
-      (sym (read_as nodes i node d l e))
-      (tells known (run graph known) left node.state.search node.step.ask nexts.Waits h)
+    -- a fact of the node where it is read with another one past the end
+    read : (b : Node) (P : Node → Type 0) → P node → P (get_or nodes i b)
+    read b P h = subst P (sym (read_as nodes i node b l e)) h
 
-  pub halt_aborted : (d : Node) (p : ℕ) (outcome : Outcome) → nexts.Aborted p outcome ≡ next_of known node.step.ask
-      → run_below graph known left (get_or nodes i d) ≡ with_used p outcome (ended [] (get_or nodes i d).state.search (Aborted p outcome))
-  halt_aborted d p outcome h =
-      subst (λ (n : Node). run_below graph known left n ≡ with_used p outcome (ended [] n.state.search (Aborted p outcome))) (sym (read_as nodes i node d l e))
-      (tells known (run graph known) left node.state.search node.step.ask (nexts.Aborted p outcome) h)
+    pub halts_answered : nexts.Answered ≡ next_of known node.step.ask → HaltsAt nodes es (halts.Answered i) whole
+    halts_answered h =
+        let told = tells known (run graph known) left node.state.search node.step.ask nexts.Answered h (no_wait_node graph nodes node t (i, l, sym e)) in (
+          l,
+          λ b. (
+            read b (λ n. IsAnswer n.step.ask) told.0,
+            at_node b (λ n. ended (answer_entries n.step.ask) n.state.search (Answered n.step.ask)) told.1,
+            path b,
+          ),
+        )
 
-  module _ (p : ℕ) (outcome : Outcome) (m : Mark) (h : nexts.Marked p outcome m ≡ next_of known node.step.ask) where
-    told : (node.step.ask ≡ Test p) × (run_below graph known left node ≡ with_used p outcome
-        (with_entries (Marked m p ∷ []) (run graph known (marked_one left) (mark node.state.search m p))))
-    told = tells known (run graph known) left node.state.search node.step.ask (nexts.Marked p outcome m) h
+    pub halts_waits : nexts.Waits ≡ next_of known node.step.ask → HaltsAt nodes es (halts.Waits i) whole
+    halts_waits h =
+        let told = tells known (run graph known) left node.state.search node.step.ask nexts.Waits h in (
+          l,
+          λ b. (
+            told.0,
+            read b (λ n. n.step.ask ≡ Test told.0) told.1,
+            at_node b (λ n. ended [] n.state.search (Open told.0)) told.2,
+            path b,
+          ),
+        )
+
+    pub halts_aborted : (p : ℕ) (outcome : Outcome) → nexts.Aborted p outcome ≡ next_of known node.step.ask
+        → HaltsAt nodes es (halts.Aborted i p outcome) whole
+    halts_aborted p outcome h =
+        let told = tells known (run graph known) left node.state.search node.step.ask (nexts.Aborted p outcome) h in
+        let here : LeadsInto es (run_below graph known left node) whole = at_node node (λ n. run_below graph known left node) refl in (
+          l,
+          λ b. (
+            leads_as (es ++ []) es (ended [] node.state.search (Aborted p outcome)) (ended [] (get_or nodes i b).state.search (Aborted p outcome)) whole
+                (append_nil es) (ap (λ (n : Node). ended [] n.state.search (Aborted p outcome)) (sym (read_as nodes i node b l e)))
+                (leads_on es [] (run_below graph known left node) (ended [] node.state.search (Aborted p outcome)) whole here told),
+            path b,
+          ),
+        )
+
+  module _ (p : ℕ) (m : Mark) (h : nexts.Marked p m ≡ next_of known node.step.ask) where
+    told : (node.step.ask ≡ Test p)
+        × LeadsInto (Marked m p ∷ []) (run graph known (marked_one left) (mark node.state.search m p)) (run_below graph known left node)
+    told = tells known (run graph known) left node.state.search node.step.ask (nexts.Marked p m) h
 
     pub marked_asks : (d : Node) → (get_or nodes i d).step.ask ≡ Test p
     marked_asks d = ap (λ (n : Node). n.step.ask) (read_as nodes i node d l e) ∙ told.0
 
     over : IsSearchOver graph (mark node.state.search m p)
     over = marked_over graph node m p facts told.0
-
-    -- the run behind what came before
-    step_is : (d : Node) (es : List Entry) (us : List (ℕ × Outcome))
-        → behind es us (run_below graph known left (get_or nodes i d)) ≡ behind (es ++ Marked m p ∷ []) (us ++ (p, outcome) ∷ [])
-        (run graph known (marked_one left) (mark node.state.search m p))
-    step_is d es us =
-        ap (λ (n : Node). behind es us (run_below graph known left n)) (read_as nodes i node d l e)
-        ∙ ap (λ (r : Run). behind es us r) told.1
-        ∙ behind_used es us p outcome (with_entries (Marked m p ∷ []) (run graph known (marked_one left) (mark node.state.search m p)))
-        ∙ behind_entries es (Marked m p ∷ []) (us ++ (p, outcome) ∷ []) (run graph known (marked_one left) (mark node.state.search m p))
 
     module _ (new : List Node) (k : ℕ) (grown : Extends graph nodes new)
         (child : (k < length new) × ((d : Node) → path_of (get_or new k d) ≡ path_of (get_or nodes i d) ++ m ∷ [])) where
@@ -258,16 +281,6 @@ module _ (graph : List (List ℕ)) (known : Outcomes) (left : Option ℕ) (nodes
 
       pub step_less : left_at graph new k < left_at graph nodes i
       step_less = child_at_left graph nodes new i k m t at p node (marked_asks node)
-
-      pub step_over : (d b : Node) (es : List Entry) (us : List (ℕ × Outcome)) → is_over (marked_one left) ≡ true
-          → behind es us (run_below graph known left (get_or nodes i d)) ≡ behind (es ++ Marked m p ∷ []) (us ++ (p, outcome) ∷ [])
-          (ended [] (mark (get_or new i b).state.search m p) Leg)
-      step_over d b es us o =
-          step_is d es us
-          ∙ ap (λ (r : Run). behind (es ++ Marked m p ∷ []) (us ++ (p, outcome) ∷ []) r)
-          (run_over graph known (marked_one left) (mark node.state.search m p) facts.parents over o)
-          ∙ ap (λ (n : Node). behind (es ++ Marked m p ∷ []) (us ++ (p, outcome) ∷ []) (ended [] (mark n.state.search m p) Leg))
-          (sym (extends_at graph nodes new i b grown l ∙ read_as nodes i node b l e))
 
       all : AreNodes graph new
       all = extends_nodes graph nodes new grown t
@@ -278,17 +291,43 @@ module _ (graph : List (List ℕ)) (known : Outcomes) (left : Option ℕ) (nodes
           (child.1 d ∙ ap (λ (n : Node). path_of n ++ m ∷ []) (read_as nodes i node d l e))
           ∙ ap (λ (a : Ask). next_asked graph (record { search = node.state.search; step = record { warned = node.step.warned; ask = a } }) m) told.0
 
-      pub step_on : (d c : Node) (es : List Entry) (us : List (ℕ × Outcome)) → is_over (marked_one left) ≡ false → c ≡ get_or new k c
-          → behind es us (run_below graph known left (get_or nodes i d)) ≡ behind ((es ++ Marked m p ∷ []) ++ map (λ q. SkippedBase q) c.step.warned)
-          (us ++ (p, outcome) ∷ []) (run_below graph known (marked_one left) (get_or new k d))
-      step_on d c es us o is =
-          step_is d es us
-          ∙ ap (λ (r : Run). behind (es ++ Marked m p ∷ []) (us ++ (p, outcome) ∷ []) r)
-          (run_on graph known (marked_one left) (mark node.state.search m p) facts.parents over o ∙ ap
-          (λ (a : Asked). after_ask known (run graph known) (marked_one left) a) (sym (follows c)))
-          ∙ behind_entries (es ++ Marked m p ∷ []) (map (λ q. SkippedBase q) (get_or new k c).step.warned) (us ++ (p, outcome) ∷ [])
-          (run_below graph known (marked_one left) (get_or new k c))
-          ∙ ap (λ (n : Node). behind ((es ++ Marked m p ∷ []) ++ map (λ q. SkippedBase q) n.step.warned) (us ++ (p, outcome) ∷ [])
-          (run_below graph known (marked_one left) n)) (sym is)
-          ∙ ap (λ (n : Node). behind ((es ++ Marked m p ∷ []) ++ map (λ q. SkippedBase q) c.step.warned) (us ++ (p, outcome) ∷ [])
-          (run_below graph known (marked_one left) n)) (sym (read_as new k c d child.0 is))
+      module _ (whole : Run) (es : List Entry) (d : Node) (so_far : LeadsInto es (run_below graph known left (get_or nodes i d)) whole) where
+        -- the run behind the mark
+        step_is : LeadsInto (es ++ Marked m p ∷ []) (run graph known (marked_one left) (mark node.state.search m p)) whole
+        step_is =
+            leads_on es (Marked m p ∷ []) (run_below graph known left (get_or nodes i d)) (run graph known (marked_one left) (mark node.state.search m p))
+            whole so_far
+            (subst (λ (n : Node). LeadsInto (Marked m p ∷ []) (run graph known (marked_one left) (mark node.state.search m p)) (run_below graph known left n))
+            (sym (read_as nodes i node d l e)) told.1)
+
+        pub step_over : ((b : Node) → path_of (get_or nodes i b) ≡ marks_of es) → is_over (marked_one left) ≡ true
+            → HaltsAt new (es ++ Marked m p ∷ []) (halts.Over i k m p) whole
+        step_over path o = (
+          extends_length graph nodes new i grown l,
+          child.0,
+          λ b. (
+            leads_as (es ++ Marked m p ∷ []) (es ++ Marked m p ∷ []) (run graph known (marked_one left) (mark node.state.search m p))
+                (ended [] (mark (get_or new i b).state.search m p) Leg) whole refl
+                (run_over graph known (marked_one left) (mark node.state.search m p) facts.parents over o
+                ∙ ap (λ (n : Node). ended [] (mark n.state.search m p) Leg) (sym (extends_at graph nodes new i b grown l ∙ read_as nodes i node b l e)))
+                step_is,
+            child.1 b ∙ ap (λ (ms : List Mark). ms ++ m ∷ []) (path b) ∙ sym (marks_marked es m p),
+            ap (λ (n : Node). n.step.ask) (extends_at graph nodes new i b grown l) ∙ marked_asks b,
+            child.1 b ∙ ap (λ (n : Node). path_of n ++ m ∷ []) (sym (extends_at graph nodes new i b grown l)),
+          ),
+        )
+
+        pub step_on : (c b : Node) → is_over (marked_one left) ≡ false → c ≡ get_or new k c
+            → LeadsInto ((es ++ Marked m p ∷ []) ++ map (λ q. SkippedBase q) c.step.warned) (run_below graph known (marked_one left) (get_or new k b)) whole
+        step_on c b o is =
+            leads_on (es ++ Marked m p ∷ []) (map (λ q. SkippedBase q) c.step.warned) (run graph known (marked_one left) (mark node.state.search m p))
+            (run_below graph known (marked_one left) (get_or new k b)) whole step_is
+            (subst (λ (r : Run). LeadsInto (map (λ q. SkippedBase q) c.step.warned) (run_below graph known (marked_one left) (get_or new k b)) r)
+            (sym (run_on graph known (marked_one left) (mark node.state.search m p) facts.parents over o ∙ ap
+            (λ (a : Asked). after_ask known (run graph known) (marked_one left) a) (sym (follows b))))
+            (record {
+              entries = ap (λ (n : Node). map (λ q. SkippedBase q) n.step.warned ++ (run_below graph known (marked_one left) (get_or new k b)).entries)
+                  (read_as new k c b child.0 is);
+              search = refl;
+              end = refl;
+            }))

@@ -21,7 +21,6 @@ use Rattle.bf_spec.specs.declared.follow.Halt.{Halt}
 use Rattle.bf_spec.specs.declared.follow.Halt.TheVariants as halts
 use Rattle.bf_spec.specs.declared.follow.Next.{Next}
 use Rattle.bf_spec.specs.declared.follow.Next.TheVariants as nexts
-use Rattle.bf_spec.specs.declared.follow.Trail.{Trail}
 use Rattle.bf_spec.specs.declared.follow.Walked.{Walked}
 use Rattle.bf_spec.specs.declared.node.Node.{Node}
 use Rattle.bf_state.specs.Ends.{marks_of}
@@ -39,7 +38,7 @@ Tells (Some ending) end = (end_of ending ≡ end) × (is_open end ≡ false)
 
 abbrev pub next_by_verdict : ℕ → Outcome → Verdict → Next
 next_by_verdict p outcome Abort = nexts.Aborted p outcome
-next_by_verdict p outcome (MarkOf m) = nexts.Marked p outcome m
+next_by_verdict p outcome (MarkOf m) = nexts.Marked p m
 
 abbrev pub next_by_outcome : ℕ → Option Outcome → Next
 next_by_outcome p None = nexts.Waits
@@ -74,61 +73,44 @@ is_over left = false
 abbrev pub run_below : List (List ℕ) → Outcomes → Option ℕ → Node → Run
 run_below graph known left node = after_step known (run graph known) left node.state.search node.step.ask
 
--- a run with what came before it
-abbrev pub behind : List Entry → List (ℕ × Outcome) → Run → Run
-behind entries used run = record run { entries = entries ++ run.entries; used = used ++ run.used }
+-- A run makes these entries, and then does as another one. Nothing is said of the outcomes that they used.
+pub record LeadsInto (before : List Entry) (rest run : Run) : Type 0 where
+  pub entries : run.entries ≡ before ++ rest.entries
+  pub search : run.search ≡ rest.search
+  pub end : run.end ≡ rest.end
 
 -- what is left of a run over the outcomes of a table where the node at an index has asked
 abbrev pub run_at : List (List ℕ) → List (Option Outcome) → Option ℕ → List Node → ℕ → Node → Run
 run_at graph table left nodes i d = run_below graph (outcomes_of_table table) left (slice_index_or nodes i d)
 
--- ---- what a run makes on its way
+-- ---- where a run halts
 
--- a trail logs some entries more
-abbrev pub Logs : Trail → List Entry → Trail → Type 0
-Logs old entries new = new.entries.items ≡ old.entries.items ++ entries
-
--- a trail uses one outcome more
-abbrev pub Uses : Trail → ℕ × Outcome → Trail → Type 0
-Uses old outcome new = new.used.items ≡ old.used.items ++ outcome ∷ []
-
--- nothing was made yet
-pub record IsEmptyTrail (trail : Trail) : Type 0 where
-  pub entries : trail.entries.items ≡ []
-  pub used : trail.used.items ≡ []
-
--- Where a run halts: its node, and what is left of the run there.
-abbrev pub HaltsAt : List Node → List Entry → List (ℕ × Outcome) → Halt → Run → Type 0
-HaltsAt nodes entries used (halts.Answered i) run = (i < length nodes) × ((d : Node) → let node = slice_index_or nodes i d in
-    IsAnswer node.step.ask × (run ≡ behind entries used (ended (answer_entries node.step.ask) node.state.search (Answered node.step.ask)))
+-- Where a run halts: its node, the entries that lead there, and what is left of the run.
+abbrev pub HaltsAt : List Node → List Entry → Halt → Run → Type 0
+HaltsAt nodes entries (halts.Answered i) run = (i < length nodes) × ((d : Node) → let node = slice_index_or nodes i d in
+    IsAnswer node.step.ask × LeadsInto entries (ended (answer_entries node.step.ask) node.state.search (Answered node.step.ask)) run
     × (path_of node ≡ marks_of entries))
-HaltsAt nodes entries used (halts.Waits i) run = (i < length nodes) × ((d : Node) → let node = slice_index_or nodes i d in
-    (p : ℕ) × (node.step.ask ≡ Test p) × (run ≡ behind entries used (ended [] node.state.search (Open p))) × (path_of node ≡ marks_of entries))
-HaltsAt nodes entries used (halts.Aborted i p outcome) run = (i < length nodes) × ((d : Node) → let node = slice_index_or nodes i d in
-    (run ≡ behind entries used (ended [] node.state.search (Aborted p outcome))) × (path_of node ≡ marks_of entries))
-HaltsAt nodes entries used (halts.Over i j m p) run = (i < length nodes) × (j < length nodes) × ((d : Node) →
-    (run ≡ behind entries used (ended [] (mark (slice_index_or nodes i d).state.search m p) Leg))
+HaltsAt nodes entries (halts.Waits i) run = (i < length nodes) × ((d : Node) → let node = slice_index_or nodes i d in
+    (p : ℕ) × (node.step.ask ≡ Test p) × LeadsInto entries (ended [] node.state.search (Open p)) run × (path_of node ≡ marks_of entries))
+HaltsAt nodes entries (halts.Aborted i p outcome) run = (i < length nodes) × ((d : Node) → let node = slice_index_or nodes i d in
+    LeadsInto entries (ended [] node.state.search (Aborted p outcome)) run × (path_of node ≡ marks_of entries))
+HaltsAt nodes entries (halts.Over i j m p) run = (i < length nodes) × (j < length nodes) × ((d : Node) →
+    LeadsInto entries (ended [] (mark (slice_index_or nodes i d).state.search m p) Leg) run
     × (path_of (slice_index_or nodes j d) ≡ marks_of entries) × ((slice_index_or nodes i d).step.ask ≡ Test p)
     × (path_of (slice_index_or nodes j d) ≡ path_of (slice_index_or nodes i d) ++ m ∷ []))
 
--- a run halts there, where this was made of it on its way
-abbrev pub HaltsWith : List Node → Trail → Halt → Run → Type 0
-HaltsWith nodes trail halt run = HaltsAt nodes trail.entries.items trail.used.items halt run
-
 -- ---- what was walked
 
--- what was walked to a node, with this ending
-pub record IsEndedAt (node : Node) (trail : Trail) (told : Option Ending) (walked : Walked) : Type 0 where
-  pub entries : walked.entries ≡ trail.entries
-  pub used : walked.used ≡ trail.used
+-- what was walked to a node, with these entries and this ending
+pub record IsEndedAt (node : Node) (entries : List Entry) (told : Option Ending) (walked : Walked) : Type 0 where
+  pub logged : walked.entries.items ≡ entries
   pub ending : walked.ending ≡ told
   pub state : walked.state ≡ node.state
   pub path : walked.path.items ≡ path_of node
 
 -- what was walked in a leg that is over after a mark that leads from one node to another
-pub record IsOverAt (from to : Node) (m : Mark) (p : ℕ) (trail : Trail) (walked : Walked) : Type 0 where
-  pub entries : walked.entries ≡ trail.entries
-  pub used : walked.used ≡ trail.used
+pub record IsOverAt (from to : Node) (m : Mark) (p : ℕ) (entries : List Entry) (walked : Walked) : Type 0 where
+  pub logged : walked.entries.items ≡ entries
   pub ending : walked.ending ≡ Some endings.Leg
   pub state : walked.state ≡ with_search from.state (mark from.state.search m p)
   pub path : walked.path.items ≡ path_of to
@@ -136,10 +118,6 @@ pub record IsOverAt (from to : Node) (m : Mark) (p : ℕ) (trail : Trail) (walke
 -- what was walked has the entries of a run
 abbrev pub HasEntries : Run → Walked → Type 0
 HasEntries run walked = walked.entries.items ≡ run.entries
-
--- what was walked used the outcomes of a run
-abbrev pub HasUsed : Run → Walked → Type 0
-HasUsed run walked = walked.used.items ≡ run.used
 
 -- what was walked ended as a run ended
 abbrev pub HasEnding : Run → Walked → Type 0
@@ -165,10 +143,9 @@ HasAsked graph root run walked = (asked_at graph root walked.path.items).search 
 abbrev pub IsWaiting : List (List ℕ) → Asked → Run → Walked → Type 0
 IsWaiting graph root run walked = (p : ℕ) → run.end ≡ Open p → (asked_at graph root walked.path.items).step.ask ≡ Test p
 
--- What was walked is this run, in all parts, and its path has a node.
+-- What was walked is this run, and its path has a node.
 pub record IsWalked (graph : List (List ℕ)) (session : Session) (root : Asked) (nodes : List Node) (run : Run) (walked : Walked) : Type 0 where
   pub entries : HasEntries run walked
-  pub used : HasUsed run walked
   pub ending : HasEnding run walked
   pub state : HasState session run walked
   pub path : HasMarks run walked
@@ -178,9 +155,9 @@ pub record IsWalked (graph : List (List ℕ)) (session : Session) (root : Asked)
   pub waits : IsWaiting graph root run walked
 
 -- what was walked is each run that halts there
-abbrev pub WalksHalted : List Node → Trail → Halt → Walked → Type 0
-WalksHalted nodes trail halt walked =
-    (graph : List (List ℕ)) (session : Session) (root : Asked) (run : Run) → IsTree graph session root nodes → HaltsWith nodes trail halt run
+abbrev pub WalksHalted : List Node → List Entry → Halt → Walked → Type 0
+WalksHalted nodes entries halt walked =
+    (graph : List (List ℕ)) (session : Session) (root : Asked) (run : Run) → IsTree graph session root nodes → HaltsAt nodes entries halt run
     → IsWalked graph session root nodes run walked
 
 -- what was walked is the run from the root over the outcomes of a table

@@ -10,7 +10,7 @@ ghost use Rattle.bf_state.specs.Session.{with_search};
 ghost use Rattle.bf_spec.specs.Nodes.{path_of, HasPath, AreNodes, Extends, IsBest, known_by, RootAsks};
 ghost use Rattle.bf_spec.specs.Nodes.{MovesRoot, KeepsPathsBelow, LacksGuess};
 ghost use Rattle.bf_spec.specs.Paths.{place_in};
-ghost use Rattle.bf_spec.specs.Walks.{HasEntries, HasUsed, HasEnding, HasState, HasMarks};
+ghost use Rattle.bf_spec.specs.Walks.{HasEntries, HasEnding, HasState, HasMarks};
 ghost use Rattle.bf_spec.specs.Walks.{IsThere, HasAsked, IsWaiting, WalksRun};
 ghost use Rattle.bf_spec.specs.Tree.{HasNode, HasBeginnings, HasOpenPath, KeepsNodesBelow, LacksNode, MovesSession};
 ghost use Rattle.bf_spec.specs.Tree.{best_of, best_place, run_of, IsAskedIn, TellsIfAsked, paths_of, root_of};
@@ -119,7 +119,6 @@ impl<'r> SpecTree<'r> {
     /// of its marks has a node afterwards, also the last one of a leg. No node is lost, also where memory runs out.
     pub fn run(&mut self, table: &Table, left: Option<u32>) -> Result<Walked, AllocError>
         ensures entries { IfOk result (HasEntries (run_of self.old table.now left)) }
-        ensures used { IfOk result (HasUsed (run_of self.old table.now left)) }
         ensures ending { IfOk result (HasEnding (run_of self.old table.now left)) }
         ensures state { IfOk result (HasState self.old.session (run_of self.old table.now left)) }
         ensures path { IfOk result (HasMarks (run_of self.old table.now left)) }

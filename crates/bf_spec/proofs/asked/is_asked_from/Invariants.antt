@@ -1,4 +1,4 @@
-use Rattle.std.proofs.Common.{◌≡◌, ◌<◌, length}
+use Rattle.std.proofs.Common.{◌<◌, length}
 use Rattle.std.specs.List.{slice_index_or}
 use Rattle.bf_search.specs.Outcomes.{outcomes_of_table}
 use Rattle.bf_spec.specs.Nodes.{AreNodes, Extends, left_at}

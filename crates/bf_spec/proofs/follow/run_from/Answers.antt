@@ -12,14 +12,14 @@ use Rattle.bf_spec.proofs.follow.run_from.Goals as goal
 pub returns-then-is_over-clause-walked : goal.returns-then-is_over-clause-walked
 returns-then-is_over-clause-walked c = if_ok c.ended_at.result c.ended_at.ensures (λ walked is session root t.
     spent_walked c.args.reach.now (outcomes_of_table c.args.table.now) c.args.left session root c.args.nodes.now.items c.args.start c.index.result.now
-    (record { entries = c.new.result; used = c.new-2.result }) walked t c.requires.start c.requires.root c.index.ensures
-    (sym c.is_over.ensures ∙ c.if-is_over.true) c.new.ensures.items c.new-2.ensures.items is)
+    c.new-entries.result.items walked t c.requires.start c.requires.root c.index.ensures
+    (sym c.is_over.ensures ∙ c.if-is_over.true) c.new-entries.ensures.items is)
 
 pub halted-requires-clause-halts : goal.halted-requires-clause-halts
 halted-requires-clause-halts c = (
   run_below c.args.reach.now (outcomes_of_table c.args.table.now) c.args.left
       (slice_index_or c.args.nodes.now.items c.args.start c.requires.nodes.tree.rooted.node),
-  subst (λ (xs : List Node). HaltsAt xs c.follow.new.trail.entries.items c.follow.new.trail.used.items c.in_ok-halt.halt
+  subst (λ (xs : List Node). HaltsAt xs c.follow.new.entries.items c.in_ok-halt.halt
       (run_below c.args.reach.now (outcomes_of_table c.args.table.now) c.args.left
       (slice_index_or c.args.nodes.now.items c.args.start c.requires.nodes.tree.rooted.node)))
       (sym c.as_slice.ensures.value) (c.in_ok-halt.ensures.halts c.requires.nodes.tree.rooted.node),
@@ -37,8 +37,8 @@ returns-clause-walked c = if_ok c.halted.result c.halted.ensures (λ walked h se
     let d : Node = c.requires.nodes.tree.rooted.node in
     let below : Run = run_below c.args.reach.now (outcomes_of_table c.args.table.now) c.args.left (slice_index_or c.args.nodes.now.items c.args.start d) in
     let on : is_over c.args.left ≡ false = sym c.is_over.ensures ∙ c.if-is_over.false in
-    let halts : HaltsAt c.as_slice.result.now c.follow.new.trail.entries.items c.follow.new.trail.used.items c.in_ok-halt.halt below
-    = subst (λ (xs : List Node). HaltsAt xs c.follow.new.trail.entries.items c.follow.new.trail.used.items c.in_ok-halt.halt below)
+    let halts : HaltsAt c.as_slice.result.now c.follow.new.entries.items c.in_ok-halt.halt below
+    = subst (λ (xs : List Node). HaltsAt xs c.follow.new.entries.items c.in_ok-halt.halt below)
     (sym c.as_slice.ensures.value) (c.in_ok-halt.ensures.halts d) in
     let tree : IsTree c.args.reach.now session root c.as_slice.result.now
     = subst (λ (xs : List Node). IsTree c.args.reach.now session root xs) (sym c.as_slice.ensures.value) (c.in_ok-halt.ensures.extends.stays session root t) in

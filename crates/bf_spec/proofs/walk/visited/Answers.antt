@@ -1,15 +1,14 @@
-use Rattle.std.proofs.Common.{◌≡◌, ℕ, ◌<◌, ◌++◌, ◌∷◌, [], List, Bool, count_by, length, get_or, Option, arith, sym, ap, ◌∙◌, subst}
+use Rattle.std.proofs.Common.{◌≡◌, ℕ, ◌<◌, ◌++◌, ◌∷◌, [], List, Bool, count_by, length, get_or, arith, ap, ◌∙◌, subst}
 use Rattle.bf_search.specs.Outcomes.{Outcomes, outcomes_of_table}
 use Rattle.bf_search.specs.declared.asks.Ask.TheVariants.{Test}
 use Rattle.bf_search.specs.declared.outcomes.Mark.{Mark}
 use Rattle.bf_search.specs.declared.outcomes.Mark.TheVariants.{Good, Bad}
 use Rattle.bf_search.specs.declared.farm.Claim.{Claim}
-use Rattle.bf_search.specs.OpenPaths.{OpenPath}
 use Rattle.bf_spec.specs.declared.node.Node.{Node}
 use Rattle.bf_spec.specs.declared.walk.Stop.{Stop}
-use Rattle.bf_spec.specs.declared.walk.Stop.TheVariants.{Ended, Guess}
-use Rattle.bf_spec.specs.declared.walk.Visit.TheVariants.{Leaf, Fork}
-use Rattle.bf_spec.specs.Nodes.{path_of, AreNodes, Extends, Stops, IsFound, Visits, known_by, left_at, best_at}
+use Rattle.bf_spec.specs.declared.walk.Stop.TheVariants.{Guess}
+use Rattle.bf_spec.specs.declared.walk.Visit.TheVariants.{Fork}
+use Rattle.bf_spec.specs.Nodes.{path_of, AreNodes, Extends, Stops, Visits, left_at, best_at}
 use Rattle.bf_spec.proofs.Growing.{extends_trans, extends_nodes, extends_length, extends_at}
 use Rattle.bf_spec.proofs.Walking.{IsChildAt, child_at_left, asks_guess, best_below, free_found, first_of, left_at-extends}
 use Rattle.bf_spec.proofs.walk.visited.Goals as goal

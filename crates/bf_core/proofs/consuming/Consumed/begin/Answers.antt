@@ -26,7 +26,7 @@ returns c =
     (c.in_ok-entries.ensures ∙ ap (λ (ps : List ℕ). map (λ p. SkippedBase p) ps) (c.as_slice.ensures ∙ ap (λ (t : Step). t.warned) c.root_ask.ensures))
     (same c)
     (walk_of c.args.tree c.run.new.self (outcomes_of_table c.args.table.now) c.leg_of-left.result c.in_ok-walked.walked (same c)
-    c.in_ok-walked.ensures.entries c.in_ok-walked.ensures.used c.in_ok-walked.ensures.ending c.in_ok-walked.ensures.state c.in_ok-walked.ensures.path
+    c.in_ok-walked.ensures.entries c.in_ok-walked.ensures.ending c.in_ok-walked.ensures.state c.in_ok-walked.ensures.path
     c.in_ok-walked.ensures.there c.in_ok-walked.ensures.asked)
     (record {
       graph = c.jump.ensures.graph;

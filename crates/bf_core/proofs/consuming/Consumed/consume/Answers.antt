@@ -78,7 +78,7 @@ walk : (c : goal.In_ok-commit) → IsWalk c.withdrawn-2.new.tree (outcomes_of_ta
 unfolding the_run
 walk c =
     walk_of c.args.self.now.tree c.withdrawn-2.new.tree (outcomes_of_table c.args.table.now) c.args.self.now.left c.in_ok-walked.walked (same_mid c)
-    c.in_ok-walked.ensures.entries c.in_ok-walked.ensures.used c.in_ok-walked.ensures.ending c.in_ok-walked.ensures.state c.in_ok-walked.ensures.path
+    c.in_ok-walked.ensures.entries c.in_ok-walked.ensures.ending c.in_ok-walked.ensures.state c.in_ok-walked.ensures.path
     c.in_ok-walked.ensures.there c.in_ok-walked.ensures.asked
 
 pub returns-clause-run : goal.returns-clause-run

@@ -31,11 +31,6 @@ returns-clause-entries c = if_ok c.run_in.result c.run_in.ensures.walked (λ wal
     subst (λ (t : Guesses). walked.entries.items ≡ (run_of t c.args.table.now c.args.left).entries) c.self.view_is
     (h (session_of c.self.inside.nodes.items) (root_of c.self.inside.nodes.items) c.self.invariant).entries)
 
-pub returns-clause-used : goal.returns-clause-used
-returns-clause-used c = if_ok c.run_in.result c.run_in.ensures.walked (λ walked h.
-    subst (λ (t : Guesses). walked.used.items ≡ (run_of t c.args.table.now c.args.left).used) c.self.view_is
-    (h (session_of c.self.inside.nodes.items) (root_of c.self.inside.nodes.items) c.self.invariant).used)
-
 pub returns-clause-ending : goal.returns-clause-ending
 returns-clause-ending c = if_ok c.run_in.result c.run_in.ensures.walked (λ walked h.
     subst (λ (t : Guesses). Tells walked.ending (run_of t c.args.table.now c.args.left).end) c.self.view_is
