@@ -29,7 +29,8 @@ fn put_line(text: &mut Bytes, before: &[u8], number: u64) -> Result<(), AllocErr
 
 // Adds a line with a number in it.
 fn put_between(text: &mut Bytes, before: &[u8], number: u64, after: &[u8]) -> Result<(), AllocError>
-    ensures { OnOk result (text.new ≡ text.old ++ ((before.now ++ decimal number ++ after.now) ++ codes "\n")) }
+    ensures { OnOk result
+        (text.new ≡ text.old ++ ((before.now ++ decimal number ++ after.now) ++ codes "\n")) }
 {
     text.append(before)?;
     put_decimal(text, number)?;
