@@ -1,5 +1,5 @@
 //! Reading a certificate.
-ghost use Rattle.std.specs.Prelude.{◌≡◌, ◌<◌, ◌≤◌, [], length, Ok, Some, IfOk, IfErr, IfSome, OnOk, MatchOption};
+ghost use Rattle.std.specs.Prelude.{◌≡◌, ◌<◌, ◌≤◌, [], length, option_and_then, Ok, Some, IfOk, IfErr, IfSome, OnOk, MatchOption};
 ghost use Rattle.bf_cert.specs.Certificates.{Holds, IsWithin};
 ghost use Rattle.bf_cert.specs.Faults.{IsFaultOf, ReadsBack};
 ghost use Rattle.bf_cert.specs.Lines.{cert_text, line_of, lines_of, IsFirstLine};
@@ -99,10 +99,12 @@ fn take_numbered(
 ) -> Result<(), CertFault>
     requires edges { edges.now ≡ history.now.parents }
     requires len { reader.old.len ≡ length history.now.parents }
-    ensures taken { let names = history.now.names in OnOk result
-        (reading.take_text names history.now.parents reader.old text.now ≡ Some reader.new) }
-    ensures refused { let names = history.now.names in reading.RefusesNumbered result number
-        (reading.take_text names history.now.parents reader.old text.now) }
+    ensures taken { OnOk result
+        (option_and_then (reading.take_line history.now.parents reader.old)
+        (line_of history.now.names text.now) ≡ Some reader.new) }
+    ensures refused { reading.RefusesNumbered result number
+        (option_and_then (reading.take_line history.now.parents reader.old)
+        (line_of history.now.names text.now)) }
 {
     let Some(line) = read_line(history, text) else {
         return Err(CertFault::Line { line: number });

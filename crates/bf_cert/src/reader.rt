@@ -1,5 +1,5 @@
 //! A certificate as far as it was read.
-ghost use Rattle.std.specs.Prelude.{◌≡◌, ◌<◌, length, Some, All, IfOk, IfErr, OnOk};
+ghost use Rattle.std.specs.Prelude.{◌≡◌, ◌<◌, ◌++◌, ◌∷◌, [], length, Some, All, IfOk, IfErr, OnOk};
 ghost use Rattle.std.specs.List.{list_all};
 ghost use Rattle.bf_search.specs.Candidates.{is_in};
 ghost use Rattle.bf_cert.specs.Certificates.{IsWithin};
@@ -177,7 +177,10 @@ impl Reader {
 
     fn add_good(&mut self, place: u32) -> Result<(), AllocError>
         requires { place < self.old.len }
-        ensures { OnOk result (self.new ≡ reading.with_good self.old place) }
+        ensures { OnOk result (self.new ≡ record self.old {
+          wants = Wants.Goods;
+          cert = record self.old.cert { goods = self.old.cert.goods ++ place ∷ [] };
+        }) }
     {
         self.goods.push(place)?;
         self.listed.set(place, true);
@@ -188,7 +191,10 @@ impl Reader {
     fn add_step(&mut self, step: CertStep) -> Result<(), AllocError>
         requires place { step.place < self.old.len }
         requires from { step.from < self.old.len }
-        ensures { OnOk result (self.new ≡ reading.with_step self.old step) }
+        ensures { OnOk result (self.new ≡ record self.old {
+          wants = Wants.Steps;
+          cert = record self.old.cert { steps = self.old.cert.steps ++ step ∷ [] };
+        }) }
     {
         self.steps.push(step)?;
         self.listed.set(step.place, true);

@@ -2,6 +2,7 @@
 use Rattle.std.proofs.Common.{◌≡◌, ℕ, ◌+◌, ◌<◌, ◌≤◌, Bool, true, false, not, cond, ◌||◌, nat_lt, List, [], ◌∷◌, length, drop, Option, Some, None, Result, Ok, Err, refl, ap, sym, subst, ◌∙◌, ⊎_elim, arith}
 use Rattle.std.specs.Prelude.{IsTrue}
 use Rattle.std.specs.List.{list_any, position, position_or_len}
+use Rattle.std.specs.Option.{option_map_or}
 use Rattle.std.proofs.lemmas.Bool.{cases_Bool, cond-false, le-ltb, ltb-false, ltb-true, or_parts}
 use Rattle.std.proofs.lemmas.Option.{same_Some}
 use Rattle.bf_answers.specs.Steps.{HasPlan}
@@ -25,7 +26,7 @@ use Rattle.bf_words.specs.declared.verb.Verb.{Verb}
 use Rattle.bf_words.specs.declared.verb.Verb.TheVariants.{Simulate, Run, Next, Replay, Gen, Sample}
 use Rattle.bf_words.specs.FirstOption.{first_option, is_given_in}
 use Rattle.bf_words.specs.Options.{option_of, verb_of}
-use Rattle.bf_words.specs.Roles.{is_given, is_value_of, role_after, role_of_option, roles_after, roles_of}
+use Rattle.bf_words.specs.Roles.{is_given, is_value_of, role_after, roles_after, roles_of}
 use Rattle.bf_words.proofs.Within.{roles_as_long}
 use Rattle.bf_words.specs.Words.{IsRead, fault_in, number_or, read_from, request, request_of, value_at, word_at}
 
@@ -65,7 +66,8 @@ past_all p (x ∷ xs) none =
 no_position : {X : Type 0} (p : X → Bool) (xs : List X) → list_any p xs ≡ false → position p xs ≡ None
 no_position p xs none = rw (past_all p xs none) (cond-false (nat_lt (length xs) (length xs)) (Some (length xs)) None (le-ltb (length xs) (length xs) (omega arith)))
 
-alone_is_none : (choice : Choice) (b : Bool) (o : Option OptionRow) → is_value_of choice (cond b Tail (role_of_option o)) ≡ false
+alone_is_none : (choice : Choice) (b : Bool) (o : Option OptionRow) → is_value_of choice (cond b Tail (option_map_or (λ (row : OptionRow). Given row.choice row.form) o Plain))
+    ≡ false
 alone_is_none choice true o = refl
 alone_is_none choice false None = refl
 alone_is_none choice false (Some row) = refl

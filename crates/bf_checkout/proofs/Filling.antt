@@ -1,12 +1,13 @@
-use Rattle.std.proofs.Common.{◌≡◌, ℕ, zero, suc, ◌<◌, Bool, true, false, ◌&&◌, List, [], ◌∷◌, length, filter, take, get_or, refl, sym, ap, ◌∙◌, true≢false, Option, Some, None, IsTrue, arith}
+use Rattle.std.proofs.Common.{◌≡◌, ℕ, zero, suc, ◌<◌, Bool, true, false, not, ◌&&◌, List, [], ◌∷◌, length, filter, take, get_or, refl, sym, ap, ◌∙◌, true≢false, Option, Some, None, IsTrue, arith}
 use Rattle.std.specs.List.{list_all}
 use Rattle.std.proofs.lemmas.List.Folds.{list_all-map}
 use Rattle.bf_forest.specs.declared.entries.FileEntry.{FileEntry}
 use Rattle.bf_forest.specs.Files.{Files, are_apart, is_before, comes_before, is_tree}
 use Rattle.bf_forest.proofs.Ordered.{list_all-filter}
 use Rattle.bf_tester.specs.Grounds.{File}
-use Rattle.bf_history.specs.Contents.{Blobs}
-use Rattle.bf_checkout.specs.Checkouts.{is_checked_out, with_bytes, checked_out}
+use Rattle.bf_history.specs.Contents.{Blobs, bytes_named}
+use Rattle.bf_history.specs.Meanings.{is_module}
+use Rattle.bf_checkout.specs.Checkouts.{checked_out}
 use Rattle.bf_checkout.specs.Folders.{HasRoomAt, Holds}
 
 -- ---- truth values
@@ -48,6 +49,8 @@ room-next (Some held) blobs files i d tree within holds =
     let p : File → Bool = λ (file : File). are_apart file.path path in
     let q : FileEntry → Bool = λ (file : FileEntry). are_apart file.path path in
     let before : list_all q (take i files) ≡ true = apart_before files i d tree within in
-    let kept : list_all q (filter is_checked_out (take i files)) ≡ true = list_all-filter q is_checked_out (take i files) before in
-    let all : list_all p (checked_out blobs (take i files)) ≡ true = list_all-map p (with_bytes blobs) (filter is_checked_out (take i files)) ∙ kept in
+    let has_file : FileEntry → Bool = λ (file : FileEntry). not (is_module file.mode) in
+    let with_bytes : FileEntry → File = λ (file : FileEntry). record { path = file.path; bytes = bytes_named blobs file.oid } in
+    let kept : list_all q (filter has_file (take i files)) ≡ true = list_all-filter q has_file (take i files) before in
+    let all : list_all p (checked_out blobs (take i files)) ≡ true = list_all-map p with_bytes (filter has_file (take i files)) ∙ kept in
     ap (list_all p) holds ∙ all

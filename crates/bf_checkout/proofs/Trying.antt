@@ -10,8 +10,10 @@ use Rattle.bf_tester.specs.Grounds.{Ground}
 use Rattle.bf_tester.specs.Replies.{answer_of, answers_after}
 use Rattle.bf_tester.specs.Tests.{test_of, tested_after}
 use Rattle.bf_history.specs.Contents.{Content, tree_of}
-use Rattle.bf_checkout.specs.Checkouts.{ground_of, grounds_of}
-use Rattle.bf_checkout.specs.Shops.{AreTestedIn, IsTestedIn}
+use Rattle.bf_forest.specs.Files.{Files}
+use Rattle.bf_forest.specs.Trees.{tree_name}
+use Rattle.bf_checkout.specs.Checkouts.{checked_out, grounds_of}
+use Rattle.bf_checkout.specs.Shops.{AreTestedIn}
 
 -- the same fact, over equal lists
 pub tested-same : (content : Content) (tested tested' : List Tested) (answers answers' : List Answer) → tested' ≡ tested → answers' ≡ answers
@@ -25,7 +27,7 @@ one P x holds k d within = let e : k ≡ 0 = omega arith in subst (λ n. P (get_
 pub tested-append : (content : Content) (tested tested' : List Tested) (answers answers' : List Answer) → AreTestedIn content tested answers
     → AreTestedIn content tested' answers' → AreTestedIn content (tested ++ tested') (answers ++ answers')
 tested-append content tested tested' answers answers' first second = record {
-  each = All-append (IsTestedIn content (tested ++ tested')) answers answers'
+  each = All-append (λ (answer : Answer). Contains (tested ++ tested') (test_of answer.place (tree_of content answer.place))) answers answers'
       (λ k d within. Contains-append_left tested tested' _ (first.each k d within))
       (λ k d within. Contains-append_right tested tested' _ (second.each k d within));
 }
@@ -35,7 +37,8 @@ tested-push : (content : Content) (tested : List Tested) (answers : List Answer)
     → AreTestedIn content (tested ++ test_of answer.place (tree_of content answer.place) ∷ []) (answers ++ answer ∷ [])
 tested-push content tested answers answer are =
     tested-append content tested (test_of answer.place (tree_of content answer.place) ∷ []) answers (answer ∷ []) are (record {
-      each = one (IsTestedIn content (test_of answer.place (tree_of content answer.place) ∷ [])) answer (Contains-push [] _);
+      each = one (λ (other : Answer). Contains (test_of answer.place (tree_of content answer.place) ∷ []) (test_of other.place (tree_of content other.place)))
+          answer (Contains-push [] _);
     })
 
 -- so after any reply
@@ -53,15 +56,18 @@ tested-after content tested tested' answers answers' NoMemory place name noted a
 
 -- ---- contents with the same grounds
 
+abbrev ground_of : Content → Files → Ground
+ground_of content files = record { tree = record { 0 = tree_name files }; files = checked_out content.blobs files }
+
 -- the tree of a place stands in the grounds
-tree_of-grounds : (content : Content) (place : ℕ) → tree_of content place ≡ (get_or (grounds_of content) place (ground_of content.blobs [])).tree
-tree_of-grounds content place = sym (ap (λ (g : Ground). g.tree) (get_or-map (ground_of content.blobs) content.history.files place []))
+tree_of-grounds : (content : Content) (place : ℕ) → tree_of content place ≡ (get_or (grounds_of content) place (ground_of content [])).tree
+tree_of-grounds content place = sym (ap (λ (g : Ground). g.tree) (get_or-map (ground_of content) content.history.files place []))
 
 -- contents with the same grounds have the same trees
 same_tree : (content other : Content) → grounds_of content ≡ grounds_of other → (place : ℕ) → tree_of other place ≡ tree_of content place
 same_tree content other same place =
     tree_of-grounds other place
-    ∙ ap (λ (gs : List Ground). (get_or gs place (ground_of other.blobs [])).tree) (sym same)
+    ∙ ap (λ (gs : List Ground). (get_or gs place (ground_of other [])).tree) (sym same)
     ∙ sym (tree_of-grounds content place)
 
 -- so what was tested in the one was tested in the other

@@ -12,13 +12,9 @@ pub record Shop (T D : Type 0) : Type 0 where
   pub content : Content
   pub failed : Option ℕ
 
--- the place of an answer was tested in a folder, with the tree that the content has there
-abbrev pub IsTestedIn : Content → List Tested → Answer → Type 0
-IsTestedIn content tested answer = Contains tested (test_of answer.place (tree_of content answer.place))
-
--- What the type keeps: so was the place of every answer.
+-- What the type keeps: the place of every answer was tested in a folder, with the tree that the content has there.
 pub record AreTestedIn (content : Content) (tested : List Tested) (answers : List Answer) : Type 0 where
-  pub each : All (IsTestedIn content tested) answers
+  pub each : All (λ answer. Contains tested (test_of answer.place (tree_of content answer.place))) answers
 
 -- the faults of tester and folder together, up to the last value of 64 bits
 abbrev pub faults_of : ℕ → ℕ → ℕ

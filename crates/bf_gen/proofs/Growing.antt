@@ -99,3 +99,7 @@ nothing_yet told number = Appends-nil told
 pub at_error : {T E P : Type 0} (result : Result T E) → P → OnErr result P
 at_error (Ok x) p = tt
 at_error (Err e) p = p
+
+-- a text gained a piece, and then the rest
+pub behind : (old piece middle rest new : List ℕ) → middle ≡ old ++ piece → new ≡ middle ++ rest → new ≡ old ++ (piece ++ rest)
+behind old piece middle rest new first further = further ∙ ap (λ l. l ++ rest) first ∙ append_assoc old piece rest

@@ -1,8 +1,8 @@
 //! The lines of the commits.
 ghost use Rattle.std.specs.Prelude.{◌≡◌, ◌≤◌, ◌+◌, ◌-◌, ◌++◌, length, codes, OnOk, IfOk};
 ghost use Rattle.std.specs.Fmt.{decimal};
+ghost use Rattle.std.specs.List.{flat_map};
 ghost use Rattle.bf_gen.specs.Streams as streams;
-ghost use Rattle.bf_gen.specs.Streams.{numbered_line};
 ghost use Rattle.bf_gen.specs.Steps as steps;
 
 use crate::numbers::{first_parent, next_state, second_parent};
@@ -12,7 +12,7 @@ use std::alloc::AllocError;
 
 // Adds a line.
 fn put_text(text: &mut Bytes, line: &[u8]) -> Result<(), AllocError>
-    ensures { OnOk result (text.new ≡ text.old ++ streams.line_of line.now) }
+    ensures { OnOk result (text.new ≡ text.old ++ (line.now ++ codes "\n")) }
 {
     text.append(line)?;
     text.push(b'\n')
@@ -20,7 +20,7 @@ fn put_text(text: &mut Bytes, line: &[u8]) -> Result<(), AllocError>
 
 // Adds a line that ends with a number.
 fn put_line(text: &mut Bytes, before: &[u8], number: u64) -> Result<(), AllocError>
-    ensures { OnOk result (text.new ≡ text.old ++ streams.line_of (before.now ++ decimal number)) }
+    ensures { OnOk result (text.new ≡ text.old ++ ((before.now ++ decimal number) ++ codes "\n")) }
 {
     text.append(before)?;
     put_decimal(text, number)?;
@@ -29,7 +29,8 @@ fn put_line(text: &mut Bytes, before: &[u8], number: u64) -> Result<(), AllocErr
 
 // Adds a line with a number in it.
 fn put_between(text: &mut Bytes, before: &[u8], number: u64, after: &[u8]) -> Result<(), AllocError>
-    ensures { OnOk result (text.new ≡ text.old ++ numbered_line before.now number after.now) }
+    ensures { OnOk result
+        (text.new ≡ text.old ++ ((before.now ++ decimal number ++ after.now) ++ codes "\n")) }
 {
     text.append(before)?;
     put_decimal(text, number)?;
@@ -37,69 +38,37 @@ fn put_between(text: &mut Bytes, before: &[u8], number: u64, after: &[u8]) -> Re
     text.push(b'\n')
 }
 
-// Adds the line of the committer.
-#[tactic(auto, unfolding(crate::specs::Streams::committer_text))]
-fn put_committer(text: &mut Bytes, commit: u32) -> Result<(), AllocError>
-    ensures { OnOk result (text.new ≡ text.old ++ streams.committer_text commit) }
-{
-    put_between(text, b"committer gen <gen> ", u64::from(commit), b" +0000")
-}
-
 // The length of the message `c<commit>` with its LF.
 fn message_length(commit: u32) -> u64
-    ensures { result ≡ length (streams.message commit) + 1 }
+    ensures { result ≡ length (codes "c" ++ decimal commit) + 1 }
 {
     Buffer::new().format(commit).len() as u64 + 2
 }
 
-// Adds the line of the second parent.
-fn put_merge(text: &mut Bytes, parent: Option<u32>) -> Result<(), AllocError>
-    ensures { OnOk result (text.new ≡ text.old ++ streams.lines (streams.merge_lines parent)) }
-{
-    match parent {
-        None => Ok(()),
-        Some(parent) => put_line(text, b"merge :", u64::from(parent) + 1),
-    }
-}
-
 // Adds the lines of the parents.
-#[tactic(auto, unfolding(crate::specs::Streams::parent_text))]
 fn put_parents(text: &mut Bytes, state: u32, commit: u32) -> Result<(), AllocError>
-    ensures { OnOk result (text.new ≡ text.old ++ streams.parent_text state commit) }
+    ensures { OnOk result (text.new ≡ text.old
+        ++ flat_map (λ line. line ++ codes "\n") (streams.parent_lines state commit)) }
 {
     if commit == 0 {
         return Ok(());
     }
     put_line(text, b"from :", u64::from(first_parent(state, commit)) + 1)?;
-    put_merge(text, second_parent(state, commit))
-}
-
-// Adds the first lines of a commit.
-#[tactic(auto, unfolding(crate::specs::Streams::start_text))]
-fn put_start(text: &mut Bytes, commit: u32) -> Result<(), AllocError>
-    ensures { OnOk result (text.new ≡ text.old ++ streams.start_text commit) }
-{
-    put_text(text, b"commit refs/heads/main")?;
-    put_line(text, b"mark :", u64::from(commit) + 1)
-}
-
-// Adds the lines of the message.
-#[tactic(auto, unfolding(crate::specs::Streams::data_text))]
-fn put_data(text: &mut Bytes, commit: u32) -> Result<(), AllocError>
-    ensures { OnOk result (text.new ≡ text.old ++ streams.data_text commit) }
-{
-    put_line(text, b"data ", message_length(commit))?;
-    put_line(text, b"c", u64::from(commit))
+    match second_parent(state, commit) {
+        None => Ok(()),
+        Some(parent) => put_line(text, b"merge :", u64::from(parent) + 1),
+    }
 }
 
 // Adds the lines of a commit.
-#[tactic(auto, unfolding(crate::specs::Streams::commit_text))]
 fn put_commit(text: &mut Bytes, state: u32, commit: u32) -> Result<(), AllocError>
     ensures { OnOk result (text.new ≡ text.old ++ streams.commit_text state commit) }
 {
-    put_start(text, commit)?;
-    put_committer(text, commit)?;
-    put_data(text, commit)?;
+    put_text(text, b"commit refs/heads/main")?;
+    put_line(text, b"mark :", u64::from(commit) + 1)?;
+    put_between(text, b"committer gen <gen> ", u64::from(commit), b" +0000")?;
+    put_line(text, b"data ", message_length(commit))?;
+    put_line(text, b"c", u64::from(commit))?;
     put_parents(text, state, commit)
 }
 

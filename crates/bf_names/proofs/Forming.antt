@@ -14,7 +14,7 @@ use Rattle.std.specs.Result.{IsErrAnd}
 use Rattle.bf_names.specs.declared.fault.NameFault.{NameFault}
 use Rattle.bf_names.specs.declared.fault.NameFault.TheVariants.{BadForm}
 use Rattle.bf_names.specs.declared.step.Step.{Step}
-use Rattle.bf_names.specs.Names.{Fails, all_steps, is_sign, step_of, step_texts, steps_written}
+use Rattle.bf_names.specs.Names.{Fails, is_sign, step_of, step_texts, steps_written}
 
 -- ---- the first that passes
 
@@ -125,7 +125,7 @@ resumed-other steps more text i within other same =
     ∙ ap (λ (s : List Step). resumed s (drop (i + 1) text)) (sym same)
 
 pub resumed-end : (steps : List Step) (text : List ℕ) (i : ℕ) → length text ≤ i
-    → steps_written (step_texts text) ≡ resumed steps (drop i text) → all_steps text ≡ Ok steps
+    → steps_written (step_texts text) ≡ resumed steps (drop i text) → ok_or (steps_written (step_texts text)) BadForm ≡ Ok steps
 resumed-end steps text i past so_far =
     ap (λ (o : Option (List Step)). ok_or o BadForm)
     (so_far ∙ ap (resumed steps) (nil_from_length (drop i text) (omega (arith, length-drop i text))) ∙ resumed_all steps)
@@ -143,11 +143,11 @@ pub resumed-none : {X : Type 0} (result : Result X NameFault) (fault : NameFault
     (rest : List ℕ) (o : Option Step) → i < length text → is_sign (get_or text i 0) ≡ true
     → rest ≡ drop (i + 1) text → base ≡ before_first is_sign rest → o ≡ step_of (get_or text i 0 ∷ base)
     → ◌≡◌ {A = Result Step NameFault} (Err fault) (ok_or o BadForm) → IsErrAnd result (λ other. other ≡ fault)
-    → steps_written (step_texts text) ≡ resumed steps (drop i text) → IfErr result (λ f. Fails f (all_steps text))
+    → steps_written (step_texts text) ≡ resumed steps (drop i text) → IfErr result (λ f. Fails f (ok_or (steps_written (step_texts text)) BadForm))
 resumed-none result fault steps text base i rest o within sign is_rest is_base is refused exit so_far =
     let none = none_written o fault refused in
     let p = err_from_is_err_and result exit in
-    told result p.0 fault (all_steps text) p.1 (p.2 ∙ none.1)
+    told result p.0 fault (ok_or (steps_written (step_texts text)) BadForm) p.1 (p.2 ∙ none.1)
     (ap (λ (all : Option (List Step)). ok_or all BadForm)
     (so_far ∙ front steps text i within
     ∙ resumed_bad steps (get_or text i 0) (drop (i + 1) text) sign (base_known text base i rest o is_rest is_base is ∙ none.0)))

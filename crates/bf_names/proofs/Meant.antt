@@ -1,15 +1,16 @@
 -- What is meant by a name or a range is never want of memory.
-use Rattle.std.proofs.Common.{◌≢◌, ℕ, ◌+◌, not, ◌&&◌, take, drop, codes, Bool, true, false, List, [], ◌∷◌, Option, Some, None, Result, Ok, Err, subst, if◌then◌else◌}
-use Rattle.std.specs.Option.{ok_or}
+use Rattle.std.proofs.Common.{◌≢◌, ℕ, ◌+◌, ◌==◌, map, not, ◌&&◌, take, drop, codes, Bool, true, false, List, [], ◌∷◌, Option, Some, None, Result, Ok, Err, subst, if◌then◌else◌}
+use Rattle.std.specs.Option.{ok_or, option_map_or}
 use Rattle.bf_oid.specs.declared.object.Oid.{Oid}
 use Rattle.bf_oid.specs.Object.{oid_of_hex}
 use Rattle.bf_history.specs.Meanings.{History, place_named}
+use Rattle.bf_search.specs.Reach.{places}
 use Rattle.bf_names.specs.declared.fault.NameFault.{NameFault}
 use Rattle.bf_names.specs.declared.fault.NameFault.TheVariants.{Unknown, Ambiguous, NoParent, BadForm, NoMemory}
 use Rattle.bf_names.specs.declared.step.Step.{Step}
-use Rattle.bf_names.specs.Names.{steps_of, all_steps, is_base, base_of, steps_written, step_texts, is_abbreviation, abbreviated, only_one, by_digits}
-use Rattle.bf_names.specs.Names.{by_ref, by_name, first_set, meanings, spelled_out, place_of_base, after_step, after_steps, place_of, name, row_of}
-use Rattle.bf_names.specs.Names.{is_right_side, right_steps, between, range_at, range, first_at}
+use Rattle.bf_names.specs.Names.{steps_of, is_base, base_of, steps_written, step_texts, is_abbreviation, abbreviated, only_one, by_digits}
+use Rattle.bf_names.specs.Names.{by_name, first_set, meanings, spelled_out, place_of_base, after_step, after_steps, place_of, name}
+use Rattle.bf_names.specs.Names.{right_steps, between, range_at, range, first_at}
 use Rattle.bf_grammar.specs.Forms.{◌>>=◌}
 
 abbrev IsMeant : {X : Type 0} → Result X NameFault → Type 0
@@ -37,7 +38,7 @@ meant_or None fault h = h
 
 meant_steps : (text : List ℕ) → IsMeant (steps_of text)
 unfolding steps_of
-meant_steps text = meant_either (is_base (base_of text)) (all_steps text) (Err BadForm) (meant_or (steps_written (step_texts text)) BadForm tt) tt
+meant_steps text = meant_either (is_base (base_of text)) (ok_or (steps_written (step_texts text)) BadForm) (Err BadForm) (meant_or (steps_written (step_texts text)) BadForm tt) tt
 
 meant_only : (places : List ℕ) → IsMeant (only_one places)
 meant_only [] = tt
@@ -49,7 +50,7 @@ meant_digits history base =
     meant_either (not history.original_names && is_abbreviation base) (only_one (abbreviated history.names base)) (Err Unknown)
     (meant_only (abbreviated history.names base)) tt
 
-meant_ref : (history : History) (base : List ℕ) (place : Option ℕ) → IsMeant (by_ref history base place)
+meant_ref : (history : History) (base : List ℕ) (place : Option ℕ) → IsMeant (option_map_or (λ found. Ok found) place (by_digits history base))
 meant_ref history base (Some place) = tt
 meant_ref history base None = meant_digits history base
 
@@ -79,7 +80,7 @@ name_is_meant history text = meant_next (steps_of text) (place_of history text) 
 
 meant_right : (text : List ℕ) → IsMeant (right_steps text)
 unfolding right_steps
-meant_right text = meant_either (is_right_side text) (steps_of text) (Err BadForm) (meant_steps text) tt
+meant_right text = meant_either _ (Err BadForm) (steps_of text) tt (meant_steps text)
 
 meant_between : (history : History) (left right : List ℕ) → IsMeant (between history left right)
 unfolding between
@@ -91,7 +92,7 @@ meant_between history left right =
 
 meant_range : (history : History) (text : List ℕ) (dots : Option ℕ) → IsMeant (range_at history text dots)
 meant_range history text (Some at) = meant_between history (take at text) (drop (at + 2) text)
-meant_range history text None = meant_next (name history text) (λ place. Ok (row_of history.parents place)) (name_is_meant history text) (λ place. tt)
+meant_range history text None = meant_next (name history text) (λ place. Ok (map (λ q. q == place) (places history.parents))) (name_is_meant history text) (λ place. tt)
 
 pub range_is_meant : (history : History) (text : List ℕ) → IsMeant (range history text)
 unfolding range

@@ -3,7 +3,7 @@ use Rattle.std.proofs.Common.{◌≡◌, ℕ, ◌<◌, ◌==◌, Bool, true, fal
 use Rattle.std.proofs.lemmas.List.Elements.{All-head, All-tail}
 use Rattle.std.proofs.lemmas.Result.{err_from_is_err_and}
 use Rattle.std.specs.Cmp.Lexicographic.{pointwise}
-use Rattle.std.specs.Option.{ok_or}
+use Rattle.std.specs.Option.{ok_or, option_map_or, option_or}
 use Rattle.std.specs.Result.{IsErrAnd}
 use Rattle.bf_oid.specs.declared.object.Oid.{Oid}
 use Rattle.bf_oid.specs.Object.{oid_of_hex}
@@ -11,7 +11,7 @@ use Rattle.bf_history.specs.Meanings.{History, place_named, ref_in}
 use Rattle.bf_history.specs.Named.{value_of}
 use Rattle.bf_names.specs.declared.fault.NameFault.{NameFault}
 use Rattle.bf_names.specs.declared.fault.NameFault.TheVariants.{Unknown, Ambiguous, NoParent, BadForm, NoMemory}
-use Rattle.bf_names.specs.Names.{Fails, Means, by_name, by_ref, first_set, meanings, or_else, place_of_base, place_spelled, spelled_out}
+use Rattle.bf_names.specs.Names.{Fails, Means, by_digits, by_name, first_set, meanings, place_of_base, spelled_out}
 use Rattle.bf_grammar.specs.Forms.{◌>>=◌}
 
 -- ---- what is meant, and what a call gives
@@ -53,21 +53,21 @@ pub place_of_base-name : (history : History) (base spelled : List ℕ) (name : O
     → place_of_base history base ≡ ok_or (place_named history.names name) Unknown
 unfolding place_of_base
 place_of_base-name history base spelled name is digits =
-    ap (place_spelled history) (sym is) ∙ ap (λ (o : Option Oid). by_name history spelled o) (sym digits)
+    ap (λ text. by_name history text (oid_of_hex text)) (sym is) ∙ ap (λ (o : Option Oid). by_name history spelled o) (sym digits)
 
 pub place_of_base-ref : (history : History) (base spelled : List ℕ) (place : Option ℕ) → spelled ≡ spelled_out base
     → None ≡ oid_of_hex spelled → place ≡ first_set history.refs (meanings spelled)
-    → place_of_base history base ≡ by_ref history spelled place
+    → place_of_base history base ≡ option_map_or (λ found. Ok found) place (by_digits history spelled)
 unfolding place_of_base
 place_of_base-ref history base spelled place is other set =
-    ap (place_spelled history) (sym is) ∙ ap (λ (o : Option Oid). by_name history spelled o) (sym other) ∙ ap (by_ref history spelled) (sym set)
+    ap (λ text. by_name history text (oid_of_hex text)) (sym is) ∙ ap (λ (o : Option Oid). by_name history spelled o) (sym other) ∙ ap (λ o. option_map_or (λ found. Ok found) o (by_digits history spelled)) (sym set)
 
 -- ---- a ref leads to a commit of the history
 
 abbrev IsWithin : ℕ → Option ℕ → Type 0
 IsWithin len place = IfSome place (λ p. p < len)
 
-either_within : (len : ℕ) (one other : Option ℕ) → IsWithin len one → IsWithin len other → IsWithin len (or_else one other)
+either_within : (len : ℕ) (one other : Option ℕ) → IsWithin len one → IsWithin len other → IsWithin len (option_or one other)
 either_within len (Some p) other h k = h
 either_within len None other h k = k
 

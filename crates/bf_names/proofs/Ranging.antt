@@ -14,7 +14,7 @@ use Rattle.bf_history.specs.Meanings.{History}
 use Rattle.bf_search.specs.Reach.{places, reach_row, reaches}
 use Rattle.bf_names.specs.declared.fault.NameFault.{NameFault}
 use Rattle.bf_names.specs.declared.step.Step.{Step}
-use Rattle.bf_names.specs.Names.{Fails, Means, between, first_at, name, place_of, range, range_at, right_steps, row_between, row_of, steps_of}
+use Rattle.bf_names.specs.Names.{Fails, Means, between, first_at, name, place_of, range, range_at, right_steps, row_between, steps_of}
 use Rattle.bf_names.proofs.Naming.{means_exit, means_then}
 use Rattle.bf_grammar.specs.Forms.{◌>>=◌}
 
@@ -88,7 +88,7 @@ row_found history right after steps graph from to row same found is row_is =
 -- ---- whether a text is a range
 
 abbrev pub alone : History → ℕ → Result (List Bool) NameFault
-alone history place = Ok (row_of history.parents place)
+alone history place = Ok (map (λ q. q == place) (places history.parents))
 
 pub range-dots : (history : History) (text : List ℕ) (at : ℕ) → Some at ≡ first_at (codes "..") text
     → between history (take at text) (drop (at + 2) text) ≡ range history text

@@ -3,7 +3,7 @@ use Rattle.std.specs.Prelude.{◌≡◌, ℕ, zero, suc, ◌+◌, ◌==◌, Bool
 use Rattle.std.specs.Prelude.{map, filter, codes, Option, Some, None, is_some, option_and_then, Result, Ok, Err}
 use Rattle.std.specs.Cmp.Lexicographic.{pointwise}
 use Rattle.std.specs.List.{before_first, list_all, position, range_with_len, slice_get, slice_index_or, starts_with}
-use Rattle.std.specs.Option.{ok_or, option_map}
+use Rattle.std.specs.Option.{ok_or, option_map, option_map_or, option_or}
 use Rattle.std.specs.Char.{eq_ignore_ascii_case, is_ascii_hexdigit}
 use Rattle.hex.specs.Hex.{encode_lower}
 use Rattle.bf_oid.specs.declared.object.Oid.{Oid}
@@ -50,16 +50,13 @@ step_texts (byte ∷ rest) =
 abbrev pub number_of : List ℕ → Option ℕ
 number_of digits = if length digits == 0 then Some 1 else decimal_value digits
 
--- behind a `^`, `{}` and `{commit}` mean the commit itself, as 0 does
-abbrev pub is_itself : List ℕ → Bool
-is_itself text = pointwise ◌==◌ text (codes "{}") || pointwise ◌==◌ text (codes "{commit}")
-
--- the step that a text writes: to an ancestor of this generation, or to the parent of this number
+-- The step that a text writes: to an ancestor of this generation, or to the parent of this number. Behind a `^`, `{}` and
+-- `{commit}` mean the commit itself, as 0 does.
 unfoldable pub step_of : List ℕ → Option Step
 step_of [] = None
 step_of (sign ∷ rest) =
     if sign == 126 then option_map Ancestor (number_of rest)
-    else if is_itself rest then Some (Parent 0)
+    else if pointwise ◌==◌ rest (codes "{}") || pointwise ◌==◌ rest (codes "{commit}") then Some (Parent 0)
     else option_map Parent (number_of rest)
 
 -- the steps of all texts, where each text writes one
@@ -69,19 +66,12 @@ steps_written (text ∷ texts) =
     option_and_then (λ step. option_map (λ steps. step ∷ steps) (steps_written texts)) (step_of text)
 
 -- the steps of a name, where its form is good
-abbrev pub all_steps : List ℕ → Result (List Step) NameFault
-all_steps text = ok_or (steps_written (step_texts text)) BadForm
-
 unfoldable pub steps_of : List ℕ → Result (List Step) NameFault
-steps_of text = if is_base (base_of text) then all_steps text else Err BadForm
+steps_of text = if is_base (base_of text) then ok_or (steps_written (step_texts text)) BadForm else Err BadForm
 
 -- ---- the commit that a base names
 
--- the full name of the head of a remote
-abbrev pub remote_head : List ℕ → List ℕ
-remote_head remote = codes "refs/remotes/" ++ remote ++ codes "/HEAD"
-
--- the refs that a base may mean, in the order in which they are tried
+-- the refs that a base may mean, in the order in which they are tried; the last one is the head of a remote
 abbrev pub meanings : List ℕ → List (List ℕ)
 meanings base =
     base
@@ -89,17 +79,13 @@ meanings base =
     ∷ (codes "refs/tags/" ++ base)
     ∷ (codes "refs/heads/" ++ base)
     ∷ (codes "refs/remotes/" ++ base)
-    ∷ remote_head base
+    ∷ (codes "refs/remotes/" ++ base ++ codes "/HEAD")
     ∷ []
-
-abbrev pub or_else : Option ℕ → Option ℕ → Option ℕ
-or_else (Some place) other = Some place
-or_else None other = other
 
 -- where the first of these refs leads that is set
 abbrev pub first_set : List (List ℕ × ℕ) → List (List ℕ) → Option ℕ
 first_set refs [] = None
-first_set refs (name ∷ names) = or_else (ref_in refs name) (first_set refs names)
+first_set refs (name ∷ names) = option_or (ref_in refs name) (first_set refs names)
 
 -- 4 to 39 hexadecimal digits may abbreviate the name of a commit; nothing abbreviates one from before it was exported
 abbrev pub is_abbreviation : List ℕ → Bool
@@ -124,24 +110,18 @@ abbrev pub by_digits : History → List ℕ → Result ℕ NameFault
 by_digits history base =
     if not history.original_names && is_abbreviation base then only_one (abbreviated history.names base) else Err Unknown
 
-abbrev pub by_ref : History → List ℕ → Option ℕ → Result ℕ NameFault
-by_ref history base (Some place) = Ok place
-by_ref history base None = by_digits history base
-
 -- 40 digits name a commit alone; any other base may name a ref, and else abbreviate the name of a commit
 abbrev pub by_name : History → List ℕ → Option Oid → Result ℕ NameFault
 by_name history base (Some name) = ok_or (place_named history.names name) Unknown
-by_name history base None = by_ref history base (first_set history.refs (meanings base))
+by_name history base None =
+    option_map_or (λ place. Ok place) (first_set history.refs (meanings base)) (by_digits history base)
 
 -- `@` alone means `HEAD`
 abbrev pub spelled_out : List ℕ → List ℕ
 spelled_out base = if pointwise ◌==◌ base (codes "@") then codes "HEAD" else base
 
-abbrev pub place_spelled : History → List ℕ → Result ℕ NameFault
-place_spelled history base = by_name history base (oid_of_hex base)
-
 unfoldable pub place_of_base : History → List ℕ → Result ℕ NameFault
-place_of_base history base = place_spelled history (spelled_out base)
+place_of_base history base = by_name history (spelled_out base) (oid_of_hex (spelled_out base))
 
 -- ---- the steps from there
 
@@ -175,20 +155,13 @@ place_of history text steps =
 unfoldable pub name : History → List ℕ → Result ℕ NameFault
 name history text = steps_of text >>= place_of history text
 
--- by place, whether it is this one
-abbrev pub row_of : List (List ℕ) → ℕ → List Bool
-row_of graph place = map (λ q. q == place) (places graph)
-
 -- by place, whether one place reaches it and another doesn't
 abbrev pub row_between : List (List ℕ) → ℕ → ℕ → List Bool
 row_between graph from to = map (λ q. reaches graph to q && not (reaches graph from q)) (places graph)
 
 -- the right side of a range begins with no dot, and two dots don't stand in it again
-abbrev pub is_right_side : List ℕ → Bool
-is_right_side text = not (starts_with ◌==◌ text (codes ".") || stands_in (codes "..") text)
-
 unfoldable pub right_steps : List ℕ → Result (List Step) NameFault
-right_steps text = if is_right_side text then steps_of text else Err BadForm
+right_steps text = if starts_with ◌==◌ text (codes ".") || stands_in (codes "..") text then Err BadForm else steps_of text
 
 -- A range `A..B` means what B reaches and A doesn't. The form of both sides is tried first, then A is found, then B.
 unfoldable pub between : History → List ℕ → List ℕ → Result (List Bool) NameFault
@@ -201,9 +174,10 @@ between history left right = do
 
 abbrev pub range_at : History → List ℕ → Option ℕ → Result (List Bool) NameFault
 range_at history text (Some at) = between history (take at text) (drop (at + 2) text)
-range_at history text None = name history text >>= λ place. Ok (row_of history.parents place)
+range_at history text None = name history text >>= λ place. Ok (map (λ q. q == place) (places history.parents))
 
--- By place, whether a text means it: where two dots stand in it, as a range at the first two; else as a name.
+-- By place, whether a text means it: where two dots stand in it, as a range at the first two; else as a name, which means
+-- one place alone.
 unfoldable pub range : History → List ℕ → Result (List Bool) NameFault
 range history text = range_at history text (first_at (codes "..") text)
 

@@ -1,8 +1,8 @@
 //! The commit that the base of a name means.
-ghost use Rattle.std.specs.Prelude.{◌≡◌, ◌<◌, ◌++◌, length, All, IfOk, IfSome};
+ghost use Rattle.std.specs.Prelude.{◌≡◌, ◌<◌, ◌++◌, codes, length, All, IfOk, IfSome};
 ghost use Rattle.bf_history.specs.Meanings.{ref_in};
 ghost use Rattle.bf_names.specs.Order.{IsOrderOf};
-ghost use Rattle.bf_names.specs.Names.{Means, first_set, meanings, place_of_base, remote_head, spelled_out};
+ghost use Rattle.bf_names.specs.Names.{Means, first_set, meanings, place_of_base, spelled_out};
 
 use crate::NameFault;
 use crate::digits::place_by_digits;
@@ -82,7 +82,8 @@ fn place_below(
 
 // The place of the head of a remote.
 fn place_of_head(alloc: Global, refs: &Refs, remote: &[u8]) -> Result<Option<u32>, AllocError>
-    ensures { IfOk result (λ place. place ≡ ref_in refs.now (remote_head remote.now)) }
+    ensures { IfOk result (λ place.
+        place ≡ ref_in refs.now (codes "refs/remotes/" ++ remote.now ++ codes "/HEAD")) }
 {
     let mut full = Bytes::from_slice(alloc, b"refs/remotes/")?;
     full.append(remote)?;

@@ -1,8 +1,10 @@
 //! The form of a name: its base, and the steps behind it.
 ghost use Rattle.std.specs.Prelude.{◌≡◌, ◌+◌, ◌≤◌, ◌∷◌, codes, length, drop, IfOk, IfErr, IfSome};
 ghost use Rattle.std.specs.List.{before_first, position, position_or_len};
-ghost use Rattle.bf_names.specs.Names.{Fails, all_steps, first_at, is_base, is_sign};
-ghost use Rattle.bf_names.specs.Names.{number_of, stands_in, step_of, steps_of};
+ghost use Rattle.std.specs.Option.{ok_or};
+ghost use Rattle.bf_names.specs.Names.{Fails, first_at, is_base, is_sign};
+ghost use Rattle.bf_names.specs.Names.{number_of, stands_in, step_of, step_texts, steps_of, steps_written};
+ghost use Rattle.bf_names.specs.declared.fault.NameFault.TheVariants.{BadForm};
 
 use crate::NameFault;
 use crate::step::Step;
@@ -51,8 +53,10 @@ pub(crate) fn steps_of(alloc: Global, text: &[u8]) -> Result<Vec<Step>, NameFaul
 
 // The steps that stand in a text, each of which is to be in its form.
 fn steps_written(alloc: Global, text: &[u8]) -> Result<Vec<Step>, NameFault>
-    ensures ok { IfOk result (λ steps. all_steps text.now ≡ Ok steps.items) }
-    ensures refused { IfErr result (λ fault. Fails fault (all_steps text.now)) }
+    ensures ok { IfOk result
+        (λ steps. ok_or (steps_written (step_texts text.now)) BadForm ≡ Ok steps.items) }
+    ensures refused { IfErr result
+        (λ fault. Fails fault (ok_or (steps_written (step_texts text.now)) BadForm)) }
 {
     let mut steps = Vec::new(alloc);
     for (at, sign) in text.iter().enumerate() {

@@ -1,7 +1,7 @@
 //! Ranges of commits.
 ghost use Rattle.std.specs.Prelude.{◌≡◌, ◌==◌, ◌<◌, length, map, IfOk, IfErr};
 ghost use Rattle.std.specs.List.{range_with_len};
-ghost use Rattle.bf_names.specs.Names.{Fails, Means, between, is_right_side, range, right_steps, row_between};
+ghost use Rattle.bf_names.specs.Names.{Fails, Means, between, range, right_steps, row_between};
 
 use crate::NameFault;
 use crate::form::{find, has, rest_of, steps_of};
@@ -65,16 +65,10 @@ fn right_steps(alloc: Global, right: &[u8]) -> Result<Vec<Step>, NameFault>
     ensures ok { IfOk result (λ steps. right_steps right.now ≡ Ok steps.items) }
     ensures refused { IfErr result (λ fault. Fails fault (right_steps right.now)) }
 {
-    if !is_right_side(right) {
+    if right.starts_with(b".") || has(right, b"..") {
         return Err(NameFault::BadForm);
     }
     steps_of(alloc, right)
-}
-
-fn is_right_side(text: &[u8]) -> bool
-    ensures { result ≡ is_right_side text.now }
-{
-    !(text.starts_with(b".") || has(text, b".."))
 }
 
 // The places that one reaches and another doesn't.

@@ -1,10 +1,11 @@
 -- The places that names mean are those of the history, and a range has a row of its length.
-use Rattle.std.proofs.Common.{◌≡◌, ℕ, zero, suc, ◌<◌, ◌==◌, not, ◌&&◌, Bool, true, false, cond, List, [], ◌∷◌, length, take, drop, codes, Option, Some, None}
+use Rattle.std.proofs.Common.{◌≡◌, ℕ, zero, suc, ◌<◌, ◌==◌, not, ◌&&◌, ◌||◌, map, Bool, true, false, cond, List, [], ◌∷◌, length, take, drop, codes, Option, Some, None}
 use Rattle.std.proofs.Common.{IfSome, Result, Ok, Err, IfOk, ◌+◌, refl, subst, sym, arith}
 use Rattle.std.proofs.lemmas.List.Elements.{All-filter, All-head, All-tail}
 use Rattle.std.proofs.lemmas.List.FromFn.{length-map-range_with_len}
 use Rattle.std.specs.List.{All, range_with_len, slice_get}
-use Rattle.std.specs.Option.{ok_or, option_and_then, option_map}
+use Rattle.std.specs.Cmp.Lexicographic.{pointwise}
+use Rattle.std.specs.Option.{ok_or, option_and_then, option_map, option_map_or, option_or}
 use Rattle.bf_forest.specs.Files.{is_same}
 use Rattle.bf_oid.specs.declared.object.Oid.{Oid}
 use Rattle.bf_oid.specs.Object.{oid_of_hex}
@@ -12,10 +13,10 @@ use Rattle.bf_graph.specs.Graph.{IsGraph, parents_of}
 use Rattle.bf_history.specs.Meanings.{History, place_named, ref_in}
 use Rattle.bf_names.specs.declared.fault.NameFault.{NameFault}
 use Rattle.bf_names.specs.declared.fault.NameFault.TheVariants.{Unknown, NoParent, BadForm}
-use Rattle.bf_names.specs.Names.{is_itself, is_base, number_of, step_of, steps_written, step_texts, all_steps, steps_of, right_steps, or_else, first_set}
-use Rattle.bf_names.specs.Names.{meanings, is_abbreviation, abbreviated, only_one, by_digits, by_ref, by_name, spelled_out, place_of_base, ancestor, parent}
-use Rattle.bf_names.specs.Names.{after_step, after_steps, place_of, name, row_of, between, first_at, range_at, range, base_of}
-use Rattle.bf_search.specs.Reach.{reaches}
+use Rattle.bf_names.specs.Names.{is_base, number_of, step_of, steps_written, step_texts, steps_of, right_steps, first_set}
+use Rattle.bf_names.specs.Names.{meanings, is_abbreviation, abbreviated, only_one, by_digits, by_name, spelled_out, place_of_base, ancestor, parent}
+use Rattle.bf_names.specs.Names.{after_step, after_steps, place_of, name, between, first_at, range_at, range, base_of}
+use Rattle.bf_search.specs.Reach.{places, reaches}
 use Rattle.bf_search.proofs.Turns.{range_within}
 use Rattle.bf_output.proofs.Loading.{IsWhole, value_is, named_below}
 use Rattle.bf_grammar.specs.Forms.{◌>>=◌}
@@ -86,7 +87,7 @@ module _ (graph : List (List ℕ)) (g : IsGraph graph) where
   step_leads (sign ∷ rest) =
       either_some (Leads (after_step graph)) (sign == 126) _ _
       (mapped_some (Leads (after_step graph)) _ (number_of rest) ancestor_below)
-      (either_some (Leads (after_step graph)) (is_itself rest) _ _ (parent_leads 0)
+      (either_some (Leads (after_step graph)) (pointwise ◌==◌ rest (codes "{}") || pointwise ◌==◌ rest (codes "{commit}")) _ _ (parent_leads 0)
       (mapped_some (Leads (after_step graph)) _ (number_of rest) parent_leads))
 
   both_lead : {S : Type 0} (after : S → ℕ → Option ℕ) (all : List S → ℕ → Result ℕ NameFault) (o : Option S) (os : Option (List S))
@@ -109,12 +110,12 @@ module _ (graph : List (List ℕ)) (g : IsGraph graph) where
   pub written_lead : (text : List ℕ) → IfOk (steps_of text) (AllLead (after_steps graph))
   unfolding steps_of
   written_lead text =
-      cond_ok (AllLead (after_steps graph)) (is_base (base_of text)) (all_steps text) (Err BadForm)
+      cond_ok (AllLead (after_steps graph)) (is_base (base_of text)) (ok_or (steps_written (step_texts text)) BadForm) (Err BadForm)
       (some_ok (AllLead (after_steps graph)) (steps_written (step_texts text)) BadForm (steps_lead (step_texts text))) tt
 
 -- ---- the base of a name
 
-either_below : (n : ℕ) (one other : Option ℕ) → IfSome one (λ p. p < n) → IfSome other (λ p. p < n) → IfSome (or_else one other) (λ p. p < n)
+either_below : (n : ℕ) (one other : Option ℕ) → IfSome one (λ p. p < n) → IfSome other (λ p. p < n) → IfSome (option_or one other) (λ p. p < n)
 either_below n (Some p) other h k = h
 either_below n None other h k = k
 
@@ -144,7 +145,7 @@ module _ (history : History) (w : IsWhole history) where
       cond_ok IsPlace (not history.original_names && is_abbreviation base) (only_one (abbreviated history.names base)) (Err Unknown)
       (only_below (length history.parents) (abbreviated history.names base) (abbreviated_below base)) tt
 
-  ref_below : (base : List ℕ) (o : Option ℕ) → IfSome o IsPlace → IfOk (by_ref history base o) IsPlace
+  ref_below : (base : List ℕ) (o : Option ℕ) → IfSome o IsPlace → IfOk (option_map_or (λ place. Ok place) o (by_digits history base)) IsPlace
   ref_below base (Some p) h = h
   ref_below base None h = digits_below base
 
@@ -182,7 +183,7 @@ module _ (history : History) (w : IsWhole history) where
   at_row : (text : List ℕ) (dots : Option ℕ) → IfOk (range_at history text dots) IsRow
   at_row text (Some at) = between_row (take at text) (drop (at + 2) text)
   at_row text None =
-      any_ok IsRow (name history text) (λ place. Ok (row_of history.parents place))
+      any_ok IsRow (name history text) (λ place. Ok (map (λ q. q == place) (places history.parents)))
       (λ place. length-map-range_with_len (λ q. q == place) 0 (length history.parents))
 
   -- what a range means is told of each commit of the history

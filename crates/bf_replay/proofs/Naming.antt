@@ -11,8 +11,8 @@ use Rattle.bf_oid.specs.declared.object.Oid.{Oid}
 use Rattle.bf_oid.specs.Object.{oid_of_hex}
 use Rattle.bf_history.specs.Meanings.{History, place_named}
 use Rattle.bf_names.specs.declared.fault.NameFault.TheVariants.{Unknown, BadForm}
-use Rattle.bf_names.specs.Names.{stands_in, is_sign, base_of, is_base, step_texts, steps_written, all_steps, steps_of, spelled_out, by_name}
-use Rattle.bf_names.specs.Names.{place_spelled, place_of_base, place_of, after_steps, name}
+use Rattle.bf_names.specs.Names.{stands_in, is_sign, base_of, is_base, step_texts, steps_written, steps_of, spelled_out, by_name}
+use Rattle.bf_names.specs.Names.{place_of_base, place_of, after_steps, name}
 use Rattle.bf_tables.proofs.Positions.{position_more}
 use Rattle.bf_oid.proofs.Texts.{oid_of_hex-encode_lower}
 use Rattle.bf_replay.specs.Kept.{IsWholeName}
@@ -142,8 +142,8 @@ whole_is_base text h some =
 no_steps_of : (text : List ℕ) → list_all is_digit text ≡ true → (length text == 0) ≡ false → steps_of text ≡ Ok []
 unfolding steps_of steps_written
 no_steps_of text h some =
-    ap (λ base. cond (is_base base) (all_steps text) (Err BadForm)) (whole_base text h)
-    ∙ cond-true (is_base text) (all_steps text) (Err BadForm) (whole_is_base text h some)
+    ap (λ base. cond (is_base base) (ok_or (steps_written (step_texts text)) BadForm) (Err BadForm)) (whole_base text h)
+    ∙ cond-true (is_base text) (ok_or (steps_written (step_texts text)) BadForm) (Err BadForm) (whole_is_base text h some)
     ∙ ap (λ texts. ok_or (steps_written texts) BadForm) (no_steps text h)
 
 and_right : (a : Bool) → (a && false) ≡ false
@@ -165,7 +165,7 @@ some_digits bytes long =
 place_of_digits : (history : History) (text : List ℕ) (oid : Oid) → spelled_out text ≡ text → oid_of_hex text ≡ Some oid
     → place_of_base history text ≡ ok_or (place_named history.names oid) Unknown
 unfolding place_of_base
-place_of_digits history text oid is digits = ap (place_spelled history) is ∙ ap (λ (o : Option Oid). by_name history text o) digits
+place_of_digits history text oid is digits = ap (λ spelled. by_name history spelled (oid_of_hex spelled)) is ∙ ap (λ (o : Option Oid). by_name history text o) digits
 
 -- the digits of a whole name mean the commit that it leads to
 pub digits_mean : (history : History) (oid : Oid) (p : ℕ) → IsWholeName oid → place_named history.names oid ≡ Some p

@@ -161,7 +161,7 @@ fn count_in(verb: Verb, plains: &[u32], words: &[Word]) -> u32
 }
 
 // What a line asks for.
-#[tactic(auto, unfolding(crate::specs::Words::request_of, crate::specs::Words::skips_of))]
+#[tactic(auto, unfolding(crate::specs::Words::request_of))]
 fn request_of(alloc: Global, read: Line<'_>, terms: Option<Terms>) -> Result<Request, AllocError>
     requires size { length read.roles.now ≤ 1000000 }
     requires plains { read.plains.now ≡ line.plains_of read.roles.now }
