@@ -3,7 +3,7 @@ use Rattle.std.proofs.Common.{◌≡◌, ◌⊎◌, inl, inr, ℕ, ◌≤◌, Li
 use Rattle.std.proofs.lemmas.List.{append-nil}
 use Rattle.bf_answers.specs.declared.answer.Answer.{Answer}
 use Rattle.bf_answers.specs.Devices.{TesterMet}
-use Rattle.bf_commands.specs.Journal.{DiskMet, HasDiskFailed, IsLogFront, MayBePut}
+use Rattle.bf_commands.specs.Journal.{DiskMet, IsLogFront, MayBePut}
 use Rattle.bf_farm.proofs.Asked.{rose_since}
 use Rattle.bf_farm.specs.Reports.{TableIn}
 use Rattle.bf_history.specs.Meanings.{History}
@@ -108,7 +108,7 @@ module _ (images : List (Option Outcome) → Type 0) (disk : DiskMet) (search : 
       → IsRunning request tester.before search.history.now first written running → (written ≡ []) ⊎ (running.telling.text ≡ []) → Appends before after written
       → (IsKnown search.history.now.names tester.after.plan tester.after.answers running.standing.table
       → Leaves (MayBePut search.history.now.names tester.after.answers) → images running.standing.table)
-      → (cut ≡ Journal → HasDiskFailed disk)
+      → (cut ≡ Journal → Rose disk.faults disk.faults_now)
       → IsLedKept Leaves search request tester remembered opened first written new running.standing.table (Err cut)
       → IsEndedKept images disk request tester.after search.history.now first before after (Err cut)
   cut_in_leg Leaves tester remembered opened new after Journal is begun gained kept failed led =

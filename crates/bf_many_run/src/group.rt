@@ -185,7 +185,7 @@ pub(crate) fn search_all<R: Host>(
     requires workers { IsCount workers }
     requires few { length lines.now ≤ 64 }
     requires asked { All IsAskedBy lines.now }
-    ensures told { IfOk result (Says (many.all_searched history.now (map words_in lines.now))) }
+    ensures told { IfOk result (Says (many.told_of_all (map (many.searched history.now) (map words_in lines.now)))) }
     ensures whole { IfOk result IsWholeAnswer }
     ensures memory { (IsErrOf result Fault.Read → ⊥) × (IsErrOf result Fault.Shelf → ⊥) }
 {
