@@ -72,7 +72,8 @@ by_log history first run told end e is other = is
 
 -- its log is told as ever
 log_certified : (request : Request) (tested : TesterShown) (history : History) (first : Begun) (told : Told) → request.trace ≡ false
-    → told.status ≢ status.Done → IsTestedRun request tested history first told → IsTestedAs (λ legs. IsRunCertified history first) request tested history first told
+    → told.status ≢ status.Done → IsTestedRun request tested history first told
+    → IsTestedAs (λ legs. IsRunCertified history first) request tested history first told
 log_certified request tested history first told plain other is =
     let run = run_on history first is.table in
     record {
@@ -232,8 +233,8 @@ closed history first run told (Open p) e is h =
 closed history first run told (Aborted p outcome) e is h = refl
 
 planned_certified : (request : Request) (words : List (List ℕ)) (tested : TesterShown) (history : History) (first : Begun) (told : Told)
-    → tested.plan ≡ Some (plan_of request words) → IsTestedAs (λ legs. IsRunCertified history first) request tested history first told → is_test_fault told.status ≡ false
-    → IsRunCertified history first (run_over history first (plan_of request words)) told
+    → tested.plan ≡ Some (plan_of request words) → IsTestedAs (λ legs. IsRunCertified history first) request tested history first told
+    → is_test_fault told.status ≡ false → IsRunCertified history first (run_over history first (plan_of request words)) told
 planned_certified request words tested history first told plan is h =
     let run = run_on history first is.table in
     let front : IsFrontOf run (run_over history first (plan_of request words)) =

@@ -279,9 +279,11 @@ module _ (disk : DiskMet) (request : Request) (words : List (List ℕ)) (tester 
       → IsUntested tester → IsWritten before after (codes "journal of another run\n") (status.JournalRefused kept) result
       → IsConcluded (IsCausedTold true tester (IsJournalled disk request words tester.after history first)) before after result
   of_another kept opened alone untested written =
-      inl (record { status = status.JournalRefused kept; text = codes "journal of another run\n" }, ((Other kept, opened, (refl, alone)), (λ place e. cc e, λ refused. untested)), (λ e. cc e), written)
+      let told : Told = record { status = status.JournalRefused kept; text = codes "journal of another run\n" } in
+      inl (told, ((Other kept, opened, (refl, alone)), (λ place e. cc e, λ refused. untested)), (λ e. cc e), written)
 
-  pub of_failed : Rose disk.faults disk.faults_now → tester.after.answers ≡ [] → IfSome disk.before (IsOpenedAt disk (identity_of history request words) (length history.names))
+  pub of_failed : Rose disk.faults disk.faults_now → tester.after.answers ≡ []
+      → IfSome disk.before (IsOpenedAt disk (identity_of history request words) (length history.names))
       → IsWritten before after (codes "journal fault\n") status.JournalFault result
       → IsConcluded (IsCausedTold true tester (IsJournalled disk request words tester.after history first)) before after result
   of_failed failed none opened written =
