@@ -28,6 +28,9 @@ asked_by words = request_of Checkout words
 abbrev pub checking_out : Result Request ℕ → Met → Command
 checking_out asked met = asking asked (IsCheckoutFor asked (given_in met) met.source.left)
 
+abbrev pub to_checkout : Met → Command
+to_checkout met = checking_out (asked_by met.words) met
+
 -- the answer of a line over the stream, or the search that is to be tested
 abbrev pub TellsCheckout : Line → Option (List ShelfFile) → Option (List ℕ) → Ready → Type 0
 TellsCheckout line files left ready =

@@ -8,7 +8,7 @@ ghost use Rattle.bf_answers.specs.Devices.{IsLeftUnless, met, met_shelf, met_sin
 ghost use Rattle.bf_answers.specs.Steps.{HasPlan};
 ghost use Rattle.bf_checkout.specs.Checkouts.{grounds_of};
 ghost use Rattle.bf_checkout.specs.Shops.{AreTestedIn};
-ghost use Rattle.bf_checkout_run.specs.CheckingOut.{HasGroundsOf, asked_by, checking_out};
+ghost use Rattle.bf_checkout_run.specs.CheckingOut.{HasGroundsOf, asked_by, checking_out, to_checkout};
 ghost use Rattle.bf_searches.specs.Lines.{HasTestCauseIn, IsUsedIn};
 ghost use Rattle.bf_words.specs.declared.verb.Verb.TheVariants as Verb;
 
@@ -46,11 +46,11 @@ pub fn checkout<R: Host, S: Source, F: Shelf, U: FolderTester<D>, D: Folder, K: 
     ensures answers { let met = met words.now (met_source S.Source stream.old stream.new)
         (met_shelf F.Shelf shelf.old shelf.new) (met_tester ⟦<Workshop<U, D> as Tester>⟧ shop.old shop.new)
         (met_sink K.Sink out.old out.new) in
-        Answers (checking_out (asked_by words.now) met) met result }
+        Answers (to_checkout met) met result }
     ensures complete { let met = met words.now (met_source S.Source stream.old stream.new)
         (met_shelf F.Shelf shelf.old shelf.new) (met_tester ⟦<Workshop<U, D> as Tester>⟧ shop.old shop.new)
         (met_sink K.Sink out.old out.new) in
-        IsComplete (checking_out (asked_by words.now) met) met result }
+        IsComplete (to_checkout met) met result }
     // A fault of a device is answered only where its count of faults rose.
     ensures read { result ≡ Status.ReadFault → Rose (S.faults stream.old) (S.faults stream.new) }
     ensures file { result ≡ Status.ShelfFault → Rose (F.faults shelf.old) (F.faults shelf.new) }

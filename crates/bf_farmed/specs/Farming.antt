@@ -13,7 +13,7 @@ use Rattle.bf_answers.specs.Devices.{Met, TesterMet}
 use Rattle.bf_program.specs.Answers.{asked_in}
 use Rattle.bf_certify.specs.Checking.{checks_file, to_check}
 use Rattle.bf_certify.specs.Certifying.{to_certify}
-use Rattle.bf_checkout_run.specs.CheckingOut.{asked_by, checking_out}
+use Rattle.bf_checkout_run.specs.CheckingOut.{asked_by, to_checkout}
 use Rattle.bf_journal_run.specs.Held.{IsHeldBy}
 use Rattle.bf_journal_run.specs.Journalling.{IsRecalledBy, to_journal}
 use Rattle.bf_many_run.specs.Command.{loads_list, to_many}
@@ -104,8 +104,7 @@ abbrev pub IsDone : Option Order → FarmMet → Status → Type 0
 IsDone None farm result = IsCarriedOut (asked_in farm.met) farm.met result × IsTesterUsed (request farm.met.words) farm
 IsDone (Some Certify) farm result = IsCarriedOut (to_certify farm.met) farm.met result × IsTesterUsed (request_to_certify farm.met.words) farm
 IsDone (Some Check) farm result = IsCarriedOut (to_check farm.met) farm.met result × AreUnused farm
-IsDone (Some Checkout) farm result =
-    IsCarriedOut (checking_out (asked_by farm.met.words) (in_folders farm)) (in_folders farm) result × IsShopUsed (asked_by farm.met.words) farm
+IsDone (Some Checkout) farm result = IsCarriedOut (to_checkout (in_folders farm)) (in_folders farm) result × IsShopUsed (asked_by farm.met.words) farm
 IsDone (Some Journal) farm result = IsCarriedOut (to_journal farm.met farm.disk) farm.met result × IsRecallUsed (request_to_journal farm.met.words) farm
 IsDone (Some Many) farm result = IsCarriedOut (to_many farm.met) farm.met result × AreUnused farm
 IsDone (Some Serve) farm result = IsServed farm.met result × AreUnused farm
