@@ -23,7 +23,7 @@ use Rattle.bf_output.specs.declared.status.Status.TheVariants as status
 use Rattle.bf_output.specs.Beginning.{Begun, log_on}
 use Rattle.bf_output.specs.Output.{Given, IsSearchTold}
 use Rattle.bf_output.specs.Shown.{TesterShown, command_of}
-use Rattle.bf_output.specs.Tested.{AreFirstUsed, IsFrontIfTold, IsTestedRun, IsTestCut, IsTestLost, run_on}
+use Rattle.bf_output.specs.Tested.{AreFirstUsed, IsFrontIfTold, IsTestedRun, IsTestCut, run_on}
 use Rattle.bf_output.specs.Told.{Told}
 use Rattle.bf_commands.specs.declared.order.Order.TheVariants as order
 use Rattle.bf_commands.specs.Orders.{request_of}
@@ -140,8 +140,8 @@ pub record IsJournalCut (disk : DiskMet) (request : Request) (tested : TesterSho
 abbrev pub IsRunKept : DiskMet → Oid → List (Option Outcome) → Request → TesterShown → History → Begun → Told → Type 0
 IsRunKept disk identity found request tested history first told =
     ((is : IsTestedRun request tested history first told) × AreImagesOf disk identity history.names tested found is.table)
-    ⊎ (((is : IsTestCut request tested history first told) × AreImagesOf disk identity history.names tested found is.table)
-    ⊎ (((is : IsTestLost tested history first told) × AreImagesOf disk identity history.names tested found is.table)
+    ⊎ (((is : IsTestCut status.WriteFault request tested history first told) × AreImagesOf disk identity history.names tested found is.table)
+    ⊎ (((is : IsTestCut status.NoMemory request tested history first told) × AreImagesOf disk identity history.names tested found is.table)
     ⊎ ((table : List (Option Outcome)) × IsJournalCut disk request tested history first table told
     × AreImagesOf disk identity history.names tested found table)))
 

@@ -26,7 +26,7 @@ stand_of standing = record { search = standing.state.search; table = standing.ta
 
 -- no outcome of the commits of a graph is known
 abbrev pub KnowsNothing : List (List ℕ) → Standing → Type 0
-KnowsNothing graph standing = standing.table ≡ nothing_known graph
+KnowsNothing graph standing = standing.table ≡ replicate (length graph) None
 
 -- a leg of a search may begin from a session and a table, whose outcomes the tester answered
 abbrev pub CanBegin : {T : Type 0} → Ghosts T → T → Searched → Session → List (Option Outcome) → Type 0
