@@ -1,9 +1,9 @@
 -- What the code searches, as the definition of legs has it.
-use Rattle.std.specs.Prelude.{◌≡◌, ◌<◌, ℕ, List, Option}
+use Rattle.std.specs.Prelude.{◌≡◌, ◌<◌, ℕ, List, length, replicate, Option, None}
 use Rattle.bf_farm.specs.declared.report.Report.{Report}
 use Rattle.bf_runs.specs.declared.case.Search.{Search as Searched}
 use Rattle.bf_runs.specs.declared.legs.Standing.{Standing}
-use Rattle.bf_runs.specs.Legs.{Course, Stand, nothing_known, IsReady, IsLegRun, LeadsOn}
+use Rattle.bf_runs.specs.Legs.{Course, Stand, IsReady, IsLegRun, LeadsOn}
 use Rattle.bf_search.specs.declared.farm.Ending.TheVariants as ending
 use Rattle.bf_search.specs.declared.outcomes.Outcome.{Outcome}
 use Rattle.bf_search.specs.LeftToAsk.{left_to_ask}
