@@ -115,7 +115,8 @@ log_ends history file =
     next_ends (file_or_refusal file >>= λ bytes. result_map_both (λ (lines : List LogLine). lines) log_refused (read_log bytes)
     >>= λ lines. replayed_or_refusal (replay_in history lines)) _
     (next_ends (file_or_refusal file) _ (file_ends file)
-    (λ bytes. next_ends (result_map_both (λ (lines : List LogLine). lines) log_refused (read_log bytes)) _ (lines_end (read_log bytes)) (λ lines. replayed_ends (replay_in history lines))))
+    (λ bytes. next_ends (result_map_both (λ (lines : List LogLine). lines) log_refused (read_log bytes)) _ (lines_end (read_log bytes))
+    (λ lines. replayed_ends (replay_in history lines))))
     (λ replayed. tt)
 
 first_ends : (request : Request) (words : List (List ℕ)) (file : FileGiven) (history : History) → NeverEnds (begun_by request words file history)

@@ -229,7 +229,8 @@ module _ (words : List (List ℕ)) (files : List ShelfFile) (tested : TesterShow
   some_loaded request (Ok history) untraced = some_log request.replay request history untraced
   some_loaded request (Err fault) untraced = (refusal fault, refl)
 
-  some_over_bytes : (request : Request) (bytes : List ℕ) → request.trace ≡ false → (told : Told) × IsReadUnder standard_limits (IsOver request some_given) bytes told
+  some_over_bytes : (request : Request) (bytes : List ℕ) → request.trace ≡ false
+      → (told : Told) × IsReadUnder standard_limits (IsOver request some_given) bytes told
   some_over_bytes request bytes untraced =
       let found = some_loading bytes standard_limits in
       let answer = some_loaded request found.0 untraced in

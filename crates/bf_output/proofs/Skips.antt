@@ -28,7 +28,10 @@ one_known known (w ∷ warned) p more = one_known known warned p more
 
 one_told : (graph : List (List ℕ)) (told : LogState) (p : ℕ)
     → retold graph told (warnings (ask graph told.search).step.warned ++ Marked Skip p ∷ [])
-    ≡ record { search = mark (ask graph told.search).search Skip p; entries = told.entries ++ (warnings (ask graph told.search).step.warned ++ Marked Skip p ∷ []) }
+    ≡ record {
+      search = mark (ask graph told.search).search Skip p;
+      entries = told.entries ++ (warnings (ask graph told.search).step.warned ++ Marked Skip p ∷ []);
+    }
 unfolding retold
 one_told graph told p = retold_mark graph told (ask graph told.search).step.warned Skip p []
 
