@@ -1,5 +1,5 @@
 -- The command `sample`: a search over the stream that a number gives, told in a few lines.
-use Rattle.std.specs.Prelude.{ℕ, ◌==◌, ◌-◌, ◌/◌, Bool, true, false, if◌then◌else◌, List, [], ◌∷◌, ◌++◌, codes, count_by, length, replicate, Option, Some, None}
+use Rattle.std.specs.Prelude.{ℕ, ◌==◌, ◌-◌, ◌/◌, Bool, true, false, if◌then◌else◌, List, [], ◌∷◌, ◌++◌, codes, count_by, length, replicate, Some, None}
 use Rattle.std.specs.Fmt.{decimal}
 use Rattle.bf_history.specs.Meanings.{History}
 use Rattle.bf_search.specs.declared.entries.Entry.{Entry}

@@ -1,5 +1,5 @@
 -- The command `simulate`: a search over a plan that is written as letters.
-use Rattle.std.specs.Prelude.{◌≡◌, ◌⊎◌, ℕ, ◌≤◌, Bool, true, false, if◌then◌else◌, List, Option, Some, [], ◌++◌, map, unwrap_or}
+use Rattle.std.specs.Prelude.{◌≡◌, ◌⊎◌, ℕ, ◌≤◌, Bool, true, false, List, Option, Some, [], ◌++◌, map, unwrap_or}
 use Rattle.bf_farm.specs.Reports.{TableFollows}
 use Rattle.bf_history.specs.Meanings.{History}
 use Rattle.bf_search.specs.declared.asks.Ask.{Ask}
