@@ -11,7 +11,7 @@ use Rattle.bf_output.specs.Shown.{TesterShown}
 use Rattle.bf_output.specs.Told.{Told}
 use Rattle.bf_words.specs.declared.request.Request.{Request}
 use Rattle.bf_answers.specs.declared.answer.Answer.{Answer}
-use Rattle.bf_answers.specs.Devices.{Met, TesterMet, HasFailed, HasNotFailed, test_faults}
+use Rattle.bf_answers.specs.Devices.{Met, TesterMet, HasFailed, HasNotFailed}
 
 -- what a command may tell where nothing cuts it short, and which devices it asks for
 pub record Command : Type 1 where
@@ -93,25 +93,18 @@ abbrev pub IsAnswered : Command → Met → Status → Type 0
 IsAnswered command met status =
     (text : List ℕ) × OutputOf command status text × Appends met.sink.before met.sink.after text
 
--- the source could not be read, and the sink gained the line that says so
-abbrev pub IsReadFault : Command → Met → Type 0
-IsReadFault command met = IsUnread command met × Appends met.sink.before met.sink.after read_fault.text
-
--- the file could not be loaded, and the sink gained the line that says so
-abbrev pub IsShelfFault : Command → Met → Type 0
-IsShelfFault command met = IsUnloaded command met × Appends met.sink.before met.sink.after file_fault.text
-
 -- the call was cut short, and the sink gained a front of the text that was due
 abbrev pub IsCutShort : Command → Met → Status → Type 0
 IsCutShort command met result =
     (text : List ℕ) × IsDue command met result text × AppendsFront met.sink.before met.sink.after text
 
--- what the sink gained, by the status: each that no fault of a device gives is told by the command
+-- What the sink gained, by the status. Where the source could not be read, or a file not be loaded, it is the line that says so. Each
+-- status that no fault of a device gives is told by the command.
 abbrev pub Answers : Command → Met → Status → Type 0
-Answers command met status.ReadFault = IsReadFault command met
+Answers command met status.ReadFault = IsUnread command met × Appends met.sink.before met.sink.after read_fault.text
 Answers command met status.WriteFault = IsCutShort command met status.WriteFault
 Answers command met status.NoMemory = Keeps met.sink.before met.sink.after ⊎ IsCutShort command met status.NoMemory
-Answers command met status.ShelfFault = IsShelfFault command met
+Answers command met status.ShelfFault = IsUnloaded command met × Appends met.sink.before met.sink.after file_fault.text
 Answers command met other = IsAnswered command met other
 
 -- where no device failed, and no test, the sink gained what the command tells with this status; or memory ran out
@@ -119,7 +112,7 @@ abbrev pub IsComplete : Command → Met → Status → Type 0
 IsComplete command met result =
     HasNotFailed met.source.faults
     → HasNotFailed met.shelf.faults
-    → HasNotFailed (test_faults met.tester)
+    → (Rose met.tester.before.faults met.tester.after.faults → ⊥)
     → HasNotFailed met.sink.faults
     → (result ≡ status.NoMemory) ⊎ IsAnswered command met result
 

@@ -1,9 +1,12 @@
 //! How a search begins.
-ghost use Rattle.std.specs.Prelude.{◌≡◌, ◌<◌, [], ◌∷◌, length, is_some, All, IfOk};
+ghost use Rattle.std.specs.Prelude.{◌≡◌, ◌<◌, [], ◌∷◌, length, is_some, unwrap_or, All, IfOk, Ok};
 ghost use Rattle.std.specs.Option.{ForSome};
 ghost use Rattle.bf_state.specs.Ends.{HasEnds};
 ghost use Rattle.bf_output.specs.Beginning as beginning;
 ghost use Rattle.bf_output.specs.Beginning.{begun_by_words};
+ghost use Rattle.bf_output.specs.Logs.{replayed_log};
+ghost use Rattle.bf_grammar.specs.Forms.{◌>>=◌};
+ghost use Rattle.bf_terms.specs.Texts.{standard_sides};
 ghost use Rattle.bf_search.specs.declared.entries.Entry.TheVariants.{Start};
 ghost use Rattle.bf_begin.specs.Files.{given_of};
 ghost use Rattle.bf_begin.specs.Lines.{begun_by_line, begun_with_line};
@@ -27,7 +30,7 @@ use std::alloc::{AllocError, Global};
 
 /// The terms that words give, or else those of git.
 fn terms_or_standard(alloc: Global, request: &Request) -> Result<Terms, AllocError>
-    ensures { let sides = beginning.sides_or_standard request.now.terms in
+    ensures { let sides = unwrap_or request.now.terms standard_sides in
         IfOk result (λ terms. terms ≡ sides) }
 {
     match &request.terms {
@@ -99,7 +102,6 @@ fn begin_by_words(
 }
 
 /// The search that the file of a log leads to. The log stands already, so no entry is left to write.
-#[tactic(auto, unfolding(bf_output::specs::Beginning::begun_by_log))]
 fn begin_by_log(
     alloc: Global,
     history: &History,
@@ -107,7 +109,8 @@ fn begin_by_log(
     file: &LogFile,
 ) -> Result<Beginning, Stop>
     requires { reach.now ≡ history.now.parents }
-    ensures step { IsStep begun_of result (beginning.begun_by_log history.now (given_of file.now)) }
+    ensures step { IsStep begun_of result (replayed_log history.now (given_of file.now)
+        >>= λ replayed. Ok (beginning.begun_behind replayed)) }
     ensures len { IfOk result (λ first. first.state.len ≡ length history.now.parents) }
     ensures places { IfOk result AreWithin }
 {

@@ -1,11 +1,12 @@
 //! Files of the shelf that words name, and the logs in them.
 ghost use Rattle.std.specs.Prelude.{◌≡◌, ◌≤◌, length, is_some, IsTrue, IfOk, IsErrOf};
 ghost use Rattle.std.specs.Option.{option_map};
+ghost use Rattle.std.specs.Result.{result_map_both};
 ghost use Rattle.bf_io.specs.Causes.{FailsOnlyAt};
 ghost use Rattle.bf_output.specs.Logs as logs;
-ghost use Rattle.bf_output.specs.Logs.{replayed_by};
+ghost use Rattle.bf_output.specs.Refusals.{log_refused};
 ghost use Rattle.bf_reading.specs.Reading as reading;
-ghost use Rattle.bf_replay.specs.Meaning.{replayed_of, AreWithin as AreEntriesWithin, HasLength};
+ghost use Rattle.bf_replay.specs.Meaning.{replay_in, replayed_of, AreWithin as AreEntriesWithin, HasLength};
 ghost use Rattle.bf_answers.specs.Devices.{IsLeftUnless};
 ghost use Rattle.bf_begin.specs.Files.{file_given, given_of, IsFileAt, IsFileOf};
 ghost use Rattle.bf_answers.specs.Steps.{IsStep};
@@ -120,7 +121,8 @@ fn text_of(alloc: Global, file: &LogFile) -> Result<&[u8], Stop>
 /// The command lines of a text, or its refusal.
 fn lines_of(alloc: Global, text: &[u8]) -> Result<LogLines, Stop>
     requires { length text.now ≤ 16777216 }
-    ensures { IsStep (λ lines. lines) result (logs.lines_or_refusal (reading.read_log text.now)) }
+    ensures { IsStep (λ lines. lines) result
+        (result_map_both (λ lines. lines) log_refused (reading.read_log text.now)) }
 {
     match read_log(alloc, text) {
         Ok(lines) => Ok(lines),
@@ -137,7 +139,8 @@ fn replay_lines(
     lines: &[LogLine],
 ) -> Result<Replayed, Stop>
     requires { reach.now ≡ history.now.parents }
-    ensures step { IsStep replayed_of result (replayed_by history.now lines.now) }
+    ensures step { IsStep replayed_of result
+        (logs.replayed_or_refusal (replay_in history.now lines.now)) }
     ensures len { IfOk result (HasLength (length history.now.parents)) }
     ensures within { IfOk result (AreEntriesWithin (length history.now.parents)) }
 {

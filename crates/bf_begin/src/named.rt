@@ -2,7 +2,7 @@
 ghost use Rattle.std.specs.Prelude.{◌≡◌, ◌<◌, length, All, IfOk, IfErr};
 ghost use Rattle.std.specs.Option.{ForSome};
 ghost use Rattle.bf_output.specs.Beginning as beginning;
-ghost use Rattle.bf_output.specs.Beginning.{all_named};
+ghost use Rattle.bf_output.specs.Beginning.{gathered, one_named};
 ghost use Rattle.bf_answers.specs.Steps.{IsStep, RefusesName};
 
 use bf_answers::{Stop, name_refusal, word_at};
@@ -56,7 +56,8 @@ pub fn all_named(
     words: &[Word],
     indexes: &[u32],
 ) -> Result<Places, Stop>
-    ensures step { IsStep (λ ps. ps) result (all_named history.now words.now indexes.now) }
+    ensures step { IsStep (λ ps. ps) result
+        (gathered (one_named history.now words.now) indexes.now) }
     ensures within { IfOk result (λ ps. All (λ p. p < length history.now.parents) ps) }
 {
     let mut places = Places::new(alloc);

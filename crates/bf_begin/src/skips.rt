@@ -1,7 +1,10 @@
 //! The commits that are skipped before a search.
-ghost use Rattle.std.specs.Prelude.{◌≡◌, ◌<◌, ◌++◌, length, All, IfOk, OnOk};
+ghost use Rattle.std.specs.Prelude.{◌≡◌, ◌<◌, [], ◌∷◌, ◌++◌, length, All, IfOk, OnOk};
 ghost use Rattle.bf_search.specs.Candidates.{places_of};
-ghost use Rattle.bf_output.specs.Beginning.{all_meant, skip_entries};
+ghost use Rattle.bf_search.specs.Run.{warnings};
+ghost use Rattle.bf_search.specs.declared.entries.Entry.TheVariants.{Marked};
+ghost use Rattle.bf_search.specs.declared.outcomes.Mark.TheVariants.{Skip};
+ghost use Rattle.bf_output.specs.Beginning.{gathered, places_meant};
 ghost use Rattle.bf_answers.specs.Steps.{IsStep};
 ghost use Rattle.bf_answers.specs.Tellings.{KeepsWithin, SkipsPlace, SkipsPlaces};
 
@@ -32,7 +35,8 @@ pub fn all_meant(
     indexes: &[u32],
 ) -> Result<Vec<u32>, Stop>
     requires { reach.now ≡ history.now.parents }
-    ensures step { IsStep (λ ps. ps.items) result (all_meant history.now words.now indexes.now) }
+    ensures step { IsStep (λ ps. ps.items) result
+        (gathered (places_meant history.now words.now) indexes.now) }
     ensures within { IfOk result (λ ps. All (λ p. p < length history.now.parents) ps.items) }
 {
     let mut places = Vec::new(alloc);
@@ -45,7 +49,8 @@ pub fn all_meant(
 
 /// Adds the entry of a skip, with the skipped merge bases to warn of before it.
 fn push_skip(entries: &mut Vec<Entry>, warned: &[u32], place: u32) -> Result<(), AllocError>
-    ensures { OnOk result (entries.new.items ≡ entries.old.items ++ skip_entries warned.now place) }
+    ensures { OnOk result (entries.new.items ≡ entries.old.items
+        ++ (warnings warned.now ++ Marked Skip place ∷ [])) }
 {
     push_warnings(entries, warned)?;
     entries.push(Entry::Marked {

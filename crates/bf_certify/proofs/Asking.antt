@@ -1,14 +1,16 @@
 -- What holds of words that are accepted: they ask for a search, without legs and without a trace, and its plan has letters.
 use Rattle.std.proofs.Common.{◌≡◌, ℕ, ◌+◌, ◌<◌, ◌≤◌, Bool, true, false, not, cond, ◌||◌, nat_lt, List, [], ◌∷◌, length, drop, Option, Some, None, Result, Ok, Err, refl, ap, sym, subst, ◌∙◌, ⊎_elim, arith}
 use Rattle.std.specs.Prelude.{IsTrue}
+use Rattle.std.specs.Option.{option_map_or}
 use Rattle.std.specs.List.{list_any, position, position_or_len}
 use Rattle.std.specs.Option.{option_map_or}
 use Rattle.std.proofs.lemmas.Bool.{cases_Bool, cond-false, le-ltb, ltb-false, ltb-true, or_parts}
 use Rattle.std.proofs.lemmas.Option.{same_Some}
 use Rattle.bf_answers.specs.Steps.{HasPlan}
 use Rattle.bf_commands.specs.declared.order.Order.TheVariants.{Certify}
-use Rattle.bf_commands.specs.Orders.{certified_request, is_followed, is_search, log_word, request_of as request_for, request_to_certify, without_log}
+use Rattle.bf_commands.specs.Orders.{is_followed, is_search, request_of as request_for, request_to_certify, without_log}
 use Rattle.bf_commands.proofs.Behind.{behind_read, followed, plan_behind, word_behind}
+use Rattle.bf_grammar.specs.Forms.{◌>>=◌}
 use Rattle.bf_output.proofs.Accepted.{no_fault, past_size}
 use Rattle.bf_output.specs.Output.{reads_stream}
 use Rattle.bf_searches.proofs.Planning.{plan_read}
@@ -28,7 +30,7 @@ use Rattle.bf_words.specs.FirstOption.{first_option, is_given_in}
 use Rattle.bf_words.specs.Options.{option_of, verb_of}
 use Rattle.bf_words.specs.Roles.{is_given, is_value_of, role_after, roles_after, roles_of}
 use Rattle.bf_words.proofs.Within.{roles_as_long}
-use Rattle.bf_words.specs.Words.{IsRead, fault_in, number_or, read_from, request, request_of, value_at, word_at}
+use Rattle.bf_words.specs.Words.{IsRead, fault_in, next_index, number_or, read_from, request, request_of, value_at, word_at}
 
 -- ---- no option, no value of it
 
@@ -152,11 +154,16 @@ line_read words r e =
     let short : length words ≤ 1000000 = ltb-false 1000000 (length words) (not_past (nat_lt 1000000 (length words)) 1000000 rest r e) in
     line_from (verb_of (word_at words 0)) words r refl short (past_size (nat_lt 1000000 (length words)) 1000000 rest r e)
 
-no_log : (q r : Request) (o : Option ℕ) → without_log q o ≡ Ok r → (o ≡ None) × (q ≡ r)
+no_log : (q r : Request) (o : Option ℕ) → option_map_or (λ (i : ℕ). Err (next_index i)) o (Ok q) ≡ Ok r → (o ≡ None) × (q ≡ r)
 no_log q r None e = (refl, cc e)
 no_log q r (Some i) e = cc e
 
-certified : (words : List (List ℕ)) (o : Result Request ℕ) (r : Request) → certified_request words o ≡ Ok r → (o ≡ Ok r) × (log_word r.verb words ≡ None)
+-- the first word that asks for a leg or a trace
+abbrev log_word : Verb → List (List ℕ) → Option ℕ
+log_word verb words = first_option verb (Leg ∷ Trace ∷ []) (drop 1 words)
+
+certified : (words : List (List ℕ)) (o : Result Request ℕ) (r : Request) → (o >>= without_log words) ≡ Ok r
+    → (o ≡ Ok r) × (log_word r.verb words ≡ None)
 certified words (Err word) r e = cc e
 certified words (Ok q) r e =
     let parts = no_log q r (log_word q.verb words) e in (
@@ -237,13 +244,16 @@ option_within verb options words i e short =
     let parts = at_some (nat_lt at (length roles)) at i e in
     omega (arith, ltb-true at (length roles) parts.0, parts.1, roles_as_long verb words, short)
 
-pub certified_as : (words : List (List ℕ)) (r : Request) (o : Option ℕ) → request_for Certify words ≡ Ok r → o ≡ log_word r.verb words
-    → request_to_certify words ≡ without_log r o
-certified_as words r o read log = ap (certified_request words) read ∙ ap (without_log r) (sym log)
+pub certified_as : (words : List (List ℕ)) (r : Request) (o : Option ℕ) → request_for Certify words ≡ Ok r
+    → o ≡ first_option r.verb (Leg ∷ Trace ∷ []) (drop 1 words)
+    → request_to_certify words ≡ option_map_or (λ (i : ℕ). Err (next_index i)) o (Ok r)
+certified_as words r o read log =
+    ap (λ (q : Result Request ℕ). q >>= without_log words) read
+    ∙ ap (λ (x : Option ℕ). option_map_or (λ (i : ℕ). Err (next_index i)) x (Ok r)) (sym log)
 
 pub refused_as : (words : List (List ℕ)) (fault : WordFault) → IsRead (request_for Certify words) (Err fault)
     → IsRead (request_to_certify words) (Err fault)
-refused_as words (At word) read = ap (certified_request words) read
+refused_as words (At word) read = ap (λ (q : Result Request ℕ). q >>= without_log words) read
 refused_as words faults.NoMemory read = tt
 
 pub search_reads : (verb : Verb) → IsTrue (is_search verb) → IsTrue (reads_stream verb)

@@ -7,7 +7,7 @@ use Rattle.bf_answers.specs.Tellings.{told_of}
 use Rattle.bf_cert.specs.Made.{AsksFirstBad}
 use Rattle.bf_certify.specs.Ended.{AnswersOther, IsCertFound}
 use Rattle.bf_certify.proofs.Runs.{finds, no_leg}
-use Rattle.bf_commands.specs.Certify.{IsCertOf, IsCertTold, IsPlanCertified, IsRunCertified, IsTestCertified}
+use Rattle.bf_commands.specs.Certify.{IsCertOf, IsCertTold, IsRunCertified}
 use Rattle.bf_farm.specs.Answering.{HasFault}
 use Rattle.bf_farm.specs.declared.report.Report.{Report}
 use Rattle.bf_graph.specs.Graph.{IsGraph}
@@ -17,7 +17,7 @@ use Rattle.bf_log.specs.Written.{known_after_all}
 use Rattle.bf_output.specs.Beginning.{Begun, commits_of}
 use Rattle.bf_output.specs.Simulate.{plan_of, run_over}
 use Rattle.bf_output.specs.Shown.{TesterShown}
-use Rattle.bf_output.specs.Tested.{IsFrontIfTold, IsFrontOf, IsTestedRun, is_test_fault, run_on, status_at_end, told_of_run}
+use Rattle.bf_output.specs.Tested.{IsFrontIfTold, IsFrontOf, IsTestedAs, IsTestedRun, is_test_fault, run_on, status_at_end, told_of_run}
 use Rattle.bf_output.specs.Told.{Told}
 use Rattle.bf_output.specs.Traces.{course_of, traced_if}
 use Rattle.bf_output.specs.declared.status.Status.{Status}
@@ -72,7 +72,8 @@ by_log history first run told end e is other = is
 
 -- its log is told as ever
 log_certified : (request : Request) (tested : TesterShown) (history : History) (first : Begun) (told : Told) → request.trace ≡ false
-    → told.status ≢ status.Done → IsTestedRun request tested history first told → IsTestCertified request tested history first told
+    → told.status ≢ status.Done → IsTestedRun request tested history first told
+    → IsTestedAs (λ legs. IsRunCertified history first) request tested history first told
 log_certified request tested history first told plain other is =
     let run = run_on history first is.table in
     record {
@@ -119,7 +120,7 @@ module _ (request : Request) (before after : TesterShown) (history : History) (f
   search_is = ap (λ (s : Session). s.search) ran.state ∙ ap (λ (r : Run). r.search) over.is
 
   -- the run on what is known, told by its certificate or by its log
-  certified_as : (told : Told) → IsRunCertified history first whole told → IsTestCertified request after history first told
+  certified_as : (told : Told) → IsRunCertified history first whole told → IsTestedAs (λ legs. IsRunCertified history first) request after history first told
   certified_as told tells =
       let knows : IsOver course after.plan after.answers report.table (record { whole = is.whole; last = report.events.items }) (in_sequence is.run leg) =
       subst (λ (plan : Option (List Outcome)). IsOver course plan after.answers report.table (record { whole = is.whole; last = report.events.items })
@@ -142,7 +143,7 @@ module _ (request : Request) (before after : TesterShown) (history : History) (f
   -- the answer of a run: what it tells, its cause, and that it is no refusal
   abbrev IsAnswerOf : Answer → Type 0
   IsAnswerOf answer =
-      IsTestCertified request after history first (told_of answer) × HasCause true before.faults after answer.status
+      IsTestedAs (λ legs. IsRunCertified history first) request after history first (told_of answer) × HasCause true before.faults after answer.status
       × (IsBeforeSearch answer.status → ⊥)
 
   found_answer : (answer : Answer) (place : ℕ) → report.ending ≡ ending.FirstBad place → IsCertOf history report.state.search (told_of answer)
@@ -232,8 +233,8 @@ closed history first run told (Open p) e is h =
 closed history first run told (Aborted p outcome) e is h = refl
 
 planned_certified : (request : Request) (words : List (List ℕ)) (tested : TesterShown) (history : History) (first : Begun) (told : Told)
-    → tested.plan ≡ Some (plan_of request words) → IsTestCertified request tested history first told → is_test_fault told.status ≡ false
-    → IsPlanCertified request words history first told
+    → tested.plan ≡ Some (plan_of request words) → IsTestedAs (λ legs. IsRunCertified history first) request tested history first told
+    → is_test_fault told.status ≡ false → IsRunCertified history first (run_over history first (plan_of request words)) told
 planned_certified request words tested history first told plan is h =
     let run = run_on history first is.table in
     let front : IsFrontOf run (run_over history first (plan_of request words)) =
@@ -242,8 +243,8 @@ planned_certified request words tested history first told plan is h =
 
 pub all_planned : {E : Type 0} (request : Request) (words : List (List ℕ)) (tested : TesterShown) (history : History) (first : Begun)
     (result : Result Answer E) → tested.plan ≡ Some (plan_of request words)
-    → IfOk result (λ a. IsTestCertified request tested history first (told_of a)) → IfOk result (λ a. IsWhole a.status)
-    → IfOk result (λ a. IsPlanCertified request words history first (told_of a))
+    → IfOk result (λ a. IsTestedAs (λ legs. IsRunCertified history first) request tested history first (told_of a)) → IfOk result (λ a. IsWhole a.status)
+    → IfOk result (λ a. IsRunCertified history first (run_over history first (plan_of request words)) (told_of a))
 all_planned request words tested history first (Err e) plan is answered = tt
 all_planned request words tested history first (Ok a) plan is answered =
     planned_certified request words tested history first (told_of a) plan is (not_fault a.status answered)

@@ -8,21 +8,25 @@ use Rattle.bf_answers.specs.declared.started.Started.{Started}
 use Rattle.bf_answers.specs.Answers.{IsBeforeSearch, IsUntested, IsUntestedIfRefused}
 use Rattle.bf_answers.specs.Devices.{TesterMet}
 use Rattle.bf_answers.specs.Tellings.{begun_of, told_of}
-use Rattle.bf_commands.specs.Certify.{IsCertified, IsCertifyOutput, IsPlanCertified, IsTestCertified}
+use Rattle.bf_commands.specs.Certify.{IsCertified, IsCertifyOutput, IsRunCertified}
 use Rattle.bf_output.specs.Inputs.{IsStreamed}
 use Rattle.bf_output.specs.Output.{IsSearchOver, given_to}
 use Rattle.bf_output.specs.Shown.{TesterShown}
+use Rattle.bf_output.specs.Simulate.{plan_of, run_over}
+use Rattle.bf_output.specs.Tested.{IsTestedAs}
 use Rattle.bf_io.specs.declared.shelf.ShelfFile.{ShelfFile}
 
 -- of a search, by what the tester of its run shows
 abbrev pub TellsRun : Line → Started → TesterShown → Answer → Type 0
 TellsRun line started tested answer =
-    IsTestCertified line.request.now tested started.history (begun_of started.first) (told_of answer)
+    IsTestedAs (λ legs. IsRunCertified started.history (begun_of started.first)) line.request.now tested started.history
+    (begun_of started.first) (told_of answer)
 
 -- over the plan of the words
 abbrev pub TellsPlanned : Line → Started → Answer → Type 0
 TellsPlanned line started answer =
-    IsPlanCertified line.request.now line.words.now started.history (begun_of started.first) (told_of answer)
+    let first = begun_of started.first in
+    IsRunCertified started.history first (run_over started.history first (plan_of line.request.now line.words.now)) (told_of answer)
 
 -- as the command of the line searches
 abbrev pub TellsSearch : Line → Started → TesterShown → Answer → Type 0

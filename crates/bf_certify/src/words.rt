@@ -1,6 +1,8 @@
 //! The words of the command `certify`.
-ghost use Rattle.std.specs.Prelude.{◌≡◌, ◌<◌, ◌≤◌, drop, length};
+ghost use Rattle.std.specs.Prelude.{◌≡◌, ◌<◌, ◌≤◌, [], ◌∷◌, drop, length};
 ghost use Rattle.bf_commands.specs.Orders as orders;
+ghost use Rattle.bf_words.specs.declared.options.Choice.TheVariants.{Leg, Trace};
+ghost use Rattle.bf_words.specs.FirstOption.{first_option};
 ghost use Rattle.bf_words.specs.Words.{IsRead};
 
 use bf_commands::{Order, read_words_for};
@@ -26,7 +28,7 @@ pub(crate) fn read_to_certify(alloc: Global, words: &[Word]) -> Result<Request, 
 fn log_word(verb: Verb, words: &[Word]) -> Option<u32>
     requires some { 0 < length (drop 1 words.now) }
     requires size { length (drop 1 words.now) ≤ 1000000 }
-    ensures { result ≡ orders.log_word verb words.now }
+    ensures { result ≡ first_option verb (Leg ∷ Trace ∷ []) (drop 1 words.now) }
 {
     let options = [Choice::Leg, Choice::Trace];
     first_option(verb, words.get(1..).unwrap_or_default(), &options)

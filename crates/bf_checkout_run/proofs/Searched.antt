@@ -2,7 +2,7 @@
 use Rattle.std.proofs.Common.{◌≡◌, ◌≢◌, ℕ, Bool, List, [], Option, Result, Ok, Err, IfOk, IsTrue, refl, sym, ap, subst}
 use Rattle.bf_output.specs.declared.status.Status.{Status}
 use Rattle.bf_output.specs.declared.status.Status.TheVariants as status
-use Rattle.bf_output.specs.Output.{IsSearched, IsUsedIf, given_to, is_run, reads, reads_stream}
+use Rattle.bf_output.specs.Output.{IsSearched, IsUsedFor, given_to, is_run, reads, reads_stream}
 use Rattle.bf_output.specs.Shown.{TesterShown}
 use Rattle.bf_words.specs.declared.request.Request.{Request}
 use Rattle.bf_words.specs.declared.verb.Verb.TheVariants.{Run}
@@ -81,9 +81,9 @@ pub test_since : (asks : Bool) (mid before after : TesterShown) (result : Status
 test_since asks mid before after result same cause = subst (λ (t : TesterShown). HasTestCause asks (between t after) result) same cause
 
 -- it is used as since then
-pub used_since : (asks : Bool) (request : Request) (words : List (List ℕ)) (mid before after : TesterShown) → mid ≡ before → IsUsedIf asks request words mid after
-    → IsUsedIf asks request words before after
-used_since asks request words mid before after same used = subst (λ (t : TesterShown). IsUsedIf asks request words t after) same used
+pub used_since : (request : Request) (words : List (List ℕ)) (mid before after : TesterShown) → mid ≡ before → IsUsedFor (Ok request) words mid after
+    → IsUsedFor (Ok request) words before after
+used_since request words mid before after same used = subst (λ (t : TesterShown). IsUsedFor (Ok request) words t after) same used
 
 -- ---- the words
 

@@ -1,7 +1,8 @@
 -- What holds of the words behind a first one that are accepted.
 use Rattle.std.proofs.Common.{◌≡◌, ℕ, ◌+◌, Bool, true, false, cond, List, [], length, drop, get_or, get_or-drop, option_map, nat_lt, Option, Some, None, Result, Ok, Err, refl, sym, ap, subst, ◌∙◌, arith}
 use Rattle.bf_commands.specs.declared.order.Order.{Order}
-use Rattle.bf_commands.specs.Orders.{is_followed, may_follow, request_of as request_for}
+use Rattle.bf_commands.specs.declared.order.Order.TheVariants.{Certify, Check, Checkout, Journal, Many, Serve}
+use Rattle.bf_commands.specs.Orders.{is_followed, request_of as request_for}
 use Rattle.bf_output.specs.Output.{is_run}
 use Rattle.bf_output.proofs.Accepted.{no_fault, past_size}
 use Rattle.bf_words.specs.declared.request.Request.{Request}
@@ -31,9 +32,17 @@ run_alone Replay e = cc e
 run_alone Gen e = cc e
 run_alone Sample e = cc e
 
-followed_by_run : (order : Order) (given : Option Verb) → ((verb : Verb) → may_follow order verb ≡ is_run verb) → is_followed order given ≡ true
+none_follows : (order : Order) → is_followed order None ≡ false
+none_follows Certify = refl
+none_follows Check = refl
+none_follows Checkout = refl
+none_follows Journal = refl
+none_follows Many = refl
+none_follows Serve = refl
+
+followed_by_run : (order : Order) (given : Option Verb) → ((verb : Verb) → is_followed order (Some verb) ≡ is_run verb) → is_followed order given ≡ true
     → given ≡ Some Run
-followed_by_run order None runs e = cc e
+followed_by_run order None runs e = cc (sym (none_follows order) ∙ e)
 followed_by_run order (Some verb) runs e = ap Some (run_alone verb (sym (runs verb) ∙ e))
 
 -- ---- the words from it on
@@ -85,8 +94,8 @@ verb_read verb words r same e =
     (past_size (nat_lt 1000000 (length words)) 1000000 (read_from (verb_of (word_at words 0)) words) r e)
 
 -- behind a command that a run alone may follow they ask for a run
-pub asks_run : (order : Order) (words : List (List ℕ)) (r : Request) → ((verb : Verb) → may_follow order verb ≡ is_run verb) → request_for order words ≡ Ok r
-    → r.verb ≡ Run
+pub asks_run : (order : Order) (words : List (List ℕ)) (r : Request) → ((verb : Verb) → is_followed order (Some verb) ≡ is_run verb)
+    → request_for order words ≡ Ok r → r.verb ≡ Run
 asks_run order words r runs e =
     let both = followed order words r e in
     let line = behind_read words r both.1 in

@@ -40,16 +40,9 @@ IsRunCertified history first run told = IsCertTold history first run run.end tol
 
 -- ---- over a plan, or by tests
 
-abbrev pub IsPlanCertified : Request → List (List ℕ) → History → Begun → Told → Type 0
-IsPlanCertified request words history first told = IsRunCertified history first (run_over history first (plan_of request words)) told
-
-abbrev pub IsTestCertified : Request → TesterShown → History → Begun → Told → Type 0
-IsTestCertified request tested history first told =
-    IsTestedAs (λ legs run other. IsRunCertified history first run other) request tested history first told
-
 abbrev pub IsCertified : Verb → Request → List (List ℕ) → TesterShown → History → Begun → Told → Type 0
-IsCertified Simulate request words tested history first told = IsPlanCertified request words history first told
-IsCertified RunVerb request words tested history first told = IsTestCertified request tested history first told
+IsCertified Simulate request words tested history first told = IsRunCertified history first (run_over history first (plan_of request words)) told
+IsCertified RunVerb request words tested history first told = IsTestedAs (λ legs. IsRunCertified history first) request tested history first told
 IsCertified other request words tested history first told = ⊥
 
 -- ---- from the words on

@@ -1,6 +1,7 @@
 -- The command `journal`: a run whose outcomes are kept in a file, leg by leg.
 use Rattle.std.specs.Prelude.{◌≡◌, ◌≢◌, ◌⊎◌, ℕ, ◌≤◌, max, Bool, List, [], ◌++◌, length, codes, Option, Some, None, IfSome, Result, Ok, Err}
 use Rattle.bf_farm.specs.Reports.{IsAnswered}
+use Rattle.bf_grammar.specs.Forms.{◌>>=◌}
 use Rattle.bf_history.specs.Meanings.{History}
 use Rattle.bf_io.specs.Causes.{Rose}
 use Rattle.bf_journal.specs.Disk.{NoMore, Only}
@@ -22,7 +23,7 @@ use Rattle.bf_output.specs.declared.status.Status.TheVariants as status
 use Rattle.bf_output.specs.Beginning.{Begun, log_on}
 use Rattle.bf_output.specs.Output.{Given, IsSearchTold}
 use Rattle.bf_output.specs.Shown.{TesterShown, command_of}
-use Rattle.bf_output.specs.Tested.{AreFirstUsed, IsFrontIfTold, IsTestedRun, IsTestCut, IsTestLost, run_on}
+use Rattle.bf_output.specs.Tested.{AreFirstUsed, IsFrontIfTold, IsTestedRun, IsTestCut, run_on}
 use Rattle.bf_output.specs.Told.{Told}
 use Rattle.bf_commands.specs.declared.order.Order.TheVariants as order
 use Rattle.bf_commands.specs.Orders.{request_of}
@@ -35,9 +36,6 @@ pub record DiskMet : Type 1 where
   pub may_leave : List ℕ → Type 0  -- those that a crash may leave after it
   pub faults : ℕ  -- its count before the call
   pub faults_now : ℕ
-
-abbrev pub HasDiskFailed : DiskMet → Type 0
-HasDiskFailed disk = Rose disk.faults disk.faults_now
 
 -- ---- the run that a journal is kept for
 
@@ -55,19 +53,16 @@ pub data Opened : Type 0 where
 abbrev pub Opens : DiskMet → Oid → ℕ → Opened → Type 0
 Opens disk identity len (Kept outcomes) = IfSome disk.before (λ bytes. table_in identity len bytes ≡ Ok outcomes)
 Opens disk identity len (Other kept) = IfSome disk.before (λ bytes. table_in identity len bytes ≡ Err kept)
-Opens disk identity len Failed = HasDiskFailed disk
+Opens disk identity len Failed = Rose disk.faults disk.faults_now
 
 -- ---- what is kept
 
--- an outcome is kept as it is, or as one that is read as it
-abbrev pub IsKeptAs : Bool → Outcome → Outcome → Type 0
-IsKeptAs is_lenient kept outcome = (kept ≡ outcome) ⊎ (read_as is_lenient kept ≡ outcome)
-
--- each outcome that is known, and that does not end the run, is kept
+-- each outcome that is known, and that does not end the run, is kept, or one that is read as it
 abbrev pub KeepsAll : Bool → List (Option Outcome) → List (Option Outcome) → Type 0
 KeepsAll is_lenient kept known = (p : ℕ) (outcome : Outcome)
     → outcomes_of_table known p ≡ Some outcome → verdict_of outcome ≢ Abort
-    → (found : Outcome) × (outcomes_of_table kept p ≡ Some found) × IsKeptAs is_lenient found outcome
+    → (found : Outcome) × (outcomes_of_table kept p ≡ Some found)
+    × ((found ≡ outcome) ⊎ (read_as is_lenient found ≡ outcome))
 
 -- an outcome that may be put: one that the tester answered, and that does not end the run
 abbrev pub MayBePut : List Oid → List Answer → ℕ → Outcome → Type 0
@@ -114,9 +109,6 @@ IsOpenedAt disk identity len bytes = (image : List ℕ) → disk.left image → 
 
 -- ---- what is told
 
-abbrev pub journal_refused : Oid → Told
-journal_refused kept = record { status = status.JournalRefused kept; text = codes "journal of another run\n" }
-
 -- what was written before, and the line that says so
 abbrev pub journal_fault : List ℕ → Told
 journal_fault written = record { status = status.JournalFault; text = written ++ codes "journal fault\n" }
@@ -136,7 +128,7 @@ pub record AreUsedFirst (tested : TesterShown) (history : History) (first : Begu
 -- nothing else, in the leg that could not be kept, too.
 pub record IsJournalCut (disk : DiskMet) (request : Request) (tested : TesterShown) (history : History) (first : Begun) (table : List (Option Outcome)) (told : Told)
     : Type 0 where
-  pub failed : HasDiskFailed disk
+  pub failed : Rose disk.faults disk.faults_now
   pub known : IsKnown history.names tested.plan tested.answers table
   pub planned : IsFrontIfTold tested.plan history first (run_on history first table)
   pub alone : request.workers ≤ 1 → AreUsedFirst tested history first
@@ -148,14 +140,15 @@ pub record IsJournalCut (disk : DiskMet) (request : Request) (tested : TesterSho
 abbrev pub IsRunKept : DiskMet → Oid → List (Option Outcome) → Request → TesterShown → History → Begun → Told → Type 0
 IsRunKept disk identity found request tested history first told =
     ((is : IsTestedRun request tested history first told) × AreImagesOf disk identity history.names tested found is.table)
-    ⊎ (((is : IsTestCut request tested history first told) × AreImagesOf disk identity history.names tested found is.table)
-    ⊎ (((is : IsTestLost tested history first told) × AreImagesOf disk identity history.names tested found is.table)
+    ⊎ (((is : IsTestCut status.WriteFault request tested history first told) × AreImagesOf disk identity history.names tested found is.table)
+    ⊎ (((is : IsTestCut status.NoMemory request tested history first told) × AreImagesOf disk identity history.names tested found is.table)
     ⊎ ((table : List (Option Outcome)) × IsJournalCut disk request tested history first table told
     × AreImagesOf disk identity history.names tested found table)))
 
 abbrev pub IsOpenedTold : Opened → DiskMet → Oid → Request → TesterShown → History → Begun → Told → Type 0
 IsOpenedTold (Kept found) disk identity request tested history first told = IsRunKept disk identity found request tested history first told
-IsOpenedTold (Other kept) disk identity request tested history first told = (told ≡ journal_refused kept) × IfSome disk.before (IsLeftAlone disk)
+IsOpenedTold (Other kept) disk identity request tested history first told =
+    (told ≡ record { status = status.JournalRefused kept; text = codes "journal of another run\n" }) × IfSome disk.before (IsLeftAlone disk)
 IsOpenedTold Failed disk identity request tested history first told =
     (told ≡ journal_fault []) × (tested.answers ≡ []) × IfSome disk.before (IsOpenedAt disk identity (length history.names))
 
@@ -172,12 +165,8 @@ IsJournalled disk request words tested history first told =
 abbrev pub in_legs : Request → Request
 in_legs request = record request { leg = max request.leg 1 }
 
-abbrev pub with_legs : Result Request ℕ → Result Request ℕ
-with_legs (Err word) = Err word
-with_legs (Ok request) = Ok (in_legs request)
-
 abbrev pub request_to_journal : List (List ℕ) → Result Request ℕ
-request_to_journal words = with_legs (request_of order.Journal words)
+request_to_journal words = request_of order.Journal words >>= λ request. Ok (in_legs request)
 
 abbrev pub IsJournalOutput : DiskMet → Given → Option (List ℕ) → Told → Type 0
 IsJournalOutput disk given stream told =

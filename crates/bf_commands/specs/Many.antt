@@ -1,14 +1,14 @@
 -- The command `many`: several searches over one history, each told as `simulate` tells it.
-use Rattle.std.specs.Prelude.{ℕ, ◌+◌, Bool, true, ◌==◌, ◌||◌, if◌then◌else◌, List, [], ◌∷◌, ◌++◌, codes, is_some, map, length, nat_lt, Option, Some, None, Result, Ok, Err}
+use Rattle.std.specs.Prelude.{ℕ, ◌+◌, Bool, true, ◌==◌, ◌||◌, if◌then◌else◌, List, [], ◌∷◌, ◌++◌, codes, is_some, map, length, nat_lt, Option, Some, None, Ok}
 use Rattle.std.specs.Fmt.{decimal}
+use Rattle.std.specs.Option.{option_map_or}
+use Rattle.std.specs.Result.{is_err, result_map_both}
 use Rattle.bf_history.specs.Meanings.{History}
 use Rattle.bf_reading.specs.Reading.{lines_of}
 use Rattle.bf_io.specs.declared.shelf.ShelfFile.{ShelfFile}
 use Rattle.bf_terms.specs.Texts.{text_line}
-use Rattle.bf_words.specs.declared.options.Choice.{Choice}
 use Rattle.bf_words.specs.declared.options.Choice.TheVariants.{Workers, Leg, Trace, Replay as ReplayOption}
 use Rattle.bf_words.specs.declared.options.Form.TheVariants.{Count}
-use Rattle.bf_words.specs.declared.request.Request.{Request}
 use Rattle.bf_words.specs.declared.verb.Verb.TheVariants.{Simulate}
 use Rattle.bf_words.specs.FirstOption.{first_option}
 use Rattle.bf_words.specs.Options.{count_of}
@@ -31,13 +31,9 @@ list_refused line = record {
 
 -- ---- the words: how many workers there are, and the file
 
--- how many workers a word gives, 1 to 64
-abbrev pub workers_of : List ℕ → Option ℕ
-workers_of word = count_of (Count 64) word
-
--- the number of workers, where it is there and is none
+-- the number of workers, 1 to 64, where it is there and is none
 abbrev pub wrong_workers : List (List ℕ) → Option ℕ
-wrong_workers words = if nat_lt (length words) 2 || is_some (workers_of (word_at words 1)) then None else Some 1
+wrong_workers words = if nat_lt (length words) 2 || is_some (count_of (Count 64) (word_at words 1)) then None else Some 1
 
 -- the number is tried first
 abbrev pub wrong_word : List (List ℕ) → Option ℕ
@@ -61,24 +57,13 @@ words_of_line line = codes "simulate" ∷ parted line
 abbrev pub searches_of : List ℕ → List (List (List ℕ))
 searches_of bytes = map words_of_line (lines_of bytes)
 
--- options that a search among others has not
-abbrev pub options_of_one : List Choice
-options_of_one = Workers ∷ Leg ∷ Trace ∷ ReplayOption ∷ []
-
--- whether these words ask for something that `simulate` alone may do
+-- whether these words give an option that a search among others has not
 abbrev pub asks_for_more : List (List ℕ) → Bool
-asks_for_more words = is_some (first_option Simulate options_of_one words)
+asks_for_more words = is_some (first_option Simulate (Workers ∷ Leg ∷ Trace ∷ ReplayOption ∷ []) words)
 
-abbrev pub is_refused_as : Result Request ℕ → List (List ℕ) → Bool
-is_refused_as (Ok request) words = asks_for_more words
-is_refused_as (Err word) words = true
-
-abbrev pub is_refused : List (List ℕ) → Bool
-is_refused words = is_refused_as (request words) words
-
--- there are at most 64 searches
+-- there are at most 64 searches, and each has words that are accepted
 abbrev pub is_wrong_line : ℕ → List (List ℕ) → Bool
-is_wrong_line n words = n == 65 || is_refused words
+is_wrong_line n words = n == 65 || (is_err (request words) || asks_for_more words)
 
 -- the number of the first line that is refused, or of the 65th
 unfoldable pub refused_from : ℕ → List (List (List ℕ)) → Option ℕ
@@ -87,18 +72,11 @@ refused_from n (words ∷ lines) = if is_wrong_line n words then Some n else ref
 
 -- ---- the searches
 
-abbrev pub searched_as : Request → List (List ℕ) → History → Result Told Told
-searched_as request words history =
-    begun_with_skips request words None history
-    >>= λ first. Ok (ran history first (run_over history first (plan_of request words)))
-
-abbrev pub searched_for : Result Request ℕ → List (List ℕ) → History → Told
-searched_for (Ok request) words history = told_by (searched_as request words history)
-searched_for (Err word) words history = usage word
-
 -- what `simulate` tells of the words of a line
 abbrev pub searched : History → List (List ℕ) → Told
-searched history words = searched_for (request words) words history
+searched history words = told_by (result_map_both (λ r. r) usage (request words)
+    >>= λ r. begun_with_skips r words None history
+    >>= λ first. Ok (ran history first (run_over history first (plan_of r words))))
 
 unfoldable pub search_line : ℕ → List ℕ
 search_line n = text_line (codes "search " ++ decimal n)
@@ -121,17 +99,12 @@ status_of_all (told ∷ more) = or_status told.status (status_of_all more)
 abbrev pub told_of_all : List Told → Told
 told_of_all tolds = record { status = status_of_all tolds; text = numbered 1 tolds }
 
-abbrev pub all_searched : History → List (List (List ℕ)) → Told
-all_searched history lines = told_of_all (map (searched history) lines)
-
 -- ---- the whole
 
-abbrev pub listed : History → List (List (List ℕ)) → Option ℕ → Told
-listed history lines (Some n) = list_refused n
-listed history lines None = all_searched history lines
-
+-- the first line that is refused, or what is told of all
 abbrev pub told_of_list : History → List ℕ → Told
-told_of_list history bytes = listed history (searches_of bytes) (refused_from 1 (searches_of bytes))
+told_of_list history bytes =
+    option_map_or list_refused (refused_from 1 (searches_of bytes)) (told_of_all (map (searched history) (searches_of bytes)))
 
 -- the words come first, then the stream to its end, and then the file that word 2 names
 abbrev pub IsManyOutput : List (List ℕ) → Option (List ShelfFile) → Option (List ℕ) → Told → Type 0

@@ -1,5 +1,7 @@
 -- The words of the commands that stand before those of a search, and of those that have words of their own.
 use Rattle.std.specs.Prelude.{ℕ, Bool, true, false, nat_lt, if◌then◌else◌, List, [], ◌∷◌, length, drop, codes, Option, Some, None, Result, Ok, Err}
+use Rattle.std.specs.Option.{option_map_or}
+use Rattle.bf_grammar.specs.Forms.{◌>>=◌}
 use Rattle.bf_words.specs.declared.options.Choice.TheVariants.{Leg, Trace}
 use Rattle.bf_words.specs.declared.request.Request.{Request}
 use Rattle.bf_words.specs.declared.verb.Verb.{Verb}
@@ -28,16 +30,12 @@ is_search Simulate = true
 is_search Run = true
 is_search other = false
 
--- the commands that may stand behind it
-abbrev pub may_follow : Order → Verb → Bool
-may_follow Certify verb = is_search verb
-may_follow Checkout verb = is_run verb
-may_follow Journal verb = is_run verb
-may_follow other verb = false
-
+-- whether a command may stand behind it
 abbrev pub is_followed : Order → Option Verb → Bool
-is_followed order None = false
-is_followed order (Some verb) = may_follow order verb
+is_followed Certify (Some verb) = is_search verb
+is_followed Checkout (Some verb) = is_run verb
+is_followed Journal (Some verb) = is_run verb
+is_followed other verb = false
 
 -- What the words behind it ask for. Another command there is at fault before all else.
 unfoldable pub request_of : Order → List (List ℕ) → Result Request ℕ
@@ -45,21 +43,14 @@ request_of order words = if is_followed order (verb_of (word_at words 1)) then r
 
 -- ---- `certify`, which prints no legs and no trace
 
--- the first word that asks for one
-abbrev pub log_word : Verb → List (List ℕ) → Option ℕ
-log_word verb words = first_option verb (Leg ∷ Trace ∷ []) (drop 1 words)
+-- the first word that asks for one is at fault
+abbrev pub without_log : List (List ℕ) → Request → Result Request ℕ
+without_log words request =
+    option_map_or (λ i. Err (next_index i)) (first_option request.verb (Leg ∷ Trace ∷ []) (drop 1 words)) (Ok request)
 
-abbrev pub without_log : Request → Option ℕ → Result Request ℕ
-without_log request None = Ok request
-without_log request (Some i) = Err (next_index i)
-
-abbrev pub certified_request : List (List ℕ) → Result Request ℕ → Result Request ℕ
-certified_request words (Err word) = Err word
-certified_request words (Ok request) = without_log request (log_word request.verb words)
-
--- they are refused once all other words are accepted
+-- it is refused once all other words are accepted
 abbrev pub request_to_certify : List (List ℕ) → Result Request ℕ
-request_to_certify words = certified_request words (request_of Certify words)
+request_to_certify words = request_of Certify words >>= without_log words
 
 -- ---- words of a known number
 

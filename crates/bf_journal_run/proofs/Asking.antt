@@ -1,7 +1,8 @@
 -- What holds of words that are accepted: they ask for a run.
 use Rattle.std.proofs.Common.{◌≡◌, ℕ, Bool, true, false, cond, nat_lt, List, [], length, drop, get_or-drop, Option, Some, None, Result, Ok, Err, refl, sym, ap, ◌∙◌, subst}
 use Rattle.bf_commands.specs.declared.order.Order.TheVariants as order
-use Rattle.bf_commands.specs.Journal.{in_legs, request_to_journal, with_legs}
+use Rattle.bf_commands.specs.Journal.{in_legs, request_to_journal}
+use Rattle.bf_grammar.specs.Forms.{◌>>=◌}
 use Rattle.bf_commands.specs.Orders.{is_followed, request_of as request_for}
 use Rattle.bf_output.specs.Output.{is_run}
 use Rattle.bf_output.proofs.Accepted.{no_fault, past_size}
@@ -16,8 +17,8 @@ use Rattle.bf_words.specs.Roles.{roles_of}
 use Rattle.bf_words.specs.Words.{IsRead, fault_in, one_further, read_from, read_further, read_line, request, request_behind, request_of, word_at}
 
 -- a refusal is the same in legs
-pub refused_legs : (read : Result Request ℕ) (fault : WordFault) → IsRead read (Err fault) → IsRead (with_legs read) (Err fault)
-refused_legs read (At word) is = ap with_legs is
+pub refused_legs : (read : Result Request ℕ) (fault : WordFault) → IsRead read (Err fault) → IsRead (read >>= λ r. Ok (in_legs r)) (Err fault)
+refused_legs read (At word) is = ap (λ (o : Result Request ℕ). o >>= λ r. Ok (in_legs r)) is
 refused_legs read faults.NoMemory is = tt
 
 -- ---- the verb of a line that is read
@@ -77,7 +78,8 @@ asks_run words r e =
     let parts = followed words r e in
     run_of (verb_of (word_at words 1)) r.verb (ap verb_of (word_behind words) ∙ behind_verb words r parts.1) parts.0
 
-legs_verb : (o : Result Request ℕ) (words : List (List ℕ)) (r : Request) → request_for order.Journal words ≡ o → with_legs o ≡ Ok r → r.verb ≡ Run
+legs_verb : (o : Result Request ℕ) (words : List (List ℕ)) (r : Request) → request_for order.Journal words ≡ o → (o >>= λ q. Ok (in_legs q)) ≡ Ok r
+    → r.verb ≡ Run
 legs_verb (Err word) words r is e = cc e
 legs_verb (Ok q) words r is e =
     let same : in_legs q ≡ r = cc e in

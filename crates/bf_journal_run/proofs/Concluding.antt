@@ -7,7 +7,7 @@ use Rattle.bf_answers.specs.Devices.{SinkMet, TesterMet}
 use Rattle.bf_answers.specs.Ready.{IsCausedTold, IsConcluded}
 use Rattle.bf_answers.specs.SoFar.{NeverRefuses}
 use Rattle.bf_answers.specs.Writes.{IsWritten}
-use Rattle.bf_commands.specs.Journal.{AreImages, AreImagesOf, Continues, DiskMet, HasDiskFailed, IsJournalled, IsKeptIn, IsLeftAlone, IsOpenedAt, IsOpenedTold, IsRunKept, MayBePut, Opens, identity_of, journal_fault, journal_refused}
+use Rattle.bf_commands.specs.Journal.{AreImages, AreImagesOf, Continues, DiskMet, IsJournalled, IsKeptIn, IsLeftAlone, IsOpenedAt, IsOpenedTold, IsRunKept, MayBePut, Opens, identity_of, journal_fault}
 use Rattle.bf_commands.specs.Journal.Opened.{Other, Failed}
 use Rattle.bf_farm.proofs.Asked.{rose_since}
 use Rattle.bf_state.specs.Ends.{HasEnds}
@@ -170,7 +170,7 @@ never_refused disk identity found request words tested history first ends = λ t
 module _ (disk now : DiskMet) (meant : Oid) (found : List (Option Outcome)) (Images : List (Option Outcome) → Type 0) (request : Request)
     (words : List (List ℕ)) (tester : TesterMet) (history : History) (first : Begun) (ends : HasEnds first.search)
     (kept_of_table : (table : List (Option Outcome)) → Images table → AreImagesOf disk meant history.names tester.after found table)
-    (rose : HasDiskFailed now → HasDiskFailed disk) where
+    (rose : Rose now.faults now.faults_now → Rose disk.faults disk.faults_now) where
   abbrev Tells : Told → Type 0
   Tells told = IsRunKept disk meant found request tester.after history first told
 
@@ -279,9 +279,11 @@ module _ (disk : DiskMet) (request : Request) (words : List (List ℕ)) (tester 
       → IsUntested tester → IsWritten before after (codes "journal of another run\n") (status.JournalRefused kept) result
       → IsConcluded (IsCausedTold true tester (IsJournalled disk request words tester.after history first)) before after result
   of_another kept opened alone untested written =
-      inl (journal_refused kept, ((Other kept, opened, (refl, alone)), (λ place e. cc e, λ refused. untested)), (λ e. cc e), written)
+      let told : Told = record { status = status.JournalRefused kept; text = codes "journal of another run\n" } in
+      inl (told, ((Other kept, opened, (refl, alone)), (λ place e. cc e, λ refused. untested)), (λ e. cc e), written)
 
-  pub of_failed : HasDiskFailed disk → tester.after.answers ≡ [] → IfSome disk.before (IsOpenedAt disk (identity_of history request words) (length history.names))
+  pub of_failed : Rose disk.faults disk.faults_now → tester.after.answers ≡ []
+      → IfSome disk.before (IsOpenedAt disk (identity_of history request words) (length history.names))
       → IsWritten before after (codes "journal fault\n") status.JournalFault result
       → IsConcluded (IsCausedTold true tester (IsJournalled disk request words tester.after history first)) before after result
   of_failed failed none opened written =

@@ -3,7 +3,7 @@ use Rattle.std.proofs.Common.{◌≡◌, ◌⊎◌, inl, inr, ℕ, ◌≤◌, Li
 use Rattle.std.proofs.lemmas.List.{append-nil}
 use Rattle.bf_answers.specs.declared.answer.Answer.{Answer}
 use Rattle.bf_answers.specs.Devices.{TesterMet}
-use Rattle.bf_commands.specs.Journal.{DiskMet, HasDiskFailed, IsLogFront, MayBePut}
+use Rattle.bf_commands.specs.Journal.{DiskMet, IsLogFront, MayBePut}
 use Rattle.bf_farm.proofs.Asked.{rose_since}
 use Rattle.bf_farm.specs.Reports.{TableIn}
 use Rattle.bf_history.specs.Meanings.{History}
@@ -13,8 +13,9 @@ use Rattle.bf_io.specs.declared.device.SinkFault.TheVariants as sinks
 use Rattle.bf_io.specs.Told.{Appends, AppendsFront}
 use Rattle.bf_io.proofs.Told.{Appends-trans, AppendsFront-none}
 use Rattle.bf_output.proofs.Runs.{front_if_told}
+use Rattle.bf_output.specs.declared.status.Status.TheVariants as status
 use Rattle.bf_output.specs.Beginning.{Begun}
-use Rattle.bf_output.specs.Simulate.{cut_short, out_of_memory}
+use Rattle.bf_output.specs.Simulate.{cut_short}
 use Rattle.bf_output.specs.Shown.{TesterShown}
 use Rattle.bf_output.specs.Tested.{run_on}
 use Rattle.bf_runs.specs.declared.case.Search.{Search as Searched}
@@ -62,15 +63,16 @@ module _ (images : List (Option Outcome) → Type 0) (disk : DiskMet) (search : 
   lost_by : (tested later : TesterShown) (mid after : Option (List ℕ)) → IsKnown search.history.now.names later.plan later.answers running.standing.table
       → IsRunning request tested search.history.now first written running
       → Appends before mid written → AppendsFront mid after running.telling.text → images running.standing.table
-      → IsCutByMemory images later search.history.now first before after
+      → IsCutByMemory images request later search.history.now first before after
   lost_by tested later mid after known is gained front kept =
       let table = running.standing.table in
       record {
-        told = out_of_memory search.history.now first (run_on search.history.now first table);
+        told = cut_short status.NoMemory search.history.now first (run_on search.history.now first table);
         is = record {
           table = table;
           known = known;
           planned = front_if_told later.plan search.history.now first table known.planned;
+          alone = λ failed one. cc failed;
           tells = refl;
         };
         front = front_on_known request tested search.history.now first written running is before mid after gained front;
@@ -83,12 +85,12 @@ module _ (images : List (Option Outcome) → Type 0) (disk : DiskMet) (search : 
   cut_by tested mid after is gained front kept =
       let table = running.standing.table in
       record {
-        told = cut_short search.history.now first (run_on search.history.now first table);
+        told = cut_short status.WriteFault search.history.now first (run_on search.history.now first table);
         is = record {
           table = table;
           known = is.between.known;
           planned = front_if_told tested.plan search.history.now first table is.between.known.planned;
-          alone = alone_on_known request tested search.history.now first written running is;
+          alone = λ failed. alone_on_known request tested search.history.now first written running is;
           tells = refl;
         };
         front = front_on_known request tested search.history.now first written running is before mid after gained front;
@@ -108,7 +110,7 @@ module _ (images : List (Option Outcome) → Type 0) (disk : DiskMet) (search : 
       → IsRunning request tester.before search.history.now first written running → (written ≡ []) ⊎ (running.telling.text ≡ []) → Appends before after written
       → (IsKnown search.history.now.names tester.after.plan tester.after.answers running.standing.table
       → Leaves (MayBePut search.history.now.names tester.after.answers) → images running.standing.table)
-      → (cut ≡ Journal → HasDiskFailed disk)
+      → (cut ≡ Journal → Rose disk.faults disk.faults_now)
       → IsLedKept Leaves search request tester remembered opened first written new running.standing.table (Err cut)
       → IsEndedKept images disk request tester.after search.history.now first before after (Err cut)
   cut_in_leg Leaves tester remembered opened new after Journal is begun gained kept failed led =

@@ -1,5 +1,5 @@
 -- From what is ready, and what is told of it, to what a call of `journal` answers.
-use Rattle.std.proofs.Common.{◌≡◌, ◌≢◌, inl, inr, ℕ, Bool, true, false, List, [], ◌++◌, get_or, Option, Some, None, is_some, Result, Ok, Err, IfOk, refl, sym, ap, ◌∙◌, subst}
+use Rattle.std.proofs.Common.{◌≡◌, ◌≢◌, ◌⊎◌, inl, inr, ℕ, Bool, true, false, List, [], ◌++◌, get_or, Option, Some, None, is_some, Result, Ok, Err, IfOk, refl, sym, ap, ◌∙◌, subst}
 use Rattle.std.specs.Prelude.{All, IsErrOf, IsTrue}
 use Rattle.bf_answers.proofs.Answering as any
 use Rattle.bf_answers.specs.Answers.{Answers, IsBeforeSearch, IsUnread, IsUnloaded, IsUntested, IsUntestedIfRefused, IsWhole, IsWholeAnswer}
@@ -18,8 +18,9 @@ use Rattle.bf_commands.specs.Journal.{DiskMet, IsJournalOutput, IsJournalled, re
 use Rattle.bf_output.specs.declared.status.Status.{Status}
 use Rattle.bf_output.specs.declared.status.Status.TheVariants as status
 use Rattle.bf_output.specs.Inputs.{IsStreamed}
-use Rattle.bf_output.specs.Output.{IsSearchOver, IsSearchTold, IsUsedFor, IsUsedIf, asks_file, is_run, reads, reads_stream, tests}
-use Rattle.bf_output.specs.Shown.{TesterShown, IsUsed}
+use Rattle.bf_output.specs.Output.{IsSearchOver, IsSearchTold, IsUsedFor, asks_file, is_run, reads, reads_stream, tests}
+use Rattle.bf_output.specs.Shown.{TesterShown, IsPrepared}
+use Rattle.bf_searches.proofs.Using.{used_to_test}
 use Rattle.bf_output.specs.Told.{Told}
 use Rattle.bf_journal.specs.Recalling.{IsPassedOn, Recalling, remembering}
 use Rattle.bf_journal.specs.Remembered.{outcome_at}
@@ -144,18 +145,14 @@ unasked_none remembered below none = λ k d low. ap (λ (r : List Answered). out
 -- ---- the tester, by the words
 
 pub used_for : (words : List (List ℕ)) (request : Request) (before after : TesterShown) → request_to_journal words ≡ Ok request → request.verb ≡ Run
-    → IsUsed request words before after → IsUsedFor (request_to_journal words) words before after
+    → (after ≡ before) ⊎ IsPrepared request words before after → IsUsedFor (request_to_journal words) words before after
 used_for words request before after read run used =
     subst (λ (r : Result Request ℕ). IsUsedFor r words before after) (sym read)
-    (subst (λ (v : Verb). IsUsedIf (is_run v) request words before after) (sym run) used)
+    (used_to_test request words before after (subst (λ (v : Verb). IsTrue (is_run v)) (sym run) refl) used)
 
 pub refused_used : (read : Result Request ℕ) (words : List (List ℕ)) (before after : TesterShown) → after ≡ before → IsUsedFor read words before after
 refused_used (Err word) words before after same = same
-refused_used (Ok request) words before after same = by (is_run request.verb)
-  where
-    by : (asks : Bool) → IsUsedIf asks request words before after
-    by true = inl same
-    by false = same
+refused_used (Ok request) words before after same = inl same
 
 pub refused_recalled : (disk : DiskMet) (read : Result Request ℕ) (words : List (List ℕ)) (left : Option (List ℕ)) (answers remembered : List Answered)
     → answers ≡ [] → IsRecalledBy disk read words left answers remembered

@@ -1,6 +1,6 @@
 -- A tester that remembers what a journal kept, and takes its command.
-use Rattle.std.proofs.Common.{◌≡◌, ◌||◌, inl, inr, ℕ, List, [], ◌++◌, Option, sym, ap, ◌∙◌, subst}
-use Rattle.bf_output.specs.Shown.{TesterShown, IsUsed, command_of, shown_by}
+use Rattle.std.proofs.Common.{◌≡◌, ◌⊎◌, ◌||◌, inl, inr, ℕ, List, [], ◌++◌, Option, sym, ap, ◌∙◌, subst}
+use Rattle.bf_output.specs.Shown.{TesterShown, IsPrepared, command_of, shown_by}
 use Rattle.bf_journal.specs.Recalling.{Recalling, remembering}
 use Rattle.bf_search.specs.declared.outcomes.Outcome.{Outcome}
 use Rattle.bf_tester.specs.declared.answer.Answer.{Answer as Answered}
@@ -24,9 +24,9 @@ before_prepared by old mid new kept none is same =
 pub used_by : (request : Request) (words : List (List ℕ)) (before mid prepared after : TesterShown) → before ≡ mid
     → prepared.command ≡ command_of request words → prepared.is_lenient ≡ (mid.is_lenient || request.lenient)
     → PreparesTold request.lenient mid.plan prepared.plan → after.plan ≡ prepared.plan → after.command ≡ prepared.command
-    → after.is_lenient ≡ prepared.is_lenient → after.is_split ≡ mid.is_split → IsUsed request words before after
+    → after.is_lenient ≡ prepared.is_lenient → after.is_split ≡ mid.is_split → (after ≡ before) ⊎ IsPrepared request words before after
 used_by request words before mid prepared after same command lenient plan plan_kept command_kept lenient_kept split =
-    subst (λ (b : TesterShown). IsUsed request words b after) (sym same)
+    subst (λ (b : TesterShown). (after ≡ b) ⊎ IsPrepared request words b after) (sym same)
     (inr (record {
       command = command_kept ∙ command;
       is_lenient = lenient_kept ∙ lenient;
@@ -37,7 +37,7 @@ used_by request words before mid prepared after same command lenient plan plan_k
 -- for want of memory it took none
 pub unused_by : (request : Request) (words : List (List ℕ)) (before mid after : TesterShown) → before ≡ mid → after.plan ≡ mid.plan → after.command ≡ mid.command
     → after.is_lenient ≡ mid.is_lenient → after.answers ≡ mid.answers → after.faults ≡ mid.faults → after.failed ≡ mid.failed
-    → after.is_split ≡ mid.is_split → IsUsed request words before after
+    → after.is_split ≡ mid.is_split → (after ≡ before) ⊎ IsPrepared request words before after
 unused_by request words before mid after same plan command lenient answers faults failed split = inl (all ∙ sym same)
   where
     all : after ≡ mid

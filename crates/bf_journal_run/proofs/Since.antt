@@ -1,7 +1,7 @@
 -- What a journal keeps from leg to leg.
-use Rattle.std.proofs.Common.{◌≡◌, ◌≢◌, inl, inr, ℕ, Bool, true, false, if◌then◌else◌, List, length, Option, Some, None, IfSome, refl, sym, ap, ◌∙◌, option_map}
+use Rattle.std.proofs.Common.{◌≡◌, ◌≢◌, ◌⊎◌, inl, inr, ℕ, Bool, true, false, if◌then◌else◌, List, length, Option, Some, None, IfSome, refl, sym, ap, ◌∙◌, option_map}
 use Rattle.std.proofs.lemmas.List.Elements.{All-contains}
-use Rattle.bf_commands.specs.Journal.{IsKeptAs, KeepsAll}
+use Rattle.bf_commands.specs.Journal.{KeepsAll}
 use Rattle.bf_farm.specs.Reports.{TableIn}
 use Rattle.bf_oid.specs.declared.object.Oid.{Oid}
 use Rattle.bf_journal.specs.Recalling.{IsAsRemembered, KeepsRemembered}
@@ -65,7 +65,7 @@ keeps_all is_lenient names remembered answers inner opened table kept remembers 
   where
     by : (p : ℕ) (outcome : Outcome) → outcomes_of_table table p ≡ Some outcome → verdict_of outcome ≢ Abort
         → (o : Option Outcome) → outcomes_of_table opened p ≡ o
-        → (found : Outcome) × (outcomes_of_table kept p ≡ Some found) × IsKeptAs is_lenient found outcome
+        → (found : Outcome) × (outcomes_of_table kept p ≡ Some found) × ((found ≡ outcome) ⊎ (read_as is_lenient found ≡ outcome))
     by p outcome is other None was = (
       outcome,
       since p ∙ ap (λ (o : Option Outcome). kept_of o (outcomes_of_table table p)) was ∙ ap to_keep is ∙ marked outcome (verdict_of outcome) refl other,

@@ -7,8 +7,9 @@ use Rattle.bf_journal.specs.declared.disk.Disk.{Ghosts}
 use Rattle.bf_journal.specs.Disk.{Only}
 use Rattle.bf_journal.specs.Journal.{Keeping, FitsBytes}
 use Rattle.bf_output.proofs.Runs.{front_if_told}
+use Rattle.bf_output.specs.declared.status.Status.TheVariants as status
 use Rattle.bf_output.specs.Beginning.{Begun, log_on}
-use Rattle.bf_output.specs.Simulate.{out_of_memory}
+use Rattle.bf_output.specs.Simulate.{cut_short}
 use Rattle.bf_output.specs.Shown.{TesterShown}
 use Rattle.bf_output.specs.Tested.{run_on}
 use Rattle.bf_runs.proofs.Fresh.{none_known}
@@ -79,11 +80,12 @@ nothing_kept by disk journal request tested history first held only_now settled 
     let unknown = none_known (length history.parents) in
     let known = nothing_known_yet history.names tested.plan tested.answers (length history.parents) none refl in
     record {
-      told = out_of_memory history first (run_on history first none);
+      told = cut_short status.NoMemory history first (run_on history first none);
       is = record {
         table = none;
         known = known;
         planned = front_if_told tested.plan history first none known.planned;
+        alone = λ failed one. cc failed;
         tells = refl;
       };
       front = AppendsFront-none held (log_on history first (run_on history first none).entries);

@@ -8,9 +8,10 @@ use Rattle.bf_history.specs.Meanings.{History}
 use Rattle.bf_io.specs.Told.{Appends, AppendsFront}
 use Rattle.bf_journal.specs.declared.disk.Disk.{Ghosts}
 use Rattle.bf_journal.specs.Journal.{Keeping}
+use Rattle.bf_output.specs.declared.status.Status.TheVariants as status
 use Rattle.bf_output.specs.Beginning.{Begun}
 use Rattle.bf_output.specs.Shown.{TesterShown}
-use Rattle.bf_output.specs.Tested.{IsTestedRun, IsTestCut, IsTestLost}
+use Rattle.bf_output.specs.Tested.{IsTestedRun, IsTestCut}
 use Rattle.bf_output.specs.Told.{Told}
 use Rattle.bf_runs.specs.declared.case.Search.{Search as Searched}
 use Rattle.bf_runs.specs.Legs.{IsKnown}
@@ -118,14 +119,14 @@ pub record IsCutByDisk (images : List (Option Outcome) → Type 0) (disk : DiskM
 pub record IsCutByWrite (images : List (Option Outcome) → Type 0) (request : Request) (tested : TesterShown) (history : History) (first : Begun)
     (before after : Option (List ℕ)) : Type 0 where
   pub told : Told
-  pub is : IsTestCut request tested history first told
+  pub is : IsTestCut status.WriteFault request tested history first told
   pub front : AppendsFront before after told.text
   pub kept : images is.table
 
-pub record IsCutByMemory (images : List (Option Outcome) → Type 0) (tested : TesterShown) (history : History) (first : Begun)
+pub record IsCutByMemory (images : List (Option Outcome) → Type 0) (request : Request) (tested : TesterShown) (history : History) (first : Begun)
     (before after : Option (List ℕ)) : Type 0 where
   pub told : Told
-  pub is : IsTestLost tested history first told
+  pub is : IsTestCut status.NoMemory request tested history first told
   pub front : AppendsFront before after told.text
   pub kept : images is.table
 
@@ -135,7 +136,7 @@ abbrev pub IsEndedKept : (List (Option Outcome) → Type 0) → DiskMet → Requ
 IsEndedKept images disk request tested history first before after (Ok answer) = IsToldKept images request tested history first before after answer
 IsEndedKept images disk request tested history first before after (Err Journal) = IsCutByDisk images disk request tested history first before after
 IsEndedKept images disk request tested history first before after (Err Output) = IsCutByWrite images request tested history first before after
-IsEndedKept images disk request tested history first before after (Err NoMemory) = IsCutByMemory images tested history first before after
+IsEndedKept images disk request tested history first before after (Err NoMemory) = IsCutByMemory images request tested history first before after
 
 -- whatever search the run is of
 abbrev pub EndsKept : {J : Type 0} → Ghosts J → J → J → Searched → Running → TesterMet → List Answered → Keeping → SinkMet → Result Answer Cut → Type 0

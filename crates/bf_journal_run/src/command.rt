@@ -10,7 +10,8 @@ ghost use Rattle.bf_journal_run.specs.Journalling.{AreUnasked, ConcludesReady, I
 ghost use Rattle.bf_journal_run.specs.Legs.{met_disk};
 ghost use Rattle.bf_journal_run.specs.Searching.{IsUnopenedIfRefused};
 ghost use Rattle.bf_output.specs.Output.{IsUsedFor, asks_file, reads, tests};
-ghost use Rattle.bf_output.specs.Shown.{IsUsed, shown_by};
+ghost use Rattle.bf_output.specs.Shown.{shown_by};
+ghost use Rattle.bf_searches.specs.Lines.{IsUsedToTest};
 ghost use Rattle.bf_journal.specs.Recalling.{remembering};
 ghost use Rattle.bf_words.specs.declared.verb.Verb.TheVariants.{Run};
 
@@ -123,9 +124,8 @@ fn conclude<R: Host, T: Tester, J: Disk, K: Sink>(
         (met_tester ⟦<Recall<T> as Tester>⟧ tester.old tester.new) result }
     ensures write { result ≡ Status.WriteFault → Rose (K.faults out.old) (K.faults out.new) }
     ensures disk { result ≡ Status.JournalFault → Rose (J.faults disk.old) (J.faults disk.new) }
-    ensures used { IsUsed line.entry.request.now line.entry.words.now
-        (shown_by ⟦<Recall<T> as Tester>⟧ (remembering tester.old tester.new.remembered))
-        (shown_by ⟦<Recall<T> as Tester>⟧ tester.new) }
+    ensures used { IsUsedToTest line.entry (met_tester ⟦<Recall<T> as Tester>⟧
+        (remembering tester.old tester.new.remembered) tester.new) }
     ensures recalled { IsRecalledReady (met_disk J.Disk disk.old disk.new) line.entry ready
         tester.new.answers tester.new.remembered }
     ensures unasked { AreUnasked tester.new.remembered (T.answers tester.new.inner) }

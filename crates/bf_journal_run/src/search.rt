@@ -14,7 +14,8 @@ ghost use Rattle.bf_journal_run.specs.Held.{IsHeldIn};
 ghost use Rattle.bf_journal_run.specs.Kept.{AreLasting, answers_of};
 ghost use Rattle.bf_journal_run.specs.Legs.{IsEndedKept, met_disk};
 ghost use Rattle.bf_journal_run.specs.Searching.{ConcludesKept, IsRecalledIn, IsRefusedOnly, SaysKept};
-ghost use Rattle.bf_output.specs.Shown.{IsUsed, shown_by};
+ghost use Rattle.bf_output.specs.Shown.{shown_by};
+ghost use Rattle.bf_searches.specs.Lines.{IsUsedToTest};
 ghost use Rattle.bf_journal.specs.Recalling.{remembering};
 
 use crate::cut::Cut;
@@ -139,9 +140,8 @@ fn search_kept<R: Host, T: Tester, J: Disk, K: Sink>(
         (IsCaused true (met_tester ⟦<Recall<T> as Tester>⟧ tester.old tester.new)) }
     ensures write { FailsOnlyAt Cut.Output (K.faults out.old) (K.faults out.new) result }
     ensures failed { FailsOnlyAt Cut.Journal (J.faults disk.old) (J.faults disk.new) result }
-    ensures used { IsUsed line.entry.request.now line.entry.words.now
-        (shown_by ⟦<Recall<T> as Tester>⟧ (remembering tester.old tester.new.remembered))
-        (shown_by ⟦<Recall<T> as Tester>⟧ tester.new) }
+    ensures used { IsUsedToTest line.entry (met_tester ⟦<Recall<T> as Tester>⟧
+        (remembering tester.old tester.new.remembered) tester.new) }
     ensures recalled { (tester.new ≡ tester.old)
         ⊎ (tester.new.remembered ≡ answers_of started.history.names journal.kept) }
     ensures is_split { T.is_split tester.new.inner ≡ false }
@@ -192,9 +192,8 @@ pub(crate) fn search<R: Host, T: Tester, J: Disk, K: Sink>(
     ensures write { result ≡ Status.WriteFault → Rose (K.faults out.old) (K.faults out.new) }
     ensures disk { result ≡ Status.JournalFault → Rose (J.faults disk.old) (J.faults disk.new) }
     ensures refused { IsRefusedOnly result (J.told disk.new ≡ J.told disk.old) }
-    ensures used { IsUsed line.entry.request.now line.entry.words.now
-        (shown_by ⟦<Recall<T> as Tester>⟧ (remembering tester.old tester.new.remembered))
-        (shown_by ⟦<Recall<T> as Tester>⟧ tester.new) }
+    ensures used { IsUsedToTest line.entry (met_tester ⟦<Recall<T> as Tester>⟧
+        (remembering tester.old tester.new.remembered) tester.new) }
     ensures recalled { IsRecalledIn (met_disk J.Disk disk.old disk.new) line.entry started.history
         tester.new.answers tester.new.remembered }
     ensures held { IsHeldIn (met_disk J.Disk disk.old disk.new) line.entry started.history

@@ -1,18 +1,20 @@
 -- The searches of a list, one more by one more.
 use Rattle.std.proofs.Common.{◌≡◌, ℕ, ◌+◌, ◌<◌, false, List, [], ◌∷◌, ◌++◌, length, map, take, get_or, Option, Some, None, unwrap_or, Result, Ok, Err, refl, sym, ap, subst, ◌∙◌}
 use Rattle.std.specs.List.{All}
+use Rattle.std.specs.Result.{result_map_both}
 use Rattle.std.proofs.lemmas.List.{length-append, map-append, take_more}
 use Rattle.std.proofs.lemmas.List.Elements.{All-get_or}
 use Rattle.bf_answers.specs.Answers.{IsWhole}
 use Rattle.bf_answers.specs.Tellings.{begun_of, told_of}
 use Rattle.bf_answers.specs.declared.answer.Answer.{Answer}
 use Rattle.bf_answers.specs.declared.started.Beginning.{Beginning}
-use Rattle.bf_commands.specs.Many.{searched, searched_for}
+use Rattle.bf_commands.specs.Many.{searched}
 use Rattle.bf_state.specs.Ends.{HasEnds}
 use Rattle.bf_history.specs.Meanings.{History}
 use Rattle.bf_log.specs.Written.{known_after_all}
 use Rattle.bf_log.proofs.JoinedLogs.{log_joined}
 use Rattle.bf_output.specs.Beginning.{Begun as BegunOf, begun_with_skips, commits_of}
+use Rattle.bf_output.specs.Refusals.{usage}
 use Rattle.bf_output.specs.Simulate.{plan_of, ran, run_over, status_of_end}
 use Rattle.bf_output.specs.Told.{Told, told_by}
 use Rattle.bf_search.specs.declared.outcomes.Outcome.{Outcome}
@@ -36,17 +38,23 @@ use Rattle.bf_grammar.specs.Forms.{◌>>=◌}
 abbrev told_begun_so : History → Request → List (List ℕ) → Result BegunOf Told → Told
 told_begun_so history r words begins = told_by (begins >>= λ first. Ok (ran history first (run_over history first (plan_of r words))))
 
+-- what is told by what words ask for
+abbrev told_of_asked : History → List (List ℕ) → Result Request ℕ → Told
+told_of_asked history words asked = told_by (result_map_both (λ r. r) usage asked
+    >>= λ r. begun_with_skips r words None history
+    >>= λ first. Ok (ran history first (run_over history first (plan_of r words))))
+
 -- a search that is refused is told by its refusal
 pub searched_refused : (history : History) (words : List (List ℕ)) (r : Request) (refusal : Told) → request words ≡ Ok r
     → begun_with_skips r words None history ≡ Err refusal → refusal ≡ searched history words
 searched_refused history words r refusal asked refused =
-    sym (ap (λ (q : Result Request ℕ). searched_for q words history) asked ∙ ap (told_begun_so history r words) refused)
+    sym (ap (told_of_asked history words) asked ∙ ap (told_begun_so history r words) refused)
 
 -- one that begins is told by its run over the plan
 searched_begun : (history : History) (words : List (List ℕ)) (r : Request) (first : BegunOf) → request words ≡ Ok r
     → begun_with_skips r words None history ≡ Ok first → searched history words ≡ ran history first (run_over history first (plan_of r words))
 searched_begun history words r first asked begins =
-    ap (λ (q : Result Request ℕ). searched_for q words history) asked ∙ ap (told_begun_so history r words) begins
+    ap (told_of_asked history words) asked ∙ ap (told_begun_so history r words) begins
 
 -- the run behind the first lines of a log
 run_behind : (history : History) (first : Beginning) (begun : Begun) (run : Run) → IsBegunAs history first begun

@@ -1,10 +1,11 @@
 -- The searches of a list, line by line.
 use Rattle.std.proofs.Common.{◌≡◌, ℕ, ◌+◌, ◌≤◌, Bool, true, false, cond, ◌==◌, ◌||◌, List, [], ◌∷◌, ◌++◌, length, map, nat_lt, Option, Some, None, Result, Ok, Err, refl, sym, ap, subst, ◌∙◌, inl, inr, arith, append_assoc, append-nil}
 use Rattle.std.specs.List.{All}
+use Rattle.std.specs.Result.{is_err}
 use Rattle.std.proofs.lemmas.List.{length-append, map-append}
 use Rattle.std.proofs.lemmas.List.Elements.{All-push}
 use Rattle.std.proofs.lemmas.Bool.{cases_Bool, eqb-true, ltb-false}
-use Rattle.bf_commands.specs.Many.{asks_for_more, is_refused, is_wrong_line, refused_from, searches_of, words_of_line}
+use Rattle.bf_commands.specs.Many.{asks_for_more, is_wrong_line, refused_from, searches_of, words_of_line}
 use Rattle.bf_reading.specs.Reading.{lines_of}
 use Rattle.bf_words.specs.declared.request.Request.{Request}
 use Rattle.bf_words.specs.Words.{read_from, request, word_at}
@@ -32,15 +33,15 @@ or_last false b h = h
 -- a line that is read, and asks for no more
 pub right_line : (n : ℕ) (words : List (List ℕ)) (r : Request) → n ≤ 64 → request words ≡ Ok r → asks_for_more words ≡ false
     → is_wrong_line n words ≡ false
-right_line n words r few asked plain = or_false (n == 65) (is_refused words) (not_the_last n few) (rw asked plain)
+right_line n words r few asked plain = or_false (n == 65) (is_err (request words) || asks_for_more words) (not_the_last n few) (rw asked plain)
 
 -- one that asks for more
 pub wrong_options : (n : ℕ) (words : List (List ℕ)) (r : Request) → request words ≡ Ok r → asks_for_more words ≡ true → is_wrong_line n words ≡ true
-wrong_options n words r asked more = or_last (n == 65) (is_refused words) (rw asked more)
+wrong_options n words r asked more = or_last (n == 65) (is_err (request words) || asks_for_more words) (rw asked more)
 
 -- one whose words are at fault
 pub wrong_words : (n : ℕ) (words : List (List ℕ)) (word : ℕ) → request words ≡ Err word → is_wrong_line n words ≡ true
-wrong_words n words word fault = or_last (n == 65) (is_refused words) (rw fault refl)
+wrong_words n words word fault = or_last (n == 65) (is_err (request words) || asks_for_more words) (rw fault refl)
 
 -- the 65th
 pub one_too_many : (n : ℕ) (words : List (List ℕ)) → n ≡ 65 → is_wrong_line n words ≡ true

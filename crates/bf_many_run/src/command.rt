@@ -5,6 +5,8 @@ ghost use Rattle.bf_output.specs.Shown.{TesterShown};
 ghost use Rattle.bf_answers.specs.Answers.{Answers, IsComplete, IsWholeAnswer};
 ghost use Rattle.bf_answers.specs.Devices.{IsLeftUnless, met_shelf, met_sink, met_source, met_untested};
 ghost use Rattle.bf_commands.specs.Many as many;
+ghost use Rattle.bf_words.specs.Options as options;
+ghost use Rattle.bf_words.specs.declared.options.Form.TheVariants.{Count};
 ghost use Rattle.bf_many_run.specs.Command.{IsAsked, IsCount, loads_list, to_many};
 ghost use Rattle.bf_many_run.specs.Tells.{TellsOutput, TellsStreamed, TellsText};
 
@@ -91,7 +93,7 @@ fn workers_of(words: &[Word]) -> Result<u32, u32>
 
 /// A number of workers, 1 to 64.
 fn count_of(word: &[u8]) -> Option<u32>
-    ensures count { result ≡ many.workers_of word.now }
+    ensures count { result ≡ options.count_of (Count 64) word.now }
     ensures bounds { IfSome result IsCount }
 {
     match decimal(word) {

@@ -185,7 +185,8 @@ pub(crate) fn search_all<R: Host>(
     requires workers { IsCount workers }
     requires few { length lines.now ≤ 64 }
     requires asked { All IsAskedBy lines.now }
-    ensures told { IfOk result (Says (many.all_searched history.now (map words_in lines.now))) }
+    ensures told { let told = map (many.searched history.now) (map words_in lines.now) in
+        IfOk result (Says (many.told_of_all told)) }
     ensures whole { IfOk result IsWholeAnswer }
     ensures memory { (IsErrOf result Fault.Read → ⊥) × (IsErrOf result Fault.Shelf → ⊥) }
 {

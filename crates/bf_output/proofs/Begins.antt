@@ -2,6 +2,7 @@
 use Rattle.std.proofs.Common.{◌≡◌, ℕ, ◌<◌, cond, Bool, true, false, List, [], ◌∷◌, length, Option, Some, None, IfSome, Result, Ok, Err, IfOk, refl, subst}
 use Rattle.std.proofs.lemmas.List.Elements.{All-append, All-cons, All-filter, All-nil}
 use Rattle.std.specs.List.{All, range_with_len}
+use Rattle.std.specs.Result.{result_map_both}
 use Rattle.bf_history.specs.Meanings.{History}
 use Rattle.bf_names.specs.declared.fault.NameFault.{NameFault}
 use Rattle.bf_names.specs.Names.{name, range}
@@ -10,8 +11,9 @@ use Rattle.bf_search.proofs.Turns.{range_within}
 use Rattle.bf_io.specs.declared.shelf.LoadFault.{LoadFault}
 use Rattle.bf_words.specs.declared.request.Request.{Request}
 use Rattle.bf_words.specs.Words.{word_at}
-use Rattle.bf_output.specs.Beginning.{Begun, name_or_refusal, named, named_if_given, gathered, one_named, all_named, meant, places_meant, all_meant}
+use Rattle.bf_output.specs.Beginning.{Begun, named, named_if_given, gathered, one_named, meant, places_meant}
 use Rattle.bf_output.specs.Beginning.{between_ends, begun_by_words, begun_by, has_ends, with_ends, with_skips, begun_with_skips}
+use Rattle.bf_output.specs.Refusals.{name_refused}
 use Rattle.bf_output.specs.Told.{Told}
 use Rattle.bf_output.proofs.Loading.{IsWhole}
 use Rattle.bf_output.proofs.Places.{name_below, range_row}
@@ -22,7 +24,7 @@ then_ok : {X Y : Type 0} (P : X → Type 0) (Q : Y → Type 0) (a : Result X Tol
 then_ok P Q (Ok x) next h k = k x h
 then_ok P Q (Err told) next h k = tt
 
-unless_refused : {X : Type 0} (P : X → Type 0) (word : ℕ) (r : Result X NameFault) → IfOk r P → IfOk (name_or_refusal word r) P
+unless_refused : {X : Type 0} (P : X → Type 0) (word : ℕ) (r : Result X NameFault) → IfOk r P → IfOk (result_map_both (λ (x : X). x) (name_refused word) r) P
 unless_refused P word (Ok x) h = h
 unless_refused P word (Err fault) h = tt
 
@@ -46,7 +48,7 @@ module _ (history : History) (w : IsWhole history) (words : List (List ℕ)) whe
       (λ xs here. then_ok (All IsPlace) (All IsPlace) (gathered give is) _ (gathered_below give h is)
       (λ ps there. All-append IsPlace xs ps here there))
 
-  all_below : (is : List ℕ) → IfOk (all_named history words is) (All IsPlace)
+  all_below : (is : List ℕ) → IfOk (gathered (one_named history words) is) (All IsPlace)
   all_below is =
       gathered_below (one_named history words)
       (λ i. then_ok IsPlace (All IsPlace) (named history words i) (λ p. Ok (p ∷ [])) (named_below i) (λ p below. All-cons IsPlace p [] below (All-nil IsPlace)))
@@ -61,7 +63,7 @@ module _ (history : History) (w : IsWhole history) (words : List (List ℕ)) whe
   meant_row i = unless_refused (λ (row : List Bool). length row ≡ length history.parents) i (range history (word_at words i))
       (range_row history w (word_at words i))
 
-  meant_below : (is : List ℕ) → IfOk (all_meant history words is) (All IsPlace)
+  meant_below : (is : List ℕ) → IfOk (gathered (places_meant history words) is) (All IsPlace)
   meant_below is =
       gathered_below (places_meant history words)
       (λ i. then_ok (λ (row : List Bool). length row ≡ length history.parents) (All IsPlace) (meant history words i) (λ row. Ok (places_of row)) (meant_row i)
@@ -98,7 +100,7 @@ pub is_begun : (request : Request) (words : List (List ℕ)) (file : Option (Res
     → IsWhole history → begun_with_skips request words file history ≡ Ok first → IsBegun request words file history first
 unfolding begun_with_skips
 is_begun request words file history first w e =
-    skipped request words file history first (begun_by request words file history) (all_meant history words request.skips) refl
+    skipped request words file history first (begun_by request words file history) (gathered (places_meant history words) request.skips) refl
     (meant_below history w words request.skips) e
 
 -- ---- the ends that words name
@@ -122,5 +124,5 @@ pub are_named : (request : Request) (words : List (List ℕ)) (history : History
     → begun_by_words request words history ≡ Ok bare → AreNamed request history bare
 unfolding begun_by_words
 are_named request words history bare w e =
-    ends_named request history bare (named_if_given history words request.bad) (all_named history words request.goods)
+    ends_named request history bare (named_if_given history words request.bad) (gathered (one_named history words) request.goods)
     (given_below history w words request.bad) (all_below history w words request.goods) e

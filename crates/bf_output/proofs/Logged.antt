@@ -1,6 +1,7 @@
 -- What `simulate` and `run` tell of a search that came to its end begins with its log.
 use Rattle.std.proofs.Common.{◌≡◌, ℕ, Bool, true, false, List, [], ◌∷◌, ◌++◌, Option, Some, None, IfSome, Result, Ok, Err, IfErr, inl, inr, refl, sym, ap}
 use Rattle.std.proofs.Common.{subst, ◌∙◌, append-nil, if◌then◌else◌}
+use Rattle.std.specs.Result.{result_map_both}
 use Rattle.bf_grammar.specs.Limits.{standard_limits}
 use Rattle.bf_grammar.specs.declared.fault.StreamFault.{StreamFault}
 use Rattle.bf_grammar.specs.declared.fault.StreamFault.TheVariants as stream
@@ -29,10 +30,10 @@ use Rattle.bf_words.specs.declared.verb.Verb.{Verb}
 use Rattle.bf_words.specs.declared.verb.Verb.TheVariants.{Simulate, Run, Next, Replay, Gen, Sample}
 use Rattle.bf_words.specs.Words as asked
 use Rattle.bf_words.specs.Words.{word_at}
-use Rattle.bf_output.specs.Beginning.{Begun, name_or_refusal, named, named_if_given, gathered, one_named, all_named, meant, places_meant, all_meant}
-use Rattle.bf_output.specs.Beginning.{begun_by_words, begun_by_log, begun_by, commits_of, with_ends, begun_with_skips, has_ends}
+use Rattle.bf_output.specs.Beginning.{Begun, named, named_if_given, gathered, one_named, meant, places_meant}
+use Rattle.bf_output.specs.Beginning.{begun_behind, begun_by_words, begun_by, commits_of, with_ends, begun_with_skips, has_ends}
 use Rattle.bf_output.specs.Logged.{EndsSearch, IsFileGiven, IsGivenBack, searches, AreOutcomesOf, IsLogged, told_as}
-use Rattle.bf_output.specs.Logs.{file_or_refusal, lines_or_refusal, replayed_or_refusal, replayed_log}
+use Rattle.bf_output.specs.Logs.{file_or_refusal, replayed_or_refusal, replayed_log}
 use Rattle.bf_output.specs.Output.{Given, IsOver, IsOverFile, IsOutput, IsOutputOf, IsSearched}
 use Rattle.bf_output.specs.Inputs.{IsFiledIf, IsStreamed, IsToldFrom, IsToldOr, file_of}
 use Rattle.bf_output.specs.Refusals.{name_refused, no_content, refused_at, waiting, refusal, too_large, log_refused, usage}
@@ -56,7 +57,7 @@ next_ends : {X Y : Type 0} (a : Result X Told) (next : X → Result Y Told) → 
 next_ends (Ok x) next h k = k x
 next_ends (Err told) next h k = h
 
-name_ends : {X : Type 0} (word : ℕ) (r : Result X NameFault) → NeverEnds (name_or_refusal word r)
+name_ends : {X : Type 0} (word : ℕ) (r : Result X NameFault) → NeverEnds (result_map_both (λ (x : X). x) (name_refused word) r)
 unfolding name_refused
 name_ends word (Ok x) = tt
 name_ends word (Err fault) = λ e. e
@@ -72,12 +73,12 @@ module _ (history : History) (words : List (List ℕ)) where
   gathered_ends give h (i ∷ is) =
       next_ends (give i) _ (h i) (λ xs. next_ends (gathered give is) _ (gathered_ends give h is) (λ ps. tt))
 
-  all_ends : (is : List ℕ) → NeverEnds (all_named history words is)
+  all_ends : (is : List ℕ) → NeverEnds (gathered (one_named history words) is)
   all_ends is =
       gathered_ends (one_named history words)
       (λ i. next_ends (named history words i) (λ p. Ok (p ∷ [])) (name_ends i (name history (word_at words i))) (λ p. tt)) is
 
-  meant_ends : (is : List ℕ) → NeverEnds (all_meant history words is)
+  meant_ends : (is : List ℕ) → NeverEnds (gathered (places_meant history words) is)
   meant_ends is =
       gathered_ends (places_meant history words)
       (λ i. next_ends (meant history words i) _ (name_ends i (range history (word_at words i))) (λ row. tt)) is
@@ -86,7 +87,7 @@ module _ (history : History) (words : List (List ℕ)) where
   unfolding begun_by_words
   words_end request =
       next_ends (named_if_given history words request.bad) _ (given_ends request.bad)
-      (λ bad. next_ends (all_named history words request.goods) _ (all_ends request.goods) (λ goods. tt))
+      (λ bad. next_ends (gathered (one_named history words) request.goods) _ (all_ends request.goods) (λ goods. tt))
 
 file_ends : (file : Result (List ℕ) LoadFault) → NeverEnds (file_or_refusal file)
 unfolding too_large
@@ -96,7 +97,7 @@ file_ends (Err TooLong) = λ e. e
 file_ends (Err Failed) = λ e. e
 file_ends (Err NoMemory) = λ e. e
 
-lines_end : (read : Result (List LogLine) ℕ) → NeverEnds (lines_or_refusal read)
+lines_end : (read : Result (List LogLine) ℕ) → NeverEnds (result_map_both (λ (lines : List LogLine). lines) log_refused read)
 unfolding log_refused
 lines_end (Ok lines) = tt
 lines_end (Err line) = λ e. e
@@ -108,12 +109,14 @@ replayed_ends (Err (Name line fault)) = λ e. e
 replayed_ends (Err (NotStarted line)) = λ e. e
 replayed_ends (Err (Term line)) = λ e. e
 
-log_ends : (history : History) (file : Result (List ℕ) LoadFault) → NeverEnds (begun_by_log history file)
-unfolding begun_by_log replayed_log
+log_ends : (history : History) (file : Result (List ℕ) LoadFault) → NeverEnds (replayed_log history file >>= λ replayed. Ok (begun_behind replayed))
+unfolding replayed_log
 log_ends history file =
-    next_ends (file_or_refusal file >>= λ bytes. lines_or_refusal (read_log bytes) >>= λ lines. replayed_or_refusal (replay_in history lines)) _
+    next_ends (file_or_refusal file >>= λ bytes. result_map_both (λ (lines : List LogLine). lines) log_refused (read_log bytes)
+    >>= λ lines. replayed_or_refusal (replay_in history lines)) _
     (next_ends (file_or_refusal file) _ (file_ends file)
-    (λ bytes. next_ends (lines_or_refusal (read_log bytes)) _ (lines_end (read_log bytes)) (λ lines. replayed_ends (replay_in history lines))))
+    (λ bytes. next_ends (result_map_both (λ (lines : List LogLine). lines) log_refused (read_log bytes)) _ (lines_end (read_log bytes))
+    (λ lines. replayed_ends (replay_in history lines))))
     (λ replayed. tt)
 
 first_ends : (request : Request) (words : List (List ℕ)) (file : FileGiven) (history : History) → NeverEnds (begun_by request words file history)
@@ -132,7 +135,7 @@ begun_ends : (request : Request) (words : List (List ℕ)) (file : FileGiven) (h
 unfolding begun_with_skips
 begun_ends request words file history =
     next_ends (begun_by request words file history) _ (first_ends request words file history)
-    (λ first. next_ends (all_meant history words request.skips) _ (meant_ends history words request.skips)
+    (λ first. next_ends (gathered (places_meant history words) request.skips) _ (meant_ends history words request.skips)
     (λ ps. next_ends (with_ends first) _ (waiting_ends first) (λ whole. tt)))
 
 stream_ends : (fault : StreamFault) → IsNoEnd (refusal (faults.Stream fault))

@@ -35,7 +35,7 @@ use Rattle.bf_output.specs.Beginning.{Begun, begun_with_skips}
 use Rattle.bf_output.specs.Gen.{generated, made_stream}
 use Rattle.bf_output.specs.Next.{next_told}
 use Rattle.bf_output.specs.Output.{Given, given_to, IsOver, IsOverFile, IsOutputOf, IsSearched, is_run}
-use Rattle.bf_output.specs.Inputs.{IsFiledIf, IsReadAs, IsToldFrom, IsToldOr, file_of}
+use Rattle.bf_output.specs.Inputs.{IsFiledIf, IsReadUnder, IsToldFrom, IsToldOr, file_of}
 use Rattle.bf_output.specs.Output.{tests, traces}
 use Rattle.bf_output.specs.Refusals.{usage, refusal}
 use Rattle.bf_output.specs.Replay.{replay_told}
@@ -112,7 +112,7 @@ module _ (told other : Told) (whole : told.status ≢ status.WriteFault) (also_w
   one_loaded request (Err fault) untested untraced is also = is ∙ sym also
 
   one_over_bytes : (request : Request) (bytes : List ℕ) → is_run request.verb ≡ false → request.trace ≡ false
-      → IsReadAs (IsOver request given) bytes told → IsReadAs (IsOver request given) bytes other → told ≡ other
+      → IsReadUnder standard_limits (IsOver request given) bytes told → IsReadUnder standard_limits (IsOver request given) bytes other → told ≡ other
   one_over_bytes request bytes untested untraced (result, loads, is) (again, reloads, also) =
       one_loaded request again untested untraced
       (subst (λ (r : Result History ImportFault). IsToldOr refusal (IsOver request given) r told) (one_loading bytes standard_limits result again loads reloads) is) also
@@ -229,7 +229,8 @@ module _ (words : List (List ℕ)) (files : List ShelfFile) (tested : TesterShow
   some_loaded request (Ok history) untraced = some_log request.replay request history untraced
   some_loaded request (Err fault) untraced = (refusal fault, refl)
 
-  some_over_bytes : (request : Request) (bytes : List ℕ) → request.trace ≡ false → (told : Told) × IsReadAs (IsOver request some_given) bytes told
+  some_over_bytes : (request : Request) (bytes : List ℕ) → request.trace ≡ false
+      → (told : Told) × IsReadUnder standard_limits (IsOver request some_given) bytes told
   some_over_bytes request bytes untraced =
       let found = some_loading bytes standard_limits in
       let answer = some_loaded request found.0 untraced in

@@ -1,5 +1,6 @@
 -- A search that goes on from a file: the file with an LF at its end leads to where it goes on.
 use Rattle.std.proofs.Common.{◌≡◌, ℕ, Bool, true, is_some, ◌&&◌, nat_lt, List, [], ◌∷◌, ◌++◌, length, Option, Some, None, Result, Ok, Err, refl, ap, ◌∙◌}
+use Rattle.std.specs.Result.{result_map_both}
 use Rattle.bf_history.specs.Meanings.{History}
 use Rattle.bf_log.specs.Back.{LeadsTo}
 use Rattle.bf_log.specs.Replay.{Replayed, ReplayFault, Name, NotStarted, Term}
@@ -10,8 +11,9 @@ use Rattle.bf_replay.specs.Meaning.{setting_of, replay_in}
 use Rattle.bf_io.specs.declared.shelf.LoadFault.{LoadFault}
 use Rattle.bf_io.specs.declared.shelf.LoadFault.TheVariants.{Missing, TooLong, Failed, NoMemory}
 use Rattle.bf_terms.specs.Words.{term_fault}
-use Rattle.bf_output.specs.Beginning.{Begun, begun_behind, begun_by_log, has_ends}
-use Rattle.bf_output.specs.Logs.{lines_or_refusal, replayed_or_refusal, replayed_log}
+use Rattle.bf_output.specs.Beginning.{Begun, begun_behind, has_ends}
+use Rattle.bf_output.specs.Logs.{replayed_or_refusal, replayed_log}
+use Rattle.bf_output.specs.Refusals.{log_refused}
 use Rattle.bf_output.specs.Told.{Told}
 use Rattle.bf_output.proofs.Closing.{accepted_replayed, closed_replayed}
 use Rattle.bf_output.proofs.Ended.{read_ended}
@@ -32,7 +34,8 @@ unrefused (Err (NotStarted line)) replayed e = cc e
 unrefused (Err (Term line)) replayed e = cc e
 
 behind_lines : (history : History) (bytes : List ℕ) (replayed : Replayed) (read : Result (List LogLine) ℕ) → read_log bytes ≡ read
-    → (lines_or_refusal read >>= λ lines. replayed_or_refusal (replay_in history lines)) ≡ Ok replayed → IsReplayed history (Ok bytes) replayed
+    → (result_map_both (λ (lines : List LogLine). lines) log_refused read >>= λ lines. replayed_or_refusal (replay_in history lines)) ≡ Ok replayed
+    → IsReplayed history (Ok bytes) replayed
 behind_lines history bytes replayed (Err line) is e = cc e
 behind_lines history bytes replayed (Ok lines) is e = record {
   bytes = bytes;
@@ -62,9 +65,8 @@ behind_log : (history : History) (file : Result (List ℕ) LoadFault) (bare : Be
 behind_log history file bare (Err told) is e = cc e
 behind_log history file bare (Ok replayed) is e = record { replayed = replayed; log = is_replayed history file replayed is; is = cc e }
 
-pub goes_on_behind : (history : History) (file : Result (List ℕ) LoadFault) (bare : Begun) → begun_by_log history file ≡ Ok bare
-    → GoesOnBehind history file bare
-unfolding begun_by_log
+pub goes_on_behind : (history : History) (file : Result (List ℕ) LoadFault) (bare : Begun)
+    → (replayed_log history file >>= λ replayed. Ok (begun_behind replayed)) ≡ Ok bare → GoesOnBehind history file bare
 goes_on_behind history file bare e = behind_log history file bare (replayed_log history file) refl e
 
 some_bad : (bad : Option ℕ) (goods : Bool) → (is_some bad && goods) ≡ true → (p : ℕ) × (bad ≡ Some p)

@@ -4,7 +4,9 @@ use Rattle.std.proofs.lemmas.List.{append-nil}
 use Rattle.std.proofs.lemmas.List.Elements.{All-head, All-tail}
 use Rattle.std.specs.List.{All}
 use Rattle.bf_search.specs.declared.entries.Entry.{Entry}
+use Rattle.bf_search.specs.declared.entries.Entry.TheVariants.{Marked}
 use Rattle.bf_search.specs.declared.outcomes.Mark.TheVariants.{Skip}
+use Rattle.bf_search.specs.Run.{warnings}
 use Rattle.bf_search.specs.State.{Search, IsSearchOver, ask, mark}
 use Rattle.bf_state.proofs.Asks.{ask_leaves}
 use Rattle.bf_terms.specs.Texts.{Known}
@@ -13,19 +15,23 @@ use Rattle.bf_log.specs.LogState.{LogState, retold}
 use Rattle.bf_log.specs.Written.{known_after_all}
 use Rattle.bf_log.proofs.EntryWalks.{retold_mark}
 use Rattle.bf_log.proofs.Whole.{are_append, retold_append}
-use Rattle.bf_output.specs.Beginning.{Begun, skip_entries, with_skip, with_skips}
+use Rattle.bf_output.specs.Beginning.{Begun, with_skip, with_skips}
 
-one_are : (n : ℕ) (warned : List ℕ) (p : ℕ) → p < n → AreRunEntries n (skip_entries warned p)
+one_are : (n : ℕ) (warned : List ℕ) (p : ℕ) → p < n → AreRunEntries n (warnings warned ++ Marked Skip p ∷ [])
 one_are n [] p h = (h, tt)
 one_are n (w ∷ warned) p h = one_are n warned p h
 
-one_known : (known : Known) (warned : List ℕ) (p : ℕ) (more : List Entry) → known_after_all known (skip_entries warned p ++ more) ≡ known_after_all known more
+one_known : (known : Known) (warned : List ℕ) (p : ℕ) (more : List Entry)
+    → known_after_all known ((warnings warned ++ Marked Skip p ∷ []) ++ more) ≡ known_after_all known more
 one_known known [] p more = refl
 one_known known (w ∷ warned) p more = one_known known warned p more
 
 one_told : (graph : List (List ℕ)) (told : LogState) (p : ℕ)
-    → retold graph told (skip_entries (ask graph told.search).step.warned p)
-    ≡ record { search = mark (ask graph told.search).search Skip p; entries = told.entries ++ skip_entries (ask graph told.search).step.warned p }
+    → retold graph told (warnings (ask graph told.search).step.warned ++ Marked Skip p ∷ [])
+    ≡ record {
+      search = mark (ask graph told.search).search Skip p;
+      entries = told.entries ++ (warnings (ask graph told.search).step.warned ++ Marked Skip p ∷ []);
+    }
 unfolding retold
 one_told graph told p = retold_mark graph told (ask graph told.search).step.warned Skip p []
 
@@ -64,7 +70,7 @@ are_skips graph first [] within = record {
   over = λ over. over;
 }
 are_skips graph first (p ∷ ps) within =
-    let one : List Entry = skip_entries (ask graph first.search).step.warned p in
+    let one : List Entry = warnings (ask graph first.search).step.warned ++ Marked Skip p ∷ [] in
     let rest : AreSkips graph (with_skip graph first p) (with_skips graph (with_skip graph first p) ps) =
     are_skips graph (with_skip graph first p) ps (All-tail (λ q. q < length graph) p ps within) in
     record {

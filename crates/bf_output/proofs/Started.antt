@@ -1,5 +1,5 @@
 -- A search that words for its ends began, with its skips: its entries are a start and entries of a run.
-use Rattle.std.proofs.Common.{◌≡◌, ℕ, ◌<◌, true, false, is_some, nat_lt, List, [], ◌∷◌, length, Option, Some, None, IfSome, refl, sym, ap, subst, ◌∙◌}
+use Rattle.std.proofs.Common.{◌≡◌, ℕ, ◌<◌, true, false, is_some, nat_lt, List, [], ◌∷◌, length, Option, Some, None, IfSome, unwrap_or, refl, sym, ap, subst, ◌∙◌}
 use Rattle.std.proofs.lemmas.Bool.{and_parts, both_ways}
 use Rattle.std.proofs.lemmas.List.Elements.{All-nil}
 use Rattle.std.specs.List.{All}
@@ -16,9 +16,9 @@ use Rattle.bf_search.specs.declared.entries.Entry.TheVariants.{Start}
 use Rattle.bf_search.specs.State.{IsSearchOver}
 use Rattle.bf_state.proofs.Below.{below_begun, IsSearchOver-from_below}
 use Rattle.bf_state.proofs.Once.{All-with_goods}
-use Rattle.bf_terms.specs.Texts.{Sides, nothing_known, with_goods}
+use Rattle.bf_terms.specs.Texts.{Sides, nothing_known, standard_sides, with_goods}
 use Rattle.bf_words.specs.declared.request.Request.{Request}
-use Rattle.bf_output.specs.Beginning.{Begun, between_ends, has_ends, sides_or_standard, with_skips}
+use Rattle.bf_output.specs.Beginning.{Begun, between_ends, has_ends, with_skips}
 use Rattle.bf_output.proofs.Accepted.{AreAccepted}
 use Rattle.bf_output.proofs.Skips.{AreSkips, are_skips}
 
@@ -35,11 +35,11 @@ pub record IsStarted (history : History) (first : Begun) : Type 0 where
   pub lead : retold history.parents (told_of history.parents start) later ≡ record { search = first.search; entries = first.entries }
   pub over : IsSearchOver history.parents first.search
 
-sides_fit : (terms : Option Sides) → FitsStart (sides_or_standard terms) (is_some terms)
+sides_fit : (terms : Option Sides) → FitsStart (unwrap_or terms standard_sides) (is_some terms)
 sides_fit None = refl
 sides_fit (Some sides) = tt
 
-sides_accepted : (terms : Option Sides) → IfSome terms AreAccepted → AreAccepted (sides_or_standard terms)
+sides_accepted : (terms : Option Sides) → IfSome terms AreAccepted → AreAccepted (unwrap_or terms standard_sides)
 sides_accepted None h = refl
 sides_accepted (Some sides) h = h
 

@@ -1,8 +1,8 @@
 -- How a search begins: with the ends that words name or with a log that is replayed, and the commits that --skip names.
-use Rattle.std.specs.Prelude.{ℕ, Bool, ◌&&◌, nat_lt, if◌then◌else◌, List, [], ◌∷◌, ◌++◌, length, map, Option, Some, None, is_some, Result, Ok, Err}
+use Rattle.std.specs.Prelude.{ℕ, Bool, ◌&&◌, nat_lt, if◌then◌else◌, List, [], ◌∷◌, ◌++◌, length, map, Option, Some, None, is_some, unwrap_or, Result, Ok, Err}
+use Rattle.std.specs.Result.{result_map_both}
 use Rattle.bf_oid.specs.declared.object.Oid.{Oid}
 use Rattle.bf_history.specs.Meanings.{History}
-use Rattle.bf_names.specs.declared.fault.NameFault.{NameFault}
 use Rattle.bf_names.specs.Names.{name, range}
 use Rattle.bf_search.specs.declared.entries.Entry.{Entry}
 use Rattle.bf_search.specs.declared.entries.Entry.TheVariants.{Start, Marked}
@@ -40,13 +40,9 @@ log_on history first entries = log_from (commits_of history) first.sides first.k
 
 -- ---- names
 
-abbrev pub name_or_refusal : {X : Type 0} → ℕ → Result X NameFault → Result X Told
-name_or_refusal word (Ok x) = Ok x
-name_or_refusal word (Err fault) = Err (name_refused word fault)
-
--- the place that the word of an index names
+-- the place that the word of an index names, or the refusal of that word
 abbrev pub named : History → List (List ℕ) → ℕ → Result ℕ Told
-named history words i = name_or_refusal i (name history (word_at words i))
+named history words i = result_map_both (λ p. p) (name_refused i) (name history (word_at words i))
 
 abbrev pub named_if_given : History → List (List ℕ) → Option ℕ → Result (Option ℕ) Told
 named_if_given history words None = Ok None
@@ -57,44 +53,34 @@ unfoldable pub gathered : (ℕ → Result (List ℕ) Told) → List ℕ → Resu
 gathered give [] = Ok []
 gathered give (i ∷ is) = give i >>= λ xs. gathered give is >>= λ ps. Ok (xs ++ ps)
 
+-- that place alone
 abbrev pub one_named : History → List (List ℕ) → ℕ → Result (List ℕ) Told
 one_named history words i = named history words i >>= λ p. Ok (p ∷ [])
 
--- the places that words name, in their order
-abbrev pub all_named : History → List (List ℕ) → List ℕ → Result (List ℕ) Told
-all_named history words is = gathered (one_named history words) is
-
--- by place, whether a word of --skip means it
+-- by place, whether a word of --skip means it, or the refusal of that word
 abbrev pub meant : History → List (List ℕ) → ℕ → Result (List Bool) Told
-meant history words i = name_or_refusal i (range history (word_at words i))
+meant history words i = result_map_both (λ row. row) (name_refused i) (range history (word_at words i))
 
+-- the places that a word of --skip means, by place
 abbrev pub places_meant : History → List (List ℕ) → ℕ → Result (List ℕ) Told
 places_meant history words i = meant history words i >>= λ row. Ok (places_of row)
 
--- the places that words of --skip mean: those of each word by place, in the order of the words
-abbrev pub all_meant : History → List (List ℕ) → List ℕ → Result (List ℕ) Told
-all_meant history words is = gathered (places_meant history words) is
-
 -- ---- the beginning
-
-abbrev pub sides_or_standard : Option Sides → Sides
-sides_or_standard None = standard_sides
-sides_or_standard (Some sides) = sides
 
 -- a search between ends; of equal good places the first is kept
 abbrev pub between_ends : Request → ℕ → Option ℕ → List ℕ → Begun
 between_ends request len bad goods = record {
-  sides = sides_or_standard request.terms;
+  sides = unwrap_or request.terms standard_sides;
   known = nothing_known;
   search = begun len request.first_parent bad goods;
   entries = Start request.first_parent (is_some request.terms) bad (with_goods [] goods) ∷ [];
 }
 
--- the bad word is tried first, then the good ones
+-- the bad word is tried first, then the good ones in their order
 unfoldable pub begun_by_words : Request → List (List ℕ) → History → Result Begun Told
 begun_by_words request words history =
     named_if_given history words request.bad
-    >>= λ bad. all_named history words request.goods
+    >>= λ bad. gathered (one_named history words) request.goods
     >>= λ goods. Ok (between_ends request (length history.parents) bad goods)
 
 -- a search that goes on from a replayed log, whose lines stand already
@@ -106,23 +92,16 @@ begun_behind replayed = record {
   entries = [];
 }
 
-unfoldable pub begun_by_log : History → Result (List ℕ) LoadFault → Result Begun Told
-begun_by_log history file = replayed_log history file >>= λ replayed. Ok (begun_behind replayed)
-
 -- by the words, or where they name a log by its file
 abbrev pub begun_by : Request → List (List ℕ) → Option (Result (List ℕ) LoadFault) → History → Result Begun Told
 begun_by request words None history = begun_by_words request words history
-begun_by request words (Some file) history = begun_by_log history file
+begun_by request words (Some file) history = replayed_log history file >>= λ replayed. Ok (begun_behind replayed)
 
--- the entries of a skip: the skipped merge bases that are passed over come before its own
-abbrev pub skip_entries : List ℕ → ℕ → List Entry
-skip_entries warned p = warnings warned ++ Marked Skip p ∷ []
-
--- A place is skipped, whatever is asked.
+-- A place is skipped, whatever is asked. The skipped merge bases that are passed over come before its own entry.
 abbrev pub with_skip : List (List ℕ) → Begun → ℕ → Begun
 with_skip graph first p = record first {
   search = mark (ask graph first.search).search Skip p;
-  entries = first.entries ++ skip_entries (ask graph first.search).step.warned p;
+  entries = first.entries ++ (warnings (ask graph first.search).step.warned ++ Marked Skip p ∷ []);
 }
 
 unfoldable pub with_skips : List (List ℕ) → Begun → List ℕ → Begun
@@ -137,10 +116,10 @@ abbrev pub with_ends : Begun → Result Begun Told
 with_ends first =
     if has_ends first.search then Ok first else Err (waiting first.sides (is_some first.search.bad) (length first.search.goods))
 
--- the ends or the log are tried first, then the words of --skip, and then whether an end is missing
+-- the ends or the log are tried first, then the words of --skip in their order, and then whether an end is missing
 unfoldable pub begun_with_skips : Request → List (List ℕ) → Option (Result (List ℕ) LoadFault) → History → Result Begun Told
 begun_with_skips request words file history =
     begun_by request words file history
-    >>= λ first. all_meant history words request.skips
+    >>= λ first. gathered (places_meant history words) request.skips
     >>= λ ps. with_ends first
     >>= λ whole. Ok (with_skips history.parents whole ps)

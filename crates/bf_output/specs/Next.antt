@@ -3,7 +3,6 @@ use Rattle.std.specs.Prelude.{ℕ, List, ◌++◌, Option, Result, Ok}
 use Rattle.bf_search.specs.Ends.{end_entries}
 use Rattle.bf_history.specs.Meanings.{History}
 use Rattle.bf_search.specs.declared.asks.Step.{Step}
-use Rattle.bf_search.specs.declared.entries.Entry.{Entry}
 use Rattle.bf_search.specs.State as searches
 use Rattle.bf_search.specs.Run.{warnings}
 use Rattle.bf_io.specs.declared.shelf.LoadFault.{LoadFault}
@@ -14,14 +13,11 @@ use Rattle.bf_output.specs.Simulate.{status_of_ask}
 use Rattle.bf_output.specs.Told.{Told}
 use Rattle.bf_grammar.specs.Forms.{◌>>=◌}
 
--- the entries that one ask writes: the skipped merge bases that it passes over, and its end
-abbrev pub asked_entries : Step → List Entry
-asked_entries step = warnings step.warned ++ end_entries step.ask
-
+-- one ask: its log has the skipped merge bases that it passes over, and its end
 abbrev pub asked_once : History → Begun → Step → Told
 asked_once history first step = record {
   status = status_of_ask step.ask;
-  text = log_on history first (asked_entries step)
+  text = log_on history first (warnings step.warned ++ end_entries step.ask)
       ++ ask_lines (commits_of history) first.sides step.ask;
 }
 

@@ -1,6 +1,7 @@
 -- What the program answers for its words, its stream and its files, in the order of its refusals: the words, the stream to its
 -- end, the log that is replayed, the names, an end that is missing, and then the run.
-use Rattle.std.specs.Prelude.{◌≡◌, ◌⊎◌, ℕ, Bool, true, false, List, Option, Some, None, is_some, Result, Ok, Err}
+use Rattle.std.specs.Prelude.{◌≡◌, ◌⊎◌, ℕ, Bool, true, false, IsTrue, List, Option, is_some, Result, Ok, Err}
+use Rattle.bf_grammar.specs.Limits.{standard_limits}
 use Rattle.bf_history.specs.Meanings.{History}
 use Rattle.bf_words.specs.declared.request.Request.{Request}
 use Rattle.bf_words.specs.declared.verb.Verb.{Verb}
@@ -8,16 +9,17 @@ use Rattle.bf_words.specs.declared.verb.Verb.TheVariants.{Simulate, Run, Next, R
 use Rattle.bf_io.specs.declared.shelf.LoadFault.{LoadFault}
 use Rattle.bf_io.specs.declared.shelf.ShelfFile.{ShelfFile}
 use Rattle.bf_words.specs.Words.{request}
+use Rattle.bf_output.specs.declared.status.Status.TheVariants as status
 use Rattle.bf_output.specs.Beginning.{Begun, begun_with_skips}
 use Rattle.bf_output.specs.Gen.{generated, made_stream}
-use Rattle.bf_output.specs.Inputs.{IsFiledIf, IsReadAs, IsStreamed, IsToldFrom, IsToldOr}
+use Rattle.bf_output.specs.Inputs.{IsFiledIf, IsReadUnder, IsStreamed, IsToldFrom, IsToldOr}
 use Rattle.bf_output.specs.Next.{next_told}
 use Rattle.bf_output.specs.Refusals.{usage}
 use Rattle.bf_output.specs.Replay.{replay_told}
 use Rattle.bf_output.specs.Sample.{sampled}
 use Rattle.bf_output.specs.Simulate.{IsSimulated}
-use Rattle.bf_output.specs.Shown.{TesterShown, IsUsed}
-use Rattle.bf_output.specs.Tested.{IsTestedRun, IsTestCut, IsTestLost}
+use Rattle.bf_output.specs.Shown.{TesterShown, IsPrepared}
+use Rattle.bf_output.specs.Tested.{IsTestedRun, IsTestCut}
 use Rattle.bf_output.specs.Told.{Told, told_by}
 
 -- what the program is given beside its stream: its words, the files of its shelf, and what its tester shows
@@ -36,7 +38,7 @@ abbrev pub IsSearched : Verb → Request → List (List ℕ) → TesterShown →
 IsSearched Simulate request words tested history first told = IsSimulated request words history first told
 IsSearched Run request words tested history first told =
     IsTestedRun request tested history first told
-    ⊎ (IsTestCut request tested history first told ⊎ IsTestLost tested history first told)
+    ⊎ (IsTestCut status.WriteFault request tested history first told ⊎ IsTestCut status.NoMemory request tested history first told)
 IsSearched other request words tested history first told = ⊥
 
 -- what a command answers over a history and the file that it is given; `gen` looks at none
@@ -70,7 +72,7 @@ reads_stream other = true
 
 abbrev pub IsOutputOf : Verb → Request → Given → Option (List ℕ) → Told → Type 0
 IsOutputOf Gen request given stream told = told ≡ generated request
-IsOutputOf Sample request given stream told = IsReadAs (IsOver request given) (made_stream request) told
+IsOutputOf Sample request given stream told = IsReadUnder standard_limits (IsOver request given) (made_stream request) told
 IsOutputOf other request given stream told = IsStreamed (IsOver request given) stream told
 
 -- the words come first
@@ -106,11 +108,7 @@ abbrev pub traces : Result Request ℕ → Bool
 traces (Err word) = false
 traces (Ok request) = request.trace
 
--- the tester is used as the words say, where they ask for tests; else it is as it was
-abbrev pub IsUsedIf : Bool → Request → List (List ℕ) → TesterShown → TesterShown → Type 0
-IsUsedIf false request words before after = after ≡ before
-IsUsedIf true request words before after = IsUsed request words before after
-
+-- the tester is as it was, or the words ask for tests, and it took from them how it tests
 abbrev pub IsUsedFor : Result Request ℕ → List (List ℕ) → TesterShown → TesterShown → Type 0
 IsUsedFor (Err word) words before after = after ≡ before
-IsUsedFor (Ok request) words before after = IsUsedIf (is_run request.verb) request words before after
+IsUsedFor (Ok request) words before after = (after ≡ before) ⊎ (IsTrue (is_run request.verb) × IsPrepared request words before after)

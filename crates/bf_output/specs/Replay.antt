@@ -21,10 +21,7 @@ normal_log history replayed = record {
       (places_of replayed.told.search.skips);
 }
 
-abbrev pub file_told : Result (List ℕ) LoadFault → History → Result Told Told
-file_told file history = replayed_log history file >>= λ replayed. Ok (normal_log history replayed)
-
 -- a file that no word names is missing
 abbrev pub replay_told : Option (Result (List ℕ) LoadFault) → History → Result Told Told
 replay_told None history = Err no_file
-replay_told (Some file) history = file_told file history
+replay_told (Some file) history = replayed_log history file >>= λ replayed. Ok (normal_log history replayed)

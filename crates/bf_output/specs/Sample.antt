@@ -1,9 +1,9 @@
 -- The command `sample`: a search over the stream that a number gives, told in a few lines.
-use Rattle.std.specs.Prelude.{ℕ, ◌==◌, ◌-◌, ◌/◌, Bool, true, false, if◌then◌else◌, List, [], ◌∷◌, ◌++◌, codes, count_by, length, replicate, Option, Some, None}
+use Rattle.std.specs.Prelude.{ℕ, ◌==◌, ◌-◌, ◌/◌, Bool, true, false, if◌then◌else◌, List, [], ◌∷◌, ◌++◌, codes, count_by, length, replicate, Some, None}
 use Rattle.std.specs.Fmt.{decimal}
 use Rattle.bf_history.specs.Meanings.{History}
 use Rattle.bf_search.specs.declared.entries.Entry.{Entry}
-use Rattle.bf_search.specs.declared.entries.Entry.TheVariants.{Start, Marked, SkippedBase, FirstBadFound, OnlySkippedLeft}
+use Rattle.bf_search.specs.declared.entries.Entry.TheVariants.{Marked}
 use Rattle.bf_search.specs.declared.outcomes.Outcome.{Outcome}
 use Rattle.bf_search.specs.declared.outcomes.Outcome.TheVariants.{Exit}
 use Rattle.bf_search.specs.Run.{Run}
@@ -14,14 +14,9 @@ use Rattle.bf_output.specs.Simulate.{run_over, status_of_end}
 use Rattle.bf_output.specs.Told.{Told}
 
 -- the last commit is bad, and the first one good
-abbrev pub last_place : ℕ → Option ℕ
-last_place len = if len == 0 then None else Some (len - 1)
-
-abbrev pub first_places : ℕ → List ℕ
-first_places len = if len == 0 then [] else 0 ∷ []
-
 abbrev pub whole_search : Request → ℕ → Begun
-whole_search request len = between_ends request len (last_place len) (first_places len)
+whole_search request len =
+    between_ends request len (if len == 0 then None else Some (len - 1)) (if len == 0 then [] else 0 ∷ [])
 
 -- the commits below the half of COUNT are good, and the others bad
 abbrev pub plan_of_sample : ℕ → List Outcome
@@ -30,11 +25,8 @@ plan_of_sample count = replicate (count / 2) (Exit 0) ++ replicate (count - coun
 -- ---- the summary
 
 abbrev pub is_mark : Entry → Bool
-is_mark (Start first_parent terms_given bad goods) = false
 is_mark (Marked mark p) = true
-is_mark (SkippedBase p) = false
-is_mark (FirstBadFound p) = false
-is_mark (OnlySkippedLeft ps) = false
+is_mark other = false
 
 -- a number of things, as a line
 abbrev pub number_line : List ℕ → ℕ → List ℕ

@@ -1,5 +1,5 @@
 -- What a tester shows, and what a command does to it before it tests.
-use Rattle.std.specs.Prelude.{◌≡◌, ℕ, Bool, ◌||◌, List, [], drop, Option, Some, None, ◌⊎◌}
+use Rattle.std.specs.Prelude.{◌≡◌, ℕ, Bool, ◌||◌, List, [], drop, Option, Some, None}
 use Rattle.bf_search.specs.declared.outcomes.Outcome.{Outcome}
 use Rattle.bf_tester.specs.declared.answer.Answer.{Answer}
 use Rattle.bf_tester.specs.declared.tester.Tester.{Ghosts}
@@ -42,7 +42,3 @@ pub record IsPrepared (request : Request) (words : List (List ℕ)) (before afte
   pub is_lenient : after.is_lenient ≡ (before.is_lenient || request.lenient)
   pub plan : PreparesTold request.lenient before.plan after.plan
   pub is_split : after.is_split ≡ before.is_split
-
--- it is as it was, or it tested as the words say
-abbrev pub IsUsed : Request → List (List ℕ) → TesterShown → TesterShown → Type 0
-IsUsed request words before after = (after ≡ before) ⊎ IsPrepared request words before after

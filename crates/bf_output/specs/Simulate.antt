@@ -1,5 +1,5 @@
 -- The command `simulate`: a search over a plan that is written as letters.
-use Rattle.std.specs.Prelude.{◌≡◌, ◌⊎◌, ℕ, ◌≤◌, Bool, true, false, if◌then◌else◌, List, Option, Some, [], ◌++◌, map, unwrap_or}
+use Rattle.std.specs.Prelude.{◌≡◌, ◌⊎◌, ℕ, ◌≤◌, Bool, true, false, List, Option, Some, [], ◌++◌, map, unwrap_or}
 use Rattle.bf_farm.specs.Reports.{TableFollows}
 use Rattle.bf_history.specs.Meanings.{History}
 use Rattle.bf_search.specs.declared.asks.Ask.{Ask}
@@ -21,13 +21,9 @@ use Rattle.bf_tester.specs.Plans.{read_as}
 
 -- ---- the plan
 
--- the outcome of a letter, as --lenient-exit has it read
-abbrev pub outcome_by_letter : Bool → ℕ → Outcome
-outcome_by_letter is_lenient letter = read_as is_lenient (unwrap_or (outcome_of_letter letter) (Exit 125))
-
--- the letter at an index gives the outcome of that place
+-- the letter at an index gives the outcome of that place, as --lenient-exit has it read
 abbrev pub plan_of : Request → List (List ℕ) → List Outcome
-plan_of request words = map (outcome_by_letter request.lenient) (word_or [] words request.plan)
+plan_of request words = map (λ letter. read_as request.lenient (unwrap_or (outcome_of_letter letter) (Exit 125))) (word_or [] words request.plan)
 
 -- ---- the answer
 
@@ -75,15 +71,11 @@ abbrev pub IsRunTold : Bool → Request → List Outcome → History → Begun �
 IsRunTold false request plan history first told = told ≡ ran history first (run_over history first plan)
 IsRunTold true request plan history first told = IsTracedRun request plan history first told
 
--- a run that a write cut short after a leg: its log was due
-abbrev pub cut_short : History → Begun → Run → Told
-cut_short history first run = record { status = status.WriteFault; text = log_on history first run.entries }
-
--- and one that want of memory cut short
-abbrev pub out_of_memory : History → Begun → Run → Told
-out_of_memory history first run = record { status = status.NoMemory; text = log_on history first run.entries }
+-- a run that a write or want of memory cut short after a leg, with its status: its log was due
+abbrev pub cut_short : Status → History → Begun → Run → Told
+cut_short by history first run = record { status = by; text = log_on history first run.entries }
 
 abbrev pub IsSimulated : Request → List (List ℕ) → History → Begun → Told → Type 0
 IsSimulated request words history first told =
     let plan = plan_of request words in
-    IsRunTold request.trace request plan history first told ⊎ (told ≡ cut_short history first (run_over history first plan))
+    IsRunTold request.trace request plan history first told ⊎ (told ≡ cut_short status.WriteFault history first (run_over history first plan))

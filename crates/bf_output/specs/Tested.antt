@@ -6,7 +6,7 @@ use Rattle.bf_log.specs.Trace.{failed_test_line}
 use Rattle.bf_runs.specs.Legs.{Legs, IsKnown, IsOver}
 use Rattle.bf_search.specs.declared.outcomes.Outcome.{Outcome}
 use Rattle.bf_search.specs.Outcomes.{outcomes_of_table}
-use Rattle.bf_search.specs.Run.{End, Answered, Leg, Open, Aborted, Run, one_at_a_time}
+use Rattle.bf_search.specs.Run.{End, Open, Run, one_at_a_time}
 use Rattle.bf_state.specs.Runs.{GoesOn, is_open}
 use Rattle.bf_tester.specs.declared.answer.Answer.{Answer}
 use Rattle.bf_terms.specs.Texts.{Commits, Sides, answer_lines}
@@ -15,7 +15,7 @@ use Rattle.bf_output.specs.declared.status.Status.{Status}
 use Rattle.bf_output.specs.declared.status.Status.TheVariants as status
 use Rattle.bf_output.specs.Beginning.{Begun, commits_of, log_on}
 use Rattle.bf_output.specs.Shown.{TesterShown}
-use Rattle.bf_output.specs.Simulate.{run_over, status_of_end, cut_short, out_of_memory}
+use Rattle.bf_output.specs.Simulate.{run_over, status_of_end, cut_short}
 use Rattle.bf_output.specs.Told.{Told}
 use Rattle.bf_output.specs.Traces.{course_of, traced_if}
 
@@ -25,16 +25,12 @@ run_on history first table = one_at_a_time history.parents first.search (outcome
 
 -- how a run ends: one that waits for an outcome ends with the fault of that test
 abbrev pub status_at_end : End → Status
-status_at_end (Answered a) = status_of_end (Answered a)
-status_at_end Leg = status_of_end Leg
 status_at_end (Open p) = status.TestFault p
-status_at_end (Aborted p outcome) = status_of_end (Aborted p outcome)
+status_at_end other = status_of_end other
 
 abbrev pub lines_at_end : Commits → Sides → End → List ℕ
-lines_at_end commits sides (Answered a) = answer_lines commits sides (Answered a)
-lines_at_end commits sides Leg = answer_lines commits sides Leg
 lines_at_end commits sides (Open p) = failed_test_line commits p
-lines_at_end commits sides (Aborted p outcome) = answer_lines commits sides (Aborted p outcome)
+lines_at_end commits sides other = answer_lines commits sides other
 
 -- the log so far, and how the run ended
 abbrev pub told_of_run : History → Begun → Run → Told
@@ -64,31 +60,23 @@ pub record IsTestedAs (IsTold : Legs → Run → Told → Type 0) (request : Req
   pub tells : IsTold legs (run_on history first table) told
 
 -- a run by its log and how it ended, and behind it the events of the workers where they are asked for
-abbrev pub IsLogTold : Request → History → Begun → Legs → Run → Told → Type 0
-IsLogTold request history first legs run told = told ≡ traced_if request.trace history legs (told_of_run history first run)
-
 abbrev pub IsTestedRun : Request → TesterShown → History → Begun → Told → Type 0
-IsTestedRun request tested history first told = IsTestedAs (IsLogTold request history first) request tested history first told
+IsTestedRun request tested history first told =
+    IsTestedAs (λ legs run other. other ≡ traced_if request.trace history legs (told_of_run history first run)) request tested history first told
 
 -- the answers are the first that a run used, in its order
 pub record AreFirstUsed (answers : List Answer) (run : Run) : Type 0 where
   pub rest : List (ℕ × Outcome)
   pub begins : run.used ≡ map pair_of answers ++ rest
 
--- A search that a write cut short after a leg: the log of the run on what its tester answered was due.
-pub record IsTestCut (request : Request) (tested : TesterShown) (history : History) (first : Begun) (cut : Told) : Type 0 where
+-- A search that a write or want of memory cut short after a leg: the log of the run on what its tester answered was due. Of one
+-- worker's answers, those before a failed write are the first that this run uses.
+pub record IsTestCut (by : Status) (request : Request) (tested : TesterShown) (history : History) (first : Begun) (cut : Told) : Type 0 where
   pub table : List (Option Outcome)
   pub known : IsKnown history.names tested.plan tested.answers table
   pub planned : IsFrontIfTold tested.plan history first (run_on history first table)
-  pub alone : request.workers ≤ 1 → AreFirstUsed tested.answers (run_on history first table)
-  pub tells : cut ≡ cut_short history first (run_on history first table)
-
--- One that want of memory cut short: the log of the run on what its tester answered was due, too.
-pub record IsTestLost (tested : TesterShown) (history : History) (first : Begun) (lost : Told) : Type 0 where
-  pub table : List (Option Outcome)
-  pub known : IsKnown history.names tested.plan tested.answers table
-  pub planned : IsFrontIfTold tested.plan history first (run_on history first table)
-  pub tells : lost ≡ out_of_memory history first (run_on history first table)
+  pub alone : by ≡ status.WriteFault → request.workers ≤ 1 → AreFirstUsed tested.answers (run_on history first table)
+  pub tells : cut ≡ cut_short by history first (run_on history first table)
 
 -- whether a status says that a test could not be made
 abbrev pub is_test_fault : Status → Bool

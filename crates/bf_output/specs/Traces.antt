@@ -4,7 +4,6 @@ use Rattle.std.specs.List.{flat_map}
 use Rattle.bf_history.specs.Meanings.{History}
 use Rattle.bf_log.specs.Trace.{event_lines, leg_line}
 use Rattle.bf_runs.specs.Legs.{Course, Legs}
-use Rattle.bf_search.specs.declared.farm.Event.{Event}
 use Rattle.bf_terms.specs.Texts.{Commits}
 use Rattle.bf_words.specs.declared.request.Request.{Request}
 use Rattle.bf_output.specs.Beginning.{Begun, commits_of}
@@ -20,13 +19,9 @@ course_of request history first = record {
   workers = request.workers;
 }
 
--- the events of a whole leg, and the line behind them
-abbrev pub whole_leg : Commits → List Event → List ℕ
-whole_leg commits events = event_lines commits events ++ leg_line
-
--- the events of each leg; a line stands between two legs
+-- the events of each leg; a line stands behind each whole one
 abbrev pub trace_lines : Commits → Legs → List ℕ
-trace_lines commits legs = flat_map (whole_leg commits) legs.whole ++ event_lines commits legs.last
+trace_lines commits legs = flat_map (λ events. event_lines commits events ++ leg_line) legs.whole ++ event_lines commits legs.last
 
 -- a text with the trace behind it
 abbrev pub traced : History → Legs → Told → Told

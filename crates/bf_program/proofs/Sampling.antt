@@ -12,7 +12,7 @@ use Rattle.bf_state.specs.Ends.{HasEnds}
 use Rattle.bf_history.specs.Meanings.{History}
 use Rattle.bf_output.proofs.Runs.{closed, front_if_told}
 use Rattle.bf_output.specs.Beginning.{Begun, between_ends, commits_of}
-use Rattle.bf_output.specs.Sample.{first_places, is_mark, last_place, plan_of_sample, sampled, summed_up, whole_search}
+use Rattle.bf_output.specs.Sample.{is_mark, plan_of_sample, sampled, summed_up, whole_search}
 use Rattle.bf_output.specs.Simulate.{run_over, status_of_end}
 use Rattle.bf_output.specs.Tested.{run_on, status_at_end, lines_at_end, is_test_fault}
 use Rattle.bf_output.specs.declared.status.Status.TheVariants as status
@@ -69,7 +69,7 @@ tells_sample told count letters (Ok tester) is tells =
 whole_ends : (request : Request) (len : ℕ) → 1 ≤ len → HasEnds (whole_search request len).search
 whole_ends request len some =
     let apart : (len == 0) ≡ false = ne_eqb len 0 (λ e. omega arith) in
-    let one : with_goods [] (first_places len) ≡ 0 ∷ [] = ap (λ (b : Bool). with_goods [] (if b then [] else 0 ∷ [])) apart in
+    let one : with_goods [] (if len == 0 then [] else 0 ∷ []) ≡ 0 ∷ [] = ap (λ (b : Bool). with_goods [] (if b then [] else 0 ∷ [])) apart in
     record {
       bad = len - 1;
       bad_is = ap (λ (b : Bool). if b then None else Some (len - 1)) apart;
@@ -77,12 +77,14 @@ whole_ends request len some =
     }
 
 pub begun_ends : {E : Type 0} (request : Request) (len : ℕ) (bad : Option ℕ) (goods : List ℕ) (result : Result Beginning E) → 1 ≤ len
-    → bad ≡ last_place len → goods ≡ first_places len → IfOk result (λ first. begun_of first ≡ between_ends request len bad goods)
+    → bad ≡ (if len == 0 then None else Some (len - 1)) → goods ≡ (if len == 0 then [] else 0 ∷ [])
+    → IfOk result (λ first. begun_of first ≡ between_ends request len bad goods)
     → IfOk result (λ first. HasEnds first.state.search)
 begun_ends request len bad goods (Err e) some last places is = tt
 begun_ends request len bad goods (Ok first) some last places is =
     let whole : begun_of first ≡ whole_search request len =
-    is ∙ ap (λ (b : Option ℕ). between_ends request len b goods) last ∙ ap (λ (ps : List ℕ). between_ends request len (last_place len) ps) places in
+    is ∙ ap (λ (b : Option ℕ). between_ends request len b goods) last
+    ∙ ap (λ (ps : List ℕ). between_ends request len (if len == 0 then None else Some (len - 1)) ps) places in
     subst (λ (b : Begun). HasEnds b.search) (sym whole) (whole_ends request len some)
 
 -- without a commit the search waits for both ends

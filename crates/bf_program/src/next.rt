@@ -1,6 +1,6 @@
 //! The command `next`.
 ghost use Rattle.std.specs.Prelude.{◌≡◌, ◌++◌, length, IfOk, OnOk};
-ghost use Rattle.bf_output.specs.Next.{asked_entries};
+ghost use Rattle.bf_search.specs.Run.{warnings};
 ghost use Rattle.bf_answers.specs.Answers.{IsWholeAnswer};
 ghost use Rattle.bf_answers.specs.Steps.{IsStep};
 ghost use Rattle.bf_program.specs.Lines.{asked_from, next_of_line};
@@ -34,7 +34,8 @@ pub(crate) fn next(
 
 /// Adds the entries of an ask: the skipped merge bases that it passes over, and its end.
 fn push_asked(entries: &mut Vec<Entry>, step: &Step) -> Result<(), AllocError>
-    ensures { OnOk result (entries.new.items ≡ entries.old.items ++ asked_entries step.now) }
+    ensures { OnOk result (entries.new.items ≡ entries.old.items
+        ++ (warnings step.now.warned ++ end_entries step.now.ask)) }
 {
     push_warnings(entries, step.warned.as_slice())?;
     push_end(entries, &step.ask)

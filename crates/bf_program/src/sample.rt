@@ -1,5 +1,5 @@
 //! The command `sample`. It searches here, by a plan as its tester, so that its text is one answer.
-ghost use Rattle.std.specs.Prelude.{◌≡◌, ◌<◌, ◌≤◌, ◌++◌, false, [], length, count_by, All, IfOk, OnOk};
+ghost use Rattle.std.specs.Prelude.{◌≡◌, ◌<◌, ◌≤◌, ◌==◌, ◌-◌, ◌++◌, false, if◌then◌else◌, [], ◌∷◌, length, count_by, Some, None, All, IfOk, OnOk};
 ghost use Rattle.std.specs.Option.{ForSome};
 ghost use Rattle.bf_state.specs.Ends.{HasEnds};
 ghost use Rattle.bf_output.specs.Sample as sample;
@@ -45,7 +45,7 @@ pub(crate) fn sample<R: Host>(
 
 /// The last place, where there is one.
 fn last_place(len: u32) -> Option<u32>
-    ensures value { result ≡ sample.last_place len }
+    ensures value { result ≡ (if len == 0 then None else Some (len - 1)) }
     ensures within { ForSome result (λ p. p < len) }
 {
     if len == 0 { None } else { Some(len - 1) }
@@ -53,7 +53,7 @@ fn last_place(len: u32) -> Option<u32>
 
 /// The first place, where there is one.
 fn first_places(len: u32) -> &'static [u32]
-    ensures value { result.now ≡ sample.first_places len }
+    ensures value { result.now ≡ (if len == 0 then [] else 0 ∷ []) }
     ensures within { All (λ p. p < len) result.now }
 {
     if len == 0 { &[] } else { &[0] }

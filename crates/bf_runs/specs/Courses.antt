@@ -1,9 +1,9 @@
 -- What the code searches, as the definition of legs has it.
-use Rattle.std.specs.Prelude.{◌≡◌, ◌<◌, ℕ, List, Option}
+use Rattle.std.specs.Prelude.{◌≡◌, ◌<◌, ℕ, List, length, replicate, Option, None}
 use Rattle.bf_farm.specs.declared.report.Report.{Report}
 use Rattle.bf_runs.specs.declared.case.Search.{Search as Searched}
 use Rattle.bf_runs.specs.declared.legs.Standing.{Standing}
-use Rattle.bf_runs.specs.Legs.{Course, Stand, nothing_known, IsReady, IsLegRun, LeadsOn}
+use Rattle.bf_runs.specs.Legs.{Course, Stand, IsReady, IsLegRun, LeadsOn}
 use Rattle.bf_search.specs.declared.farm.Ending.TheVariants as ending
 use Rattle.bf_search.specs.declared.outcomes.Outcome.{Outcome}
 use Rattle.bf_search.specs.LeftToAsk.{left_to_ask}
@@ -26,7 +26,7 @@ stand_of standing = record { search = standing.state.search; table = standing.ta
 
 -- no outcome of the commits of a graph is known
 abbrev pub KnowsNothing : List (List ℕ) → Standing → Type 0
-KnowsNothing graph standing = standing.table ≡ nothing_known graph
+KnowsNothing graph standing = standing.table ≡ replicate (length graph) None
 
 -- a leg of a search may begin from a session and a table, whose outcomes the tester answered
 abbrev pub CanBegin : {T : Type 0} → Ghosts T → T → Searched → Session → List (Option Outcome) → Type 0

@@ -35,13 +35,9 @@ pub record Stand : Type 0 where
   pub search : Search
   pub table : List (Option Outcome)
 
--- a table of the commits of a graph of which nothing is known
-abbrev pub nothing_known : List (List ℕ) → List (Option Outcome)
-nothing_known graph = replicate (length graph) None
-
--- at first nothing is known
+-- at first nothing is known of any commit
 abbrev pub first_stand : Course → Stand
-first_stand course = record { search = course.first; table = nothing_known course.graph }
+first_stand course = record { search = course.first; table = replicate (length course.graph) None }
 
 abbrev pub setting_of : Course → Search → Setting
 setting_of course s = record { graph = course.graph; start = s; leg = course.leg }

@@ -1,8 +1,8 @@
 -- How a line of words asks for tests.
-use Rattle.std.specs.Prelude.{◌≡◌, Bool, Some}
-use Rattle.bf_output.specs.Output.{IsUsedIf, is_run}
+use Rattle.std.specs.Prelude.{◌≡◌, ◌⊎◌, Bool, Some, Ok}
+use Rattle.bf_output.specs.Output.{IsUsedFor, is_run}
 use Rattle.bf_output.specs.Simulate.{plan_of}
-use Rattle.bf_output.specs.Shown.{IsUsed}
+use Rattle.bf_output.specs.Shown.{IsPrepared}
 use Rattle.bf_tester.specs.declared.tester.Tester.{Ghosts}
 use Rattle.bf_output.specs.declared.status.Status.{Status}
 use Rattle.bf_answers.specs.Answers.{HasTestCause, IsCaused}
@@ -28,8 +28,8 @@ IsCausedIn line tester answer = IsCaused (asks_tests line) tester answer
 
 -- the tester is used as the line says, where it asks for tests; else it is as it was
 abbrev pub IsUsedIn : Line → TesterMet → Type 0
-IsUsedIn line tester = IsUsedIf (asks_tests line) line.request.now line.words.now tester.before tester.after
+IsUsedIn line tester = IsUsedFor (Ok line.request.now) line.words.now tester.before tester.after
 
 -- the tester is used as the line of a command says that tests
 abbrev pub IsUsedToTest : Line → TesterMet → Type 0
-IsUsedToTest line tester = IsUsed line.request.now line.words.now tester.before tester.after
+IsUsedToTest line tester = (tester.after ≡ tester.before) ⊎ IsPrepared line.request.now line.words.now tester.before tester.after

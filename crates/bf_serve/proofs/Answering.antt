@@ -10,7 +10,6 @@ use Rattle.bf_io.specs.declared.shelf.LoadFault.{LoadFault}
 use Rattle.bf_io.specs.declared.shelf.LoadFault.TheVariants.{Missing, TooLong, Failed}
 use Rattle.bf_io.specs.declared.shelf.ShelfFile.{ShelfFile}
 use Rattle.bf_output.specs.Inputs.{file_of}
-use Rattle.bf_output.specs.Logs.{longest_log}
 use Rattle.bf_output.specs.Refusals.{usage}
 use Rattle.bf_protocol.specs.declared.request.Asked.{Asked}
 use Rattle.bf_protocol.specs.declared.request.Asked.TheVariants as asked
@@ -38,7 +37,7 @@ whole_answers max (Some file) = by (nat_lt max (length file.bytes))
     by false e = cc e
 
 pub told_answers : (words : List (List ℕ)) (i : ℕ) (all : List ShelfFile) → file_of words i all ≢ Err Failed
-told_answers words i all = whole_answers longest_log (file_named all (word_at words i))
+told_answers words i all = whole_answers 16777216 (file_named all (word_at words i))
 
 by_answers : (files : List ShelfFile) (words : List (List ℕ)) (r : Result Request ℕ) → file_by files words r ≢ Err Failed
 by_answers files words (Err word) = λ e. cc e

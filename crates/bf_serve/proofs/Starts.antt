@@ -31,7 +31,7 @@ use Rattle.bf_io.specs.Causes.{Rose}
 use Rattle.bf_io.specs.declared.shelf.LoadFault.{LoadFault}
 use Rattle.bf_io.specs.declared.shelf.LoadFault.TheVariants.{Failed, Missing}
 use Rattle.bf_io.specs.declared.shelf.ShelfFile.{ShelfFile}
-use Rattle.bf_output.specs.Beginning.{Begun, begun_by_log, begun_with_skips}
+use Rattle.bf_output.specs.Beginning.{Begun, begun_with_skips}
 use Rattle.bf_output.specs.Inputs.{file_of}
 use Rattle.bf_output.specs.Logs.{replayed_log}
 use Rattle.bf_output.specs.Refusals.{file_fault}
@@ -94,7 +94,7 @@ failed = Err Failed
 
 fails_at : (history : History) (words : List (List ℕ)) (asks : Request) (replay : Option ℕ) → IsTrue (is_some replay)
     → begun_with_skips asks words (option_map (λ (i : ℕ). failed) replay) history ≡ Err file_fault
-unfolding begun_with_skips begun_by_log replayed_log
+unfolding begun_with_skips replayed_log
 fails_at history words asks None h = cc h
 fails_at history words asks (Some i) h = refl
 

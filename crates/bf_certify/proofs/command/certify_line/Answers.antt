@@ -1,4 +1,4 @@
-use Rattle.std.proofs.Common.{Ok, refl}
+use Rattle.std.proofs.Common.{Ok, inl, refl}
 use Rattle.bf_answers.proofs.Concluding.{causes_of_whole}
 use Rattle.bf_answers.specs.declared.answer.Fault.{Fault}
 use Rattle.bf_answers.specs.declared.started.Ready.TheVariants.{Told, Search}
@@ -6,7 +6,6 @@ use Rattle.bf_answers.specs.Tellings.{told_of}
 use Rattle.bf_begin.proofs.Opening.{ready_told}
 use Rattle.bf_commands.specs.Certify.{IsCertified}
 use Rattle.bf_output.specs.Shown.{shown_by}
-use Rattle.bf_searches.proofs.Using.{unused}
 use Rattle.bf_certify.proofs.command.certify_line.Goals as goal
 
 pub returns-in_ok-certify_search-in-Search-clause-tells : goal.returns-in_ok-certify_search-in-Search-clause-tells
@@ -28,7 +27,7 @@ pub returns-in-Told-clause-cause : goal.returns-in-Told-clause-cause
 returns-in-Told-clause-cause g c = causes_of_whole {E = Fault} _ _ _ (Ok c.in-Told.answer) (rw c.in-Told.is at c.in_ok-ready.ensures.sound)
 
 pub returns-in-Told-clause-used : goal.returns-in-Told-clause-used
-returns-in-Told-clause-used g c = unused _ _ _ _
+returns-in-Told-clause-used g c = inl refl
 
 pub returns-in_err-ready-clause-used : goal.returns-in_err-ready-clause-used
-returns-in_err-ready-clause-used g c = unused _ _ _ _
+returns-in_err-ready-clause-used g c = inl refl

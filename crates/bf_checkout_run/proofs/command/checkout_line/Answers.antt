@@ -1,9 +1,8 @@
-use Rattle.std.proofs.Common.{◌≡◌, Err, ap, ◌∙◌}
+use Rattle.std.proofs.Common.{◌≡◌, Err, inl, refl, ap, ◌∙◌}
 use Rattle.bf_answers.specs.Devices.{Met, met, met_shelf, met_sink, met_source}
 use Rattle.bf_answers.proofs.Concluding.{sound_answer, sound_started}
 use Rattle.bf_output.specs.Output.{is_run}
 use Rattle.bf_searches.proofs.Untested.{search_began}
-use Rattle.bf_searches.proofs.Using.{unused}
 use Rattle.bf_checkout_run.proofs.Furnishing.{left_told, no_answers, not_split, shown, shown_furnished}
 use Rattle.bf_checkout_run.proofs.Searched.{between, failed_at_once, grounds_since, no_grounds, run_reads, searched, test_since, told_at_once, used_since}
 use Rattle.bf_checkout_run.proofs.command.checkout_line.Given.{Over}
@@ -32,7 +31,7 @@ returns-in-Ok-Search-clause-test g c =
 
 pub returns-in-Ok-Search-clause-used : goal.returns-in-Ok-Search-clause-used
 returns-in-Ok-Search-clause-used g c =
-    used_since (is_run c.args.line.request.now.verb) c.args.line.request.now c.args.line.words.now (shown g.U.Tester g.D.Folder c.prepare.new.shop)
+    used_since c.args.line.request.now c.args.line.words.now (shown g.U.Tester g.D.Folder c.prepare.new.shop)
     (shown g.U.Tester g.D.Folder c.args.shop.now) (shown g.U.Tester g.D.Folder c.search.new.tester)
     (shown_furnished g.U.Tester g.D.Folder c.args.shop.now c.prepare.new.shop c.prepare.ensures.shop) c.search.ensures.used
 
@@ -89,8 +88,8 @@ returns-in-Ok-Told-clause-test g c = λ place e. absurd (c.say_answer.ensures.no
 pub returns-in-Ok-Told-clause-used : goal.returns-in-Ok-Told-clause-used
 returns-in-Ok-Told-clause-used g c =
     let now = shown g.U.Tester g.D.Folder c.prepare.new.shop in
-    used_since (is_run c.args.line.request.now.verb) c.args.line.request.now c.args.line.words.now now (shown g.U.Tester g.D.Folder c.args.shop.now) now
-    (shown_furnished g.U.Tester g.D.Folder c.args.shop.now c.prepare.new.shop c.prepare.ensures.shop) (unused _ _ _ now)
+    used_since c.args.line.request.now c.args.line.words.now now (shown g.U.Tester g.D.Folder c.args.shop.now) now
+    (shown_furnished g.U.Tester g.D.Folder c.args.shop.now c.prepare.new.shop c.prepare.ensures.shop) (inl refl)
 
 pub returns-in-Ok-Told-clause-untested : goal.returns-in-Ok-Told-clause-untested
 returns-in-Ok-Told-clause-untested g c = λ refused.
@@ -130,8 +129,8 @@ returns-in-Err-clause-test g c = λ place e. absurd (c.say_answer-in-Err.ensures
 pub returns-in-Err-clause-used : goal.returns-in-Err-clause-used
 returns-in-Err-clause-used g c =
     let now = shown g.U.Tester g.D.Folder c.prepare.new.shop in
-    used_since (is_run c.args.line.request.now.verb) c.args.line.request.now c.args.line.words.now now (shown g.U.Tester g.D.Folder c.args.shop.now) now
-    (shown_furnished g.U.Tester g.D.Folder c.args.shop.now c.prepare.new.shop c.prepare.ensures.shop) (unused _ _ _ now)
+    used_since c.args.line.request.now c.args.line.words.now now (shown g.U.Tester g.D.Folder c.args.shop.now) now
+    (shown_furnished g.U.Tester g.D.Folder c.args.shop.now c.prepare.new.shop c.prepare.ensures.shop) (inl refl)
 
 pub returns-in-Err-clause-untested : goal.returns-in-Err-clause-untested
 returns-in-Err-clause-untested g c = λ refused.

@@ -1,9 +1,8 @@
-use Rattle.std.proofs.Common.{◌≡◌, refl}
+use Rattle.std.proofs.Common.{◌≡◌, inl, refl}
 use Rattle.bf_output.specs.Output.{is_run}
 use Rattle.bf_answers.specs.declared.started.Ready.TheVariants.{Told, Search}
 use Rattle.bf_answers.proofs.Concluding.{concluded_answer, concluded_search, concludes, concludes_fault, if_ok, sound_answer, sound_search, sound_started, whole_own}
 use Rattle.bf_searches.proofs.Untested.{search_began}
-use Rattle.bf_searches.proofs.Using.{unused}
 use Rattle.bf_answers.specs.Devices.{met_sink, met_tester}
 use Rattle.bf_answers.specs.Ready.{Tells}
 use Rattle.bf_program.proofs.top.conclude.Goals as goal
@@ -56,7 +55,7 @@ pub returns-in-Ok-Told-clause-test : goal.returns-in-Ok-Told-clause-test
 returns-in-Ok-Told-clause-test g c = λ place e. absurd (c.say_answer.ensures.no_test place e)
 
 pub returns-in-Ok-Told-clause-used : goal.returns-in-Ok-Told-clause-used
-returns-in-Ok-Told-clause-used g c = unused _ _ _ _
+returns-in-Ok-Told-clause-used g c = inl refl
 
 pub returns-in-Err-clause-told : goal.returns-in-Err-clause-told
 returns-in-Err-clause-told g c =
@@ -69,4 +68,4 @@ pub returns-in-Err-clause-test : goal.returns-in-Err-clause-test
 returns-in-Err-clause-test g c = λ place e. absurd (c.say_answer-in-Err.ensures.no_test place e)
 
 pub returns-in-Err-clause-used : goal.returns-in-Err-clause-used
-returns-in-Err-clause-used g c = unused _ _ _ _
+returns-in-Err-clause-used g c = inl refl
