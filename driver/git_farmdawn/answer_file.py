@@ -42,6 +42,8 @@ FORMS = {
     'bad': 'bad ' + NAME, 'first-parent': 'first-parent', 'good': 'good ' + NAME, 'reach': 'reach %s from %s' % (NAME, NAME), 'end': 'end',
 }
 KINDS = list(FORMS)
+# the kinds that name no commit, whatever stands in them
+FREE = ('word ', 'folder ', 'build ', 'machine ')
 NEEDED = ('word', 'called-bad', 'called-good', 'certificate', 'bad', 'good', 'end')
 REPEATED = ('word', 'called-good', 'outcome', 'against', 'confirmed', 'good', 'reach')
 

@@ -13,7 +13,7 @@ import subprocess
 import time
 from typing import TYPE_CHECKING, Dict, Iterable, List, NamedTuple, Set, Tuple
 
-from .answer_file import Answer, Fault, encoded, read_answer, with_sum
+from .answer_file import FREE, Answer, Fault, encoded, read_answer, with_sum
 from .ending import Ending
 from .facts import SKIP, marks_of
 from .outputs import has_room, write_whole
@@ -196,10 +196,10 @@ class Mirror:
             self.computed[name] = hashlib.sha1(b'commit %d\0' % len(body) + body.encode()).hexdigest()
         self.stream = ''.join(out).encode()
 
-    def turned(self, lines: List[str]) -> bytes:
-        """Lines with the computed names in place of the repository's."""
-        turned = [' '.join(self.computed.get(word, word) for word in line.split(' ')) for line in lines]
-        return ''.join(line + '\n' for line in turned).encode()
+    def turned(self, answer: Answer) -> bytes:
+        """The whole file with the computed names in place of the repository's, and the sum of these lines."""
+        return with_sum([line if line.startswith(FREE) else ' '.join(self.computed.get(word, word) for word in line.split(' '))
+                         for line in answer.lines[2:]])
 
 
 def in_order(names: List[str], parents: Parents) -> List[str]:
@@ -243,16 +243,16 @@ def find_commits(repo: Repository, answer: Answer, shown: str) -> None:
 
 
 def run_check(checker: Checker, mirror: Mirror, answer: Answer) -> None:
-    """The verdict of the proved program over the certificate."""
+    """The verdict of the proved program over the whole file."""
     program, shown = checker.farmdawn, checker.shown
     try:
-        write_whole(os.path.join(checker.folder, 'certificate'), mirror.turned(answer.certificate()))
-        done = subprocess.run(['farmdawn', 'check', 'certificate'], executable=program, cwd=checker.folder, input=mirror.stream,
+        write_whole(os.path.join(checker.folder, 'answer'), mirror.turned(answer))
+        done = subprocess.run(['farmdawn', 'check', 'answer'], executable=program, cwd=checker.folder, input=mirror.stream,
                               stdout=subprocess.PIPE, check=False)
     except OSError as fault:
         raise Stop(14, '%s cannot be run in %s: %s' % (program, checker.folder, fault.strerror)) from None
     if done.returncode == 20:
-        line = int(done.stdout.split()[-1]) + answer.start - 1
+        line = int(done.stdout.split()[-1])
         raise Stop(20, '%s does not hold: line %d, %s' % (shown, line, answer.lines[line - 1] if line <= len(answer.lines) else 'the end'))
     if done.returncode:
         raise Stop(done.returncode, '%s ended with %d' % (program, done.returncode))
@@ -273,7 +273,7 @@ def check_marks(repo: Repository, answer: Answer, shown: str) -> None:
 
 
 def check_answer(checker: Checker, data: bytes) -> Answer:
-    """The lines of a file by themselves, its commits, and its certificate by `farmdawn check`; raises Stop where it does not hold."""
+    """The sum of a file, its commits, and all its lines by `farmdawn check`; raises Stop where it does not hold."""
     repo, shown = checker.repo, checker.shown
     if len(data) > MOST_BYTES:
         raise Stop(9, '%s is too large' % shown)

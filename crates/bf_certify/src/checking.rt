@@ -12,7 +12,8 @@ ghost use Rattle.bf_certify.specs.TellsChecked.{TellsOutput, TellsStreamed, Tell
 
 use bf_answers::{Answer, Fault, say_answer, usage};
 use bf_begin::{OpenedText, open_text};
-use bf_cert::{CertFault, read_cert};
+use bf_cert::CertFault;
+use bf_claims::read_file;
 use bf_import::History;
 use bf_io::{Bytes, Shelf, Sink, Source, Word, put_decimal};
 use bf_oid::oid_hex;
@@ -23,7 +24,7 @@ use std::alloc::{AllocError, Global};
 const WORDS: usize = 2;
 
 /// Checks the certificate in the file that word 1 names, over the history of the stream, and tells whether it
-/// holds.
+/// holds. Where the first line is that of an answer, it checks the whole answer.
 ///
 /// The stream is read to its end before the file is asked for. The status is `ReadFault` only where the count of
 /// faults of the stream rose, `ShelfFault` only where that of the shelf did, and `WriteFault` only where that of
@@ -112,14 +113,14 @@ fn check_file<S: Source, F: Shelf>(
     }
 }
 
-/// What is answered to the text of a certificate.
+/// What is answered to the text of a file: a certificate, or an answer with one.
 fn check_text(alloc: Global, history: &History, text: &[u8]) -> Result<Answer, Fault>
     requires { length text.now ≤ 16777216 }
     ensures tells { IfOk result (TellsText history.now text.now) }
     ensures whole { IfOk result IsWholeAnswer }
     ensures memory { (IsErrOf result Fault.Read → ⊥) × (IsErrOf result Fault.Shelf → ⊥) }
 {
-    match read_cert(alloc, history, text) {
+    match read_file(alloc, history, text) {
         Ok(cert) => Ok(accepted(alloc, history, cert.bad)?),
         Err(CertFault::Line { line }) => Ok(cert_refusal(alloc, line)?),
         Err(CertFault::NoMemory) => Err(Fault::NoMemory),

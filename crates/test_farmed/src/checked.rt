@@ -6,16 +6,16 @@ use bf_output::{Status, StreamKind};
 use std::alloc::{AllocError, Global};
 use std::test::Fail;
 
-const VERSION: &[u8] = b"certificate 1\n";
+pub(crate) const VERSION: &[u8] = b"certificate 1\n";
 
-const BAD: &[u8] = b"bad f570778fec974dd2b05ee862e235ff38a61118d3\n";
+pub(crate) const BAD: &[u8] = b"bad f570778fec974dd2b05ee862e235ff38a61118d3\n";
 
-const GOOD: &[u8] = b"good cf280beb8e59855da6095186b2544590849cd8dd\n";
+pub(crate) const GOOD: &[u8] = b"good cf280beb8e59855da6095186b2544590849cd8dd\n";
 
-const REACH: &[u8] =
+pub(crate) const REACH: &[u8] =
     b"reach 56b29d9c130e2ec4b506a48d4fe5a18d92d8d1e3 from cf280beb8e59855da6095186b2544590849cd8dd\n";
 
-const END: &[u8] = b"end\n";
+pub(crate) const END: &[u8] = b"end\n";
 
 /// The lines of certificates that hold over the fork, and the answer.
 const HELD: [(&[&[u8]], &[u8]); 8] = [
@@ -264,7 +264,7 @@ const REFUSED: [(&[&[u8]], u32); 43] = [
 ];
 
 /// The text of these lines.
-fn joined(alloc: Global, lines: &[&[u8]]) -> Result<Bytes, AllocError> {
+pub(crate) fn joined(alloc: Global, lines: &[&[u8]]) -> Result<Bytes, AllocError> {
     let mut text = Bytes::new(alloc);
     for line in lines {
         text.append(line)?;
@@ -281,7 +281,7 @@ fn refusal_at(alloc: Global, line: u32) -> Result<Bytes, AllocError> {
 }
 
 /// Whether a text is refused at this line.
-fn is_refused(
+pub(crate) fn is_refused(
     alloc: Global,
     stream: &[u8],
     lines: &[&[u8]],

@@ -1,0 +1,4 @@
+pub mod Bounds
+pub mod Holding
+pub mod Strange
+pub mod Turns

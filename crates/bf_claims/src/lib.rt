@@ -1,0 +1,13 @@
+//! Answers: files that claim by which tests a certificate stands, and the certificate, read line by line.
+#![tactic(auto)]
+
+mod claim;
+mod goods;
+mod head;
+mod kind;
+pub mod laws;
+mod line;
+mod read;
+mod sum;
+
+pub use read::read_file;
