@@ -10,7 +10,7 @@ use Rattle.bf_io.specs.declared.shelf.ShelfFile.{ShelfFile}
 use Rattle.bf_words.specs.Words.{request}
 use Rattle.bf_output.specs.Beginning.{Begun, begun_with_skips}
 use Rattle.bf_output.specs.Gen.{generated, made_stream}
-use Rattle.bf_output.specs.Inputs.{IsFiledIf, IsReadAs, IsStreamed, IsToldFrom, IsToldOr}
+use Rattle.bf_output.specs.Inputs.{IsFiledIf, IsStreamed, IsToldFrom, IsToldOr}
 use Rattle.bf_output.specs.Next.{next_told}
 use Rattle.bf_output.specs.Refusals.{usage}
 use Rattle.bf_output.specs.Replay.{replay_told}
@@ -70,7 +70,7 @@ reads_stream other = true
 
 abbrev pub IsOutputOf : Verb → Request → Given → Option (List ℕ) → Told → Type 0
 IsOutputOf Gen request given stream told = told ≡ generated request
-IsOutputOf Sample request given stream told = IsReadAs (IsOver request given) (made_stream request) told
+IsOutputOf Sample request given stream told = IsStreamed (IsOver request given) (Some (made_stream request)) told
 IsOutputOf other request given stream told = IsStreamed (IsOver request given) stream told
 
 -- the words come first
