@@ -1,5 +1,6 @@
 -- From what the stream and the shelf gave to what is ready, and from there to what is told of it, whatever command tells it.
 use Rattle.std.proofs.Common.{◌≡◌, ℕ, List, Option, Some, None, IfSome, option_map, Result, Ok, Err, IfOk, sym, subst, ◌∙◌}
+use Rattle.std.proofs.lemmas.Bool.{false≢true}
 use Rattle.std.specs.Borrow.{Bor}
 use Rattle.bf_answers.specs.Answers.{IsWhole}
 use Rattle.bf_answers.specs.declared.answer.Answer.{Answer}
@@ -34,7 +35,7 @@ behind : (replay : Option ℕ) (line : Line) (files : Option (List ShelfFile)) (
 behind None line files history file ready is begun =
     let P : Option LogFile → Type 0 = λ f. IsBegunAs (begun_with_skips line.request.now line.words.now (option_map given_of f) history) history ready in
     subst P is begun
-behind (Some i) line None history None ready is begun = absurd is
+behind (Some i) line None history None ready is begun = absurd (false≢true is)
 behind (Some i) line None history (Some file) ready is begun = (given_of file, tt, begun)
 behind (Some i) line (Some files) history None ready is begun = absurd (cc)
 behind (Some i) line (Some files) history (Some file) ready is begun = (given_of file, cc, begun)
