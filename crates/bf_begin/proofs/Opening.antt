@@ -1,5 +1,6 @@
 -- From what the stream and the shelf gave to what is ready, and from there to what is told of it, whatever command tells it.
-use Rattle.std.proofs.Common.{◌≡◌, ℕ, List, Option, Some, None, option_map, Result, Ok, Err, IfOk, sym, subst, ◌∙◌}
+use Rattle.std.proofs.Common.{◌≡◌, ℕ, List, Option, Some, None, IfSome, option_map, Result, Ok, Err, IfOk, sym, subst, ◌∙◌}
+use Rattle.std.proofs.lemmas.Bool.{false≢true}
 use Rattle.std.specs.Borrow.{Bor}
 use Rattle.bf_answers.specs.Answers.{IsWhole}
 use Rattle.bf_answers.specs.declared.answer.Answer.{Answer}
@@ -8,16 +9,16 @@ use Rattle.bf_answers.specs.declared.line.Line.{Line}
 use Rattle.bf_answers.specs.declared.started.Ready.{Ready}
 use Rattle.bf_answers.specs.declared.started.Ready.TheVariants.{Told as ToldAnswer, Search}
 use Rattle.bf_answers.specs.Tellings.{begun_of, told_of}
+use Rattle.bf_answers.proofs.Streamed.{imported, refused}
 use Rattle.bf_begin.specs.declared.file.LogFile.{LogFile}
 use Rattle.bf_begin.specs.Files.{file_given, given_of, IsFileAt, IsFileOf}
-use Rattle.bf_grammar.specs.declared.fault.StreamFault.TheVariants as stream
 use Rattle.bf_grammar.specs.Limits.{standard_limits}
 use Rattle.bf_history.specs.declared.fault.ImportFault.{ImportFault}
-use Rattle.bf_history.specs.declared.fault.ImportFault.TheVariants as faults
 use Rattle.bf_history.specs.Imports.{MayImport}
+use Rattle.bf_import.specs.Faults.{IsImportFault}
 use Rattle.bf_history.specs.Meanings.{History}
 use Rattle.bf_output.specs.Beginning.{Begun, begun_with_skips}
-use Rattle.bf_output.specs.Inputs.{IsFiledIf, IsStreamed, IsTextTold, IsToldFrom, IsToldOr}
+use Rattle.bf_output.specs.Inputs.{IsFiledIf, IsImported, IsStreamed, IsTextTold, IsToldFrom, IsToldOr, file_of}
 use Rattle.bf_output.specs.Logs.{file_or_refusal}
 use Rattle.bf_output.specs.Output.{IsSearchOver}
 use Rattle.bf_output.specs.Refusals.{refusal}
@@ -34,10 +35,10 @@ behind : (replay : Option ℕ) (line : Line) (files : Option (List ShelfFile)) (
 behind None line files history file ready is begun =
     let P : Option LogFile → Type 0 = λ f. IsBegunAs (begun_with_skips line.request.now line.words.now (option_map given_of f) history) history ready in
     subst P is begun
-behind (Some i) line None history file ready is begun = tt
-behind (Some i) line (Some files) history file ready is begun =
-    let P : Option (Result (List ℕ) LoadFault) → Type 0 = λ f. IsBegunAs (begun_with_skips line.request.now line.words.now f history) history ready in
-    subst P is begun
+behind (Some i) line None history None ready is begun = absurd (false≢true is)
+behind (Some i) line None history (Some file) ready is begun = (given_of file, tt, begun)
+behind (Some i) line (Some files) history None ready is begun = absurd (cc)
+behind (Some i) line (Some files) history (Some file) ready is begun = (given_of file, cc, begun)
 
 pub begun_over : (line : Line) (files : Option (List ShelfFile)) (history : History) (file : Option LogFile) (lent : Option (Bor LogFile))
     (result : Result Ready Fault)
@@ -52,21 +53,11 @@ begun_over line files history file lent (Ok ready) is given begun =
 pub begun_loaded : (line : Line) (files : Option (List ShelfFile)) (left : Option (List ℕ)) (history : History) (result : Result Ready Fault)
     → MayImport left standard_limits (Ok history) → IfOk result (IsBegunOver line files history) → IfOk result (IsBegunStream line files left)
 begun_loaded line files left history (Err fault) may begun = tt
-begun_loaded line files None history (Ok ready) may begun = tt
-begun_loaded line files (Some bytes) history (Ok ready) may begun = (Ok history, may, begun)
-
-refused_bytes : (line : Line) (files : Option (List ShelfFile)) (bytes : List ℕ) (fault : ImportFault) (answer : Answer)
-    → MayImport (Some bytes) standard_limits (Err fault) → IsWhole answer.status → told_of answer ≡ refusal fault
-    → IsBegunStream line files (Some bytes) (ToldAnswer answer)
-refused_bytes line files bytes faults.NoMemory answer may whole is = absurd (subst (λ (t : Told). IsWhole t.status) is whole)
-refused_bytes line files bytes (faults.Stream stream.Read) answer may whole is = absurd (subst (λ (t : Told). IsWhole t.status) is whole)
-refused_bytes line files bytes fault answer may whole is = (Err fault, may, is)
+begun_loaded line files left history (Ok ready) may begun = (Ok history, imported left standard_limits history may, begun)
 
 pub begun_refused : (line : Line) (files : Option (List ShelfFile)) (left : Option (List ℕ)) (fault : ImportFault) (answer : Answer)
-    → MayImport left standard_limits (Err fault) → IsWhole answer.status → told_of answer ≡ refusal fault
-    → IsBegunStream line files left (ToldAnswer answer)
-begun_refused line files None fault answer may whole is = tt
-begun_refused line files (Some bytes) fault answer may whole is = refused_bytes line files bytes fault answer may whole is
+    → IsImported left standard_limits (Err fault) → told_of answer ≡ refusal fault → IsBegunStream line files left (ToldAnswer answer)
+begun_refused line files left fault answer read is = (Err fault, read, is)
 
 pub read_from : (left : Option (List ℕ)) (history : History) (result : Result Ready Fault) → MayImport left standard_limits (Ok history)
     → IfOk result (IsOf history) → IfOk result (IsReadFrom left)
@@ -90,12 +81,7 @@ module _ (IsTold : History → Begun → Told → Type 0) (line : Line) (files :
   told_behind : (replay : Option ℕ) (history : History) → IsBegunBehind replay line files history ready
       → IsFiledIf (λ file t. IsToldFrom (IsTold history) (begun_with_skips line.request.now line.words.now file history) t) line.words.now replay files told
   told_behind None history begun = from_begun _ history begun
-  told_behind (Some i) history begun = by files begun
-    where
-      by : (given : Option (List ShelfFile)) → IsBegunBehind (Some i) line given history ready
-          → IsFiledIf (λ file t. IsToldFrom (IsTold history) (begun_with_skips line.request.now line.words.now file history) t) line.words.now (Some i) given told
-      by None begun = tt
-      by (Some all) begun = from_begun _ history begun
+  told_behind (Some i) history (file, at, begun) = (file, at, from_begun _ history begun)
 
   told_loaded : (result : Result History ImportFault) → IsBegunLoaded line files result ready
       → IsToldOr refusal (IsSearchOver IsTold line.request.now line.words.now files) result told
@@ -108,8 +94,7 @@ module _ (IsTold : History → Begun → Told → Type 0) (line : Line) (files :
 
   pub ready_told : (left : Option (List ℕ)) → IsBegunStream line files left ready
       → IsStreamed (IsSearchOver IsTold line.request.now line.words.now files) left told
-  ready_told None begun = tt
-  ready_told (Some bytes) (result, loads, begun) = (result, loads, told_loaded result begun)
+  ready_told left (result, loads, begun) = (result, loads, told_loaded result begun)
 
 -- ---- the text of a file
 
@@ -117,31 +102,16 @@ module _ (tell : History → List ℕ → Told) (left : Option (List ℕ)) (file
   -- what is told of a file that the shelf gave is told by the words
   pub text_over : (history : History) (file : LogFile) (told : Told) → MayImport left standard_limits (Ok history) → IsFileAt files words i file
       → IsToldFrom (λ bytes t. t ≡ tell history bytes) (file_or_refusal (given_of file)) told → IsStreamed (IsTextTold tell words i files) left told
-  text_over history file told may is tells = by left may
+  text_over history file told may is tells = (Ok history, imported left standard_limits history may, (given_of file, at files is, tells))
     where
-      at : (given : Option (List ShelfFile)) → IsFileAt given words i file → IsTextTold tell words i given history told
+      at : (given : Option (List ShelfFile)) → IsFileAt given words i file → IfSome given (λ all. given_of file ≡ file_of words i all)
       at None is = tt
-      at (Some all) is =
-          subst (λ (f : Result (List ℕ) LoadFault). IsToldFrom (λ bytes t. t ≡ tell history bytes) (file_or_refusal f) told) is tells
-
-      by : (source : Option (List ℕ)) → MayImport source standard_limits (Ok history) → IsStreamed (IsTextTold tell words i files) source told
-      by None may = tt
-      by (Some bytes) may = (Ok history, may, at files is)
-
-  refused_text : (bytes : List ℕ) (fault : ImportFault) (answer : Answer) → MayImport (Some bytes) standard_limits (Err fault)
-      → IsWhole answer.status → told_of answer ≡ refusal fault → IsStreamed (IsTextTold tell words i files) (Some bytes) (told_of answer)
-  refused_text bytes faults.NoMemory answer may whole is = absurd (subst (λ (t : Told). IsWhole t.status) is whole)
-  refused_text bytes (faults.Stream stream.Read) answer may whole is = absurd (subst (λ (t : Told). IsWhole t.status) is whole)
-  refused_text bytes fault answer may whole is = (Err fault, may, is)
+      at (Some all) is = is
 
   -- and so is the refusal of the stream
-  pub text_refused : (fault : ImportFault) (answer : Answer) → MayImport left standard_limits (Err fault) → IsWhole answer.status
-      → told_of answer ≡ refusal fault → IsStreamed (IsTextTold tell words i files) left (told_of answer)
-  text_refused fault answer may whole is = by left may
-    where
-      by : (source : Option (List ℕ)) → MayImport source standard_limits (Err fault) → IsStreamed (IsTextTold tell words i files) source (told_of answer)
-      by None may = tt
-      by (Some bytes) may = refused_text bytes fault answer may whole is
+  pub text_refused : (fault : ImportFault) (answer : Answer) → MayImport left standard_limits (Err fault) → IsImportFault fault
+      → IsWhole answer.status → told_of answer ≡ refusal fault → IsStreamed (IsTextTold tell words i files) left (told_of answer)
+  text_refused fault answer may known whole is = refused (IsTextTold tell words i files) left fault (Ok answer) may known whole is
 
   -- so is what is answered to the text
   pub text_told : {E : Type 0} (history : History) (text : List ℕ) (result : Result Answer E)

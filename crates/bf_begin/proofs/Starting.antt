@@ -1,5 +1,6 @@
 -- From how a search begins to what is ready: the search, or its refusal.
 use Rattle.std.proofs.Common.{◌≡◌, ℕ, List, [], Option, Some, None, Result, Ok, Err, IfOk, refl, sym, ap, subst, ◌∙◌}
+use Rattle.std.proofs.lemmas.Bool.{false≢true}
 use Rattle.std.specs.Option.{option_map}
 use Rattle.bf_history.specs.Meanings.{History}
 use Rattle.bf_words.specs.declared.request.Request.{Request}
@@ -47,10 +48,10 @@ over_file : (replay : Option ℕ) (request : Request) (words : List (List ℕ)) 
 over_file None request words files tested history file told is over =
     let P : Option LogFile → Type 0 = λ f. IsOverFile request.verb request words tested (option_map given_of f) history told in
     subst P is over
-over_file (Some i) request words None tested history file told is over = tt
-over_file (Some i) request words (Some files) tested history file told is over =
-    let P : Option (Result (List ℕ) LoadFault) → Type 0 = λ f. IsOverFile request.verb request words tested f history told in
-    subst P is over
+over_file (Some i) request words None tested history None told is over = absurd (false≢true is)
+over_file (Some i) request words None tested history (Some file) told is over = (given_of file, tt, over)
+over_file (Some i) request words (Some files) tested history None told is over = absurd (cc)
+over_file (Some i) request words (Some files) tested history (Some file) told is over = (given_of file, cc, over)
 
 pub all_over_file : (request : Request) (words : List (List ℕ)) (files : Option (List ShelfFile)) (history : History) (file : Option LogFile)
     (result : Result Ready Fault)

@@ -16,12 +16,13 @@ use Rattle.bf_begin.specs.Files.{IsFileOf}
 use Rattle.bf_begin.specs.Lines.{begun_with_line}
 use Rattle.bf_grammar.specs.Limits.{standard_limits}
 use Rattle.bf_history.specs.declared.fault.ImportFault.{ImportFault}
-use Rattle.bf_history.specs.Imports.{Loads, MayImport}
+use Rattle.bf_history.specs.Imports.{MayImport}
 use Rattle.bf_history.specs.Meanings.{History}
 use Rattle.bf_output.specs.Beginning.{Begun, begun_with_skips}
-use Rattle.bf_output.specs.Inputs.{IsStreamed, IsTextTold, file_of}
+use Rattle.bf_output.specs.Inputs.{IsImported, IsStreamed, IsTextTold, file_of}
 use Rattle.bf_output.specs.Refusals.{refusal}
 use Rattle.bf_output.specs.Told.{Told}
+use Rattle.bf_io.specs.declared.shelf.LoadFault.{LoadFault}
 use Rattle.bf_io.specs.declared.shelf.ShelfFile.{ShelfFile}
 
 -- ---- a stream and a file
@@ -29,7 +30,7 @@ use Rattle.bf_io.specs.declared.shelf.ShelfFile.{ShelfFile}
 -- the stream is refused with this answer
 abbrev pub IsStreamRefused : Option (List ℕ) → Answer → Type 0
 IsStreamRefused left answer =
-    (fault : ImportFault) × MayImport left standard_limits (Err fault) × (told_of answer ≡ refusal fault) × IsWhole answer.status
+    (fault : ImportFault) × IsImported left standard_limits (Err fault) × (told_of answer ≡ refusal fault) × IsWhole answer.status
 
 -- the history is that of the stream, and the file that of the word, where there is one
 abbrev pub IsOpened : Option (List ℕ) → Option (List ShelfFile) → List (List ℕ) → Option ℕ → Opened → Type 0
@@ -64,7 +65,8 @@ IsBegunFile line file history ready = IsBegunAs (begun_with_line line file histo
 abbrev pub IsBegunBehind : Option ℕ → Line → Option (List ShelfFile) → History → Ready → Type 0
 IsBegunBehind None line files history ready = IsBegunAs (begun_with_skips line.request.now line.words.now None history) history ready
 IsBegunBehind (Some i) line files history ready =
-    IfSome files (λ all. IsBegunAs (begun_with_skips line.request.now line.words.now (Some (file_of line.words.now i all)) history) history ready)
+    (file : Result (List ℕ) LoadFault) × IfSome files (λ all. file ≡ file_of line.words.now i all)
+    × IsBegunAs (begun_with_skips line.request.now line.words.now (Some file) history) history ready
 
 abbrev pub IsBegunOver : Line → Option (List ShelfFile) → History → Ready → Type 0
 IsBegunOver line files history ready = IsBegunBehind line.request.now.replay line files history ready
@@ -75,10 +77,9 @@ IsBegunLoaded line files (Ok history) ready = IsBegunOver line files history rea
 IsBegunLoaded line files (Err fault) (ToldAnswer answer) = told_of answer ≡ refusal fault
 IsBegunLoaded line files (Err fault) (Search started) = ⊥
 
--- where the stream is not told, nothing is said of it
 abbrev pub IsBegunStream : Line → Option (List ShelfFile) → Option (List ℕ) → Ready → Type 0
 IsBegunStream line files left ready =
-    IfSome left (λ bytes. (result : Result History ImportFault) × Loads bytes standard_limits result × IsBegunLoaded line files result ready)
+    (result : Result History ImportFault) × IsImported left standard_limits result × IsBegunLoaded line files result ready
 
 -- a search is over the history of the stream
 abbrev pub IsReadFrom : Option (List ℕ) → Ready → Type 0

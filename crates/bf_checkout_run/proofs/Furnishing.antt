@@ -30,7 +30,7 @@ use Rattle.bf_checkout_run.specs.CheckingOut.{AreGroundsOf, IsFurnishedFor, IsFu
 -- what is told over the history of a content is told of the stream that loads it
 loaded : (request : Request) (given : Given) (left : Option (List ℕ)) (content : Content) (told : Told) → MayFurnish left standard_limits (Ok content)
     → IsOver request given content.history told → IsCheckedOut request given left told
-loaded request given None content told may is = tt
+loaded request given None content told may is = (Ok content, tt, is)
 loaded request given (Some bytes) content told may is = (Ok content, may, is)
 
 pub all_loaded : (request : Request) (words : List (List ℕ)) (files : Option (List ShelfFile)) (left : Option (List ℕ)) (content : Content)
@@ -43,18 +43,18 @@ all_loaded request words files left content history (Ok ready) may same over = �
     (subst (λ (h : History). IsOver request (given_to words files tested) h told) same (over tested told tells))
 
 -- and so is the refusal of a stream
-refused_of : (request : Request) (given : Given) (bytes : List ℕ) (fault : ImportFault) (told : Told) → MayFurnish (Some bytes) standard_limits (Err fault)
-    → IsWhole told.status → told ≡ refusal fault → IsCheckedOut request given (Some bytes) told
-refused_of request given bytes faults.NoMemory told may whole is = absurd (subst (λ (t : Told). IsWhole t.status) is whole)
-refused_of request given bytes (faults.Stream stream.Read) told may whole is = absurd (subst (λ (t : Told). IsWhole t.status) is whole)
-refused_of request given bytes fault told may whole is = (Err fault, may, is)
+refused_of : (request : Request) (given : Given) (left : Option (List ℕ)) (fault : ImportFault) (told : Told) → MayFurnish left standard_limits (Err fault)
+    → IsWhole told.status → told ≡ refusal fault → IsCheckedOut request given left told
+refused_of request given None fault told may whole is = (Err fault, tt, is)
+refused_of request given (Some bytes) faults.NoMemory told may whole is = absurd (subst (λ (t : Told). IsWhole t.status) is whole)
+refused_of request given (Some bytes) (faults.Stream stream.Read) told may whole is = absurd (subst (λ (t : Told). IsWhole t.status) is whole)
+refused_of request given (Some bytes) fault told may whole is = (Err fault, may, is)
 
 pub all_refused : (request : Request) (words : List (List ℕ)) (files : Option (List ShelfFile)) (left : Option (List ℕ)) (fault : ImportFault)
     (answer : Answer) → MayFurnish left standard_limits (Err fault) → IsWhole answer.status → told_of answer ≡ refusal fault
     → AllTold request words (Told_ answer) (λ tested told. IsCheckedOut request (given_to words files tested) left told)
-all_refused request words files None fault answer may whole is = λ tested told tells. tt
-all_refused request words files (Some bytes) fault answer may whole is = λ tested told tells.
-    refused_of request (given_to words files tested) bytes fault told may (subst (λ (t : Told). IsWhole t.status) (sym tells) whole) (tells ∙ is)
+all_refused request words files left fault answer may whole is = λ tested told tells.
+    refused_of request (given_to words files tested) left fault told may (subst (λ (t : Told). IsWhole t.status) (sym tells) whole) (tells ∙ is)
 
 -- ---- what the workshop tests in
 

@@ -9,13 +9,13 @@ use Rattle.bf_output.specs.Output.{Given, IsOver}
 use Rattle.bf_output.specs.Refusals.{refusal, usage}
 use Rattle.bf_output.specs.Told.{Told}
 
--- The bytes of the stream are read to its end, with their contents. Over these the search is told as that of `run`, by what the
--- workshop shows in place of the tester. A file that lacks its content is refused like every other fault of the stream. Where the
--- stream is not told, nothing is said of the answer.
+-- The stream is read to its end, with its contents; where its bytes are not told, it has some content. Over that the search is told
+-- as that of `run`, by what the workshop shows in place of the tester. A file that lacks its content is refused like every other
+-- fault of the stream.
 abbrev pub IsCheckedOut : Request → Given → Option (List ℕ) → Told → Type 0
-IsCheckedOut request given stream told = IfSome stream (λ bytes.
-    (result : Result Content ImportFault) × Furnishes bytes standard_limits result
-    × IsToldOr refusal (λ (content : Content) (other : Told). IsOver request given content.history other) result told)
+IsCheckedOut request given stream told =
+    (result : Result Content ImportFault) × IfSome stream (λ bytes. Furnishes bytes standard_limits result)
+    × IsToldOr refusal (λ (content : Content) (other : Told). IsOver request given content.history other) result told
 
 abbrev pub IsCheckoutFor : Result Request ℕ → Given → Option (List ℕ) → Told → Type 0
 IsCheckoutFor read given stream told = IsToldOr usage (λ request told. IsCheckedOut request given stream told) read told

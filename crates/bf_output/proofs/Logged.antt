@@ -284,11 +284,10 @@ module _ (request : Request) (words : List (List ℕ)) (read : asked.request wor
       → IsOverFile request.verb request words tested file history told
   from_log files history file None none is =
       subst (λ (f : FileGiven). IsOverFile request.verb request words tested f history told) (sym none) is
-  from_log files history file (Some i) (all, shown, found) is =
-      let over : IfSome files (λ fs. IsOverFile request.verb request words tested (Some (file_of words i fs)) history told) = is in
-      subst (λ (f : FileGiven). IsOverFile request.verb request words tested f history told) (sym found)
-      (subst (λ (o : Option (List ShelfFile)). IfSome o (λ fs. IsOverFile request.verb request words tested (Some (file_of words i fs)) history told))
-      shown over)
+  from_log files history file (Some i) (all, shown, found) (given, at, is) =
+      let same : given ≡ file_of words i all =
+      subst (λ (o : Option (List ShelfFile)). IfSome o (λ fs. given ≡ file_of words i fs)) shown at in
+      subst (λ (f : FileGiven). IsOverFile request.verb request words tested f history told) (ap (λ (f : Result (List ℕ) LoadFault). Some f) same ∙ sym found) is
 
   from_loaded : (files : Option (List ShelfFile)) (file : FileGiven) → IsFileGiven request.replay words files file → searches request.verb ≡ true
       → (result : Result History ImportFault) → Loads bytes standard_limits result

@@ -35,7 +35,7 @@ use Rattle.bf_output.specs.Beginning.{Begun, begun_with_skips}
 use Rattle.bf_output.specs.Gen.{generated, made_stream}
 use Rattle.bf_output.specs.Next.{next_told}
 use Rattle.bf_output.specs.Output.{Given, given_to, IsOver, IsOverFile, IsOutputOf, IsSearched, is_run}
-use Rattle.bf_output.specs.Inputs.{IsFiledIf, IsReadUnder, IsToldFrom, IsToldOr, file_of}
+use Rattle.bf_output.specs.Inputs.{IsFiledIf, IsStreamed, IsToldFrom, IsToldOr, file_of}
 use Rattle.bf_output.specs.Output.{tests, traces}
 use Rattle.bf_output.specs.Refusals.{usage, refusal}
 use Rattle.bf_output.specs.Replay.{replay_told}
@@ -103,8 +103,9 @@ module _ (told other : Told) (whole : told.status ≢ status.WriteFault) (also_w
   one_log : (replay : Option ℕ) (request : Request) (history : History) → is_run request.verb ≡ false → request.trace ≡ false
       → IsBehind replay request given history told → IsBehind replay request given history other → told ≡ other
   one_log None request history untested untraced is also = one_over request.verb request None history untested untraced is also
-  one_log (Some i) request history untested untraced is also =
-      one_over request.verb request (Some (file_of words i files)) history untested untraced is also
+  one_log (Some i) request history untested untraced (file, shown, is) (again, reshown, also) =
+      one_over request.verb request (Some again) history untested untraced
+      (subst (λ (f : Result (List ℕ) LoadFault). IsOverFile request.verb request words tested (Some f) history told) (shown ∙ sym reshown) is) also
 
   one_loaded : (request : Request) (result : Result History ImportFault) → is_run request.verb ≡ false → request.trace ≡ false
       → IsToldOr refusal (IsOver request given) result told → IsToldOr refusal (IsOver request given) result other → told ≡ other
@@ -112,7 +113,7 @@ module _ (told other : Told) (whole : told.status ≢ status.WriteFault) (also_w
   one_loaded request (Err fault) untested untraced is also = is ∙ sym also
 
   one_over_bytes : (request : Request) (bytes : List ℕ) → is_run request.verb ≡ false → request.trace ≡ false
-      → IsReadUnder standard_limits (IsOver request given) bytes told → IsReadUnder standard_limits (IsOver request given) bytes other → told ≡ other
+      → IsStreamed (IsOver request given) (Some bytes) told → IsStreamed (IsOver request given) (Some bytes) other → told ≡ other
   one_over_bytes request bytes untested untraced (result, loads, is) (again, reloads, also) =
       one_loaded request again untested untraced
       (subst (λ (r : Result History ImportFault). IsToldOr refusal (IsOver request given) r told) (one_loading bytes standard_limits result again loads reloads) is) also
@@ -223,14 +224,15 @@ module _ (words : List (List ℕ)) (files : List ShelfFile) (tested : TesterShow
   some_log : (replay : Option ℕ) (request : Request) (history : History) → request.trace ≡ false
       → (told : Told) × IsBehind replay request some_given history told
   some_log None request history untraced = some_over request.verb request None history untraced
-  some_log (Some i) request history untraced = some_over request.verb request (Some (file_of words i files)) history untraced
+  some_log (Some i) request history untraced =
+      let answer = some_over request.verb request (Some (file_of words i files)) history untraced in
+      (answer.0, (file_of words i files, refl, answer.1))
 
   some_loaded : (request : Request) (result : Result History ImportFault) → request.trace ≡ false → (told : Told) × IsToldOr refusal (IsOver request some_given) result told
   some_loaded request (Ok history) untraced = some_log request.replay request history untraced
   some_loaded request (Err fault) untraced = (refusal fault, refl)
 
-  some_over_bytes : (request : Request) (bytes : List ℕ) → request.trace ≡ false
-      → (told : Told) × IsReadUnder standard_limits (IsOver request some_given) bytes told
+  some_over_bytes : (request : Request) (bytes : List ℕ) → request.trace ≡ false → (told : Told) × IsStreamed (IsOver request some_given) (Some bytes) told
   some_over_bytes request bytes untraced =
       let found = some_loading bytes standard_limits in
       let answer = some_loaded request found.0 untraced in

@@ -1,7 +1,6 @@
 -- What the program answers for its words, its stream and its files, in the order of its refusals: the words, the stream to its
 -- end, the log that is replayed, the names, an end that is missing, and then the run.
 use Rattle.std.specs.Prelude.{◌≡◌, ◌⊎◌, ℕ, Bool, true, false, IsTrue, List, Option, is_some, Result, Ok, Err}
-use Rattle.bf_grammar.specs.Limits.{standard_limits}
 use Rattle.bf_history.specs.Meanings.{History}
 use Rattle.bf_words.specs.declared.request.Request.{Request}
 use Rattle.bf_words.specs.declared.verb.Verb.{Verb}
@@ -12,7 +11,7 @@ use Rattle.bf_words.specs.Words.{request}
 use Rattle.bf_output.specs.declared.status.Status.TheVariants as status
 use Rattle.bf_output.specs.Beginning.{Begun, begun_with_skips}
 use Rattle.bf_output.specs.Gen.{generated, made_stream}
-use Rattle.bf_output.specs.Inputs.{IsFiledIf, IsReadUnder, IsStreamed, IsToldFrom, IsToldOr}
+use Rattle.bf_output.specs.Inputs.{IsFiledIf, IsStreamed, IsToldFrom, IsToldOr}
 use Rattle.bf_output.specs.Next.{next_told}
 use Rattle.bf_output.specs.Refusals.{usage}
 use Rattle.bf_output.specs.Replay.{replay_told}
@@ -72,7 +71,7 @@ reads_stream other = true
 
 abbrev pub IsOutputOf : Verb → Request → Given → Option (List ℕ) → Told → Type 0
 IsOutputOf Gen request given stream told = told ≡ generated request
-IsOutputOf Sample request given stream told = IsReadUnder standard_limits (IsOver request given) (made_stream request) told
+IsOutputOf Sample request given stream told = IsStreamed (IsOver request given) (Some (made_stream request)) told
 IsOutputOf other request given stream told = IsStreamed (IsOver request given) stream told
 
 -- the words come first

@@ -5,7 +5,7 @@ use Rattle.bf_history.specs.declared.fault.ImportFault.{ImportFault}
 use Rattle.bf_history.specs.Imports.{MayImport}
 use Rattle.bf_history.specs.Meanings.{History}
 use Rattle.bf_words.specs.declared.request.Request.{Request}
-use Rattle.bf_output.specs.Inputs.{IsStreamed}
+use Rattle.bf_output.specs.Inputs.{IsImported, IsStreamed}
 use Rattle.bf_output.specs.Output.{given_to, IsOver}
 use Rattle.bf_output.specs.Refusals.{refusal}
 use Rattle.bf_output.specs.Shown.{TesterShown}
@@ -20,9 +20,8 @@ use Rattle.bf_answers.specs.declared.answer.Fault.{Fault}
 use Rattle.bf_answers.specs.declared.started.Ready.{Ready}
 use Rattle.bf_answers.specs.declared.started.Ready.TheVariants.{Told as Told_, Search}
 use Rattle.bf_answers.specs.Ready.{AllTold, IsToldBy}
-use Rattle.bf_answers.specs.Answers.{IsWhole}
 use Rattle.bf_answers.specs.Tellings.{told_of}
-use Rattle.bf_answers.proofs.Streamed.{refused, streamed}
+use Rattle.bf_answers.proofs.Streamed.{streamed}
 
 -- an answer that tells this
 abbrev answer_of : Told → Answer
@@ -38,11 +37,9 @@ all_loaded request words files left history (Ok ready) may over = λ tested told
     streamed (IsOver request (given_to words files tested)) left history (Ok (answer_of told)) may (over tested told tells)
 
 pub all_refused : (request : Request) (words : List (List ℕ)) (files : Option (List ShelfFile)) (left : Option (List ℕ)) (fault : ImportFault) (answer : Answer)
-    → MayImport left standard_limits (Err fault) → IsWhole answer.status → told_of answer ≡ refusal fault
+    → IsImported left standard_limits (Err fault) → told_of answer ≡ refusal fault
     → AllTold request words (Told_ answer) (λ tested told. IsStreamed (IsOver request (given_to words files tested)) left told)
-all_refused request words files left fault answer may whole is = λ tested told tells.
-    subst (λ (t : Told). IsStreamed (IsOver request (given_to words files tested)) left t) (sym tells)
-    (refused (IsOver request (given_to words files tested)) left fault (Ok answer) may whole is)
+all_refused request words files left fault answer read is = λ tested told tells. (Err fault, read, tells ∙ is)
 
 -- what says this is told so, whatever a tester shows
 pub all_told_by : (request : Request) (words : List (List ℕ)) (meaning : Told) (result : Result Ready Fault) → IfOk result (λ ready. IsToldBy ready meaning)

@@ -1,12 +1,11 @@
 -- What a line of words is answered.
 use Rattle.std.specs.Borrow.{Bor}
 use Rattle.std.specs.Prelude.{ℕ, List, Option, Result}
-use Rattle.bf_grammar.specs.Limits.{standard_limits}
 use Rattle.bf_history.specs.Meanings.{History}
 use Rattle.bf_output.specs.Beginning.{Begun}
 use Rattle.bf_output.specs.Gen.{made_stream}
 use Rattle.bf_output.specs.Next.{asked_once, next_told}
-use Rattle.bf_output.specs.Inputs.{IsReadUnder, IsStreamed}
+use Rattle.bf_output.specs.Inputs.{IsStreamed}
 use Rattle.bf_output.specs.Output.{IsOutputOf, IsOver, IsOverFile, given_to}
 use Rattle.bf_output.specs.Told.{Told}
 use Rattle.bf_search.specs.State.{ask}
@@ -27,7 +26,7 @@ TellsOutput line files left ready =
 abbrev pub TellsMade : Line → Option (List ShelfFile) → Ready → Type 0
 TellsMade line files ready =
     AllTold line.request.now line.words.now ready (λ tested told.
-    IsReadUnder standard_limits (IsOver line.request.now (given_to line.words.now files tested)) (made_stream line.request.now) told)
+    IsStreamed (IsOver line.request.now (given_to line.words.now files tested)) (Some (made_stream line.request.now)) told)
 
 -- over a stream that is read
 abbrev pub TellsStream : Line → Option (List ShelfFile) → Option (List ℕ) → Ready → Type 0

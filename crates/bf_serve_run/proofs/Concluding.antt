@@ -9,10 +9,11 @@ use Rattle.bf_answers.specs.Answers.{Answers, IsWhole}
 use Rattle.bf_answers.specs.Devices.{HasFailed, Met, ShelfMet}
 use Rattle.bf_answers.specs.Tellings.{told_of}
 use Rattle.bf_answers.proofs.Answering.{read_cause}
-use Rattle.bf_answers.proofs.Streamed.{refused_bytes}
+use Rattle.bf_answers.proofs.Streamed.{not_imported}
 use Rattle.bf_history.specs.declared.fault.ImportFault.{ImportFault}
 use Rattle.bf_history.specs.Imports.{MayImport}
 use Rattle.bf_history.specs.Meanings.{History}
+use Rattle.bf_import.specs.Faults.{IsImportFault}
 use Rattle.bf_import.specs.Rest.{Leaves}
 use Rattle.bf_io.specs.Told.{Appends, AppendsFront}
 use Rattle.bf_lines.specs.declared.fault.ServeFault.{ServeFault}
@@ -23,7 +24,7 @@ use Rattle.bf_output.specs.declared.status.Status.TheVariants as status
 use Rattle.bf_output.specs.Inputs.{IsReadUnder}
 use Rattle.bf_output.specs.Refusals.{refusal, usage}
 use Rattle.bf_output.specs.Told.{Told}
-use Rattle.bf_serve_run.specs.Command.{IsBegunBehind, IsCutOff, IsCutServing, IsServeComplete, IsServeOutput, IsServedBehind, IsUntold, ServeAnswers}
+use Rattle.bf_serve_run.specs.Command.{IsBegunBehind, IsCutOff, IsCutServing, IsServeComplete, IsServeOutput, IsServedAll, IsUntold, ServeAnswers}
 use Rattle.bf_serve_run.specs.Command.{limits_asked, serves, status_of, to_serve, wrong_word}
 use Rattle.bf_serve_run.specs.Serving.{WritesAll, WritesFront, WritesSome, shelf_until}
 
@@ -72,17 +73,16 @@ tells_usage words shelf source word (Err fault) wrong is = tt
 -- ---- a stream that is refused
 
 output_of : (words : List (List ℕ)) (shelf : ShelfMet) (source : Option (List ℕ)) (t : Told) → wrong_word words ≡ None
-    → IfSome source (λ bytes. IsReadUnder (limits_asked words) (IsServedBehind (limits_asked words) shelf bytes) bytes t) → IsServeOutput words shelf source t
+    → IsReadUnder (limits_asked words) (IsServedAll (limits_asked words) shelf source) source t → IsServeOutput words shelf source t
 output_of words shelf source t right is = rw right is
 
 pub tells_refusal : (words : List (List ℕ)) (shelf : ShelfMet) (source : Option (List ℕ)) (fault : ImportFault) (answer : Result Answer Fault)
-    → wrong_word words ≡ None → MayImport source (limits_asked words) (Err fault) → IfOk answer (λ a. IsWhole a.status)
+    → wrong_word words ≡ None → MayImport source (limits_asked words) (Err fault) → IsImportFault fault → IfOk answer (λ a. IsWhole a.status)
     → IfOk answer (λ a. told_of a ≡ refusal fault) → IfOk answer (λ a. IsServeOutput words shelf source (told_of a))
-tells_refusal words shelf source fault (Err cut) right may whole is = tt
-tells_refusal words shelf None fault (Ok answer) right may whole is = output_of words shelf None (told_of answer) right tt
-tells_refusal words shelf (Some bytes) fault (Ok answer) right may whole is =
-    output_of words shelf (Some bytes) (told_of answer) right
-    (refused_bytes (limits_asked words) (IsServedBehind (limits_asked words) shelf bytes) bytes fault (told_of answer) may whole is)
+tells_refusal words shelf source fault (Err cut) right may known whole is = tt
+tells_refusal words shelf source fault (Ok answer) right may known whole is =
+    output_of words shelf source (told_of answer) right
+    (Err fault, not_imported source (limits_asked words) fault (told_of answer) may known whole is, is)
 
 -- ---- requests that were served
 
@@ -93,10 +93,11 @@ all_over met history rest None left right e may leaves writes = inr (inr (serves
 all_over met history rest (Some bytes) None right e may leaves writes = absurd leaves
 all_over met history rest (Some bytes) (Some more) right e may leaves (text, whole, gained) =
     let all : Told = record { status = status.Done; text = text } in
-    let read : IsReadUnder (limits_asked met.words) (IsServedBehind (limits_asked met.words) met.shelf bytes) bytes all = (Ok history, may, (rest ++ more, leaves, (whole, refl))) in
+    let limits = limits_asked met.words in
+    let read : IsReadUnder limits (IsServedAll limits met.shelf (Some bytes)) (Some bytes) all = (Ok history, may, (refl, (rest ++ more, leaves, whole))) in
     let output : IsServeOutput met.words met.shelf met.source.left all =
     output_of met.words met.shelf met.source.left all right
-    (subst (λ (s : Option (List ℕ)). IfSome s (λ bs. IsReadUnder (limits_asked met.words) (IsServedBehind (limits_asked met.words) met.shelf bs) bs all)) (sym e) read) in
+    (subst (λ (s : Option (List ℕ)). IsReadUnder limits (IsServedAll limits met.shelf s) s all) (sym e) read) in
     inl (text, output, gained)
 
 pub all_answered : (met : Met) (history : History) (rest : List ℕ) (left : Option (List ℕ)) → wrong_word met.words ≡ None

@@ -41,20 +41,18 @@ serves words = is_none (wrong_word words)
 
 -- ---- what is told where no device fails
 
--- the requests of an input get their replies
-abbrev pub IsServedTo : History → ShelfMet → List ℕ → Told → Type 0
-IsServedTo history shelf input told = IsServedWhole history shelf input told.text × (told.status ≡ status.Done)
+-- The requests of the input that stands behind the stream get their replies. Where the source does not tell its bytes, nothing is
+-- said of these.
+abbrev pub IsServedAll : Limits → ShelfMet → Option (List ℕ) → History → Told → Type 0
+IsServedAll limits shelf source history told =
+    (told.status ≡ status.Done)
+    × IfSome source (λ bytes. (input : List ℕ) × AreBehind bytes limits input × IsServedWhole history shelf input told.text)
 
--- the input is what stands behind the stream that the bytes begin with
-abbrev pub IsServedBehind : Limits → ShelfMet → List ℕ → History → Told → Type 0
-IsServedBehind limits shelf bytes history told =
-    (input : List ℕ) × AreBehind bytes limits input × IsServedTo history shelf input told
-
--- The words come first. Where the source does not tell its bytes, nothing is said of the answer.
+-- the words come first, and then the stream
 abbrev pub IsServeOutput : List (List ℕ) → ShelfMet → Option (List ℕ) → Told → Type 0
 IsServeOutput words shelf source told =
     let limits = limits_asked words in
-    IsToldUnless (wrong_word words) (λ told. IfSome source (λ bytes. IsReadUnder limits (IsServedBehind limits shelf bytes) bytes told)) told
+    IsToldUnless (wrong_word words) (λ told. IsReadUnder limits (IsServedAll limits shelf source) source told) told
 
 -- the command of these words: it tests nothing, and tells a fault of the shelf as the reply to a request
 abbrev pub to_serve : Met → Command

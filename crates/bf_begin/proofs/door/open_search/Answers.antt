@@ -16,7 +16,7 @@ returns-in-Over-clause-history g c =
 pub returns-in-Refused-clause-begins : goal.returns-in-Refused-clause-begins
 returns-in-Refused-clause-begins g c =
     let opened = rw c.in-Refused.is at c.in_ok-opened.ensures.opened in
-    begun_refused c.args.line (g.F.Shelf.files c.args.shelf.now) (g.S.Source.left c.args.stream.now) opened.0 c.in-Refused.answer opened.1 opened.3 opened.2
+    begun_refused c.args.line (g.F.Shelf.files c.args.shelf.now) (g.S.Source.left c.args.stream.now) opened.0 c.in-Refused.answer opened.1 opened.2
 
 pub returns-in-Refused-clause-sound : goal.returns-in-Refused-clause-sound
 returns-in-Refused-clause-sound g c = (rw c.in-Refused.is at c.in_ok-opened.ensures.opened).3

@@ -25,5 +25,5 @@ returns-in_ok-too_large-in-TooLong-clause-opened g c = λ tell.
 pub returns-in_ok-refusal-in-Err-clause-opened : goal.returns-in_ok-refusal-in-Err-clause-opened
 returns-in_ok-refusal-in-Err-clause-opened g c = λ tell.
     text_refused tell (g.S.Source.left c.args.stream.now) (g.F.Shelf.files c.args.shelf.now) c.args.words.now c.args.index
-    c.in-Err.fault c.in_ok-refusal-in-Err.field-0 (rw c.standard.ensures at c.in-Err.ensures.history)
+    c.in-Err.fault c.in_ok-refusal-in-Err.field-0 (rw c.standard.ensures at c.in-Err.ensures.history) c.in-Err.ensures.known
     c.in_ok-refusal-in-Err.ensures.whole c.in_ok-refusal-in-Err.ensures.tells

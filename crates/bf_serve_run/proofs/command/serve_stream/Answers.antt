@@ -28,7 +28,7 @@ returns-in-Err-clause-serves g c = λ words tested asked.
     tested (met_sink g.K.Sink c.args.out.now c.say_answer.new.out) in
     inl (said_answer (to_serve met) met c.say_answer.result told.result refl
     (tells_refusal words met.shelf met.source.left c.in-Err.fault told.result asked.0 (rw asked.1 at c.in-Err.ensures.history)
-    told.ensures.whole told.ensures.tells)
+    c.in-Err.ensures.known told.ensures.whole told.ensures.tells)
     told.ensures.whole
     (λ e. (serves_by words asked.0, c.in-Err.ensures.cause.failed (ap (λ (f : ImportFault). Err f) (told.ensures.read e))))
     (λ e. absurd (told.ensures.no_shelf e)) c.say_answer.ensures.told)
