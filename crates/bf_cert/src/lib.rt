@@ -9,9 +9,9 @@ pub mod laws;
 mod leading;
 mod line;
 mod make;
+mod parse;
 mod read;
 mod reader;
-mod said;
 mod write;
 
 pub use cert::{Cert, CertStep, Steps};

@@ -10,7 +10,7 @@ ghost use Rattle.bf_searches.specs.Lines.{IsCausedIn, IsUsedIn, IsUsedToTest};
 
 use crate::ended::answer_run;
 use bf_answers::{Answer, Line, Means, Started};
-use bf_runs::{Search, run_leg};
+use bf_runs::{RunSettings, run_leg};
 use bf_searches::{Running, begin_running, command_of, tester_of};
 use bf_tester::{Host, Tester};
 use std::alloc::AllocError;
@@ -104,7 +104,7 @@ fn certify_run<R: Host, T: Tester>(
         first,
         ..
     } = started;
-    let search = Search {
+    let search = RunSettings {
         history: &history,
         reach: &reach,
         workers: line.request.workers,

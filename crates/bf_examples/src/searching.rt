@@ -8,7 +8,7 @@ use bf_io::Word;
 use bf_names::{NameFault, resolve};
 use bf_oid::Oid;
 use bf_reach::Reach;
-use bf_runs::{Search, Standing, run_leg};
+use bf_runs::{RunSettings, Standing, run_leg};
 use bf_search::Ending;
 use bf_state::State;
 use bf_terms::Terms;
@@ -116,7 +116,7 @@ where
     )?;
     let standing = Standing::first(alloc, history, state)?;
     let reach = Reach::build(alloc, history.graph())?;
-    let search = Search {
+    let search = RunSettings {
         history,
         reach: &reach,
         workers,

@@ -18,7 +18,7 @@ use Rattle.bf_output.specs.Beginning.{Begun}
 use Rattle.bf_output.specs.Simulate.{cut_short}
 use Rattle.bf_output.specs.Shown.{TesterShown}
 use Rattle.bf_output.specs.Tested.{run_on}
-use Rattle.bf_runs.specs.declared.case.Search.{Search as Searched}
+use Rattle.bf_runs.specs.declared.case.RunSettings.{RunSettings}
 use Rattle.bf_runs.specs.Legs.{IsKnown}
 use Rattle.bf_search.specs.declared.outcomes.Outcome.{Outcome}
 use Rattle.bf_search.specs.Run.{Run}
@@ -35,7 +35,7 @@ use Rattle.bf_journal_run.specs.Legs.{IsCutByMemory, IsCutByWrite, IsEndedKept, 
 
 -- What was written so far of a run that has come to its next leg: nothing, or all that it tells so far. Each image that a crash
 -- might have left is of what is known by then.
-pub record HasComeKept (Leaves : List (Option Outcome) → Type 0) (search : Searched) (request : Request) (tested : TesterShown) (remembered : List Answered) (opened : List (Option Outcome)) (first : Begun)
+pub record HasComeKept (Leaves : List (Option Outcome) → Type 0) (search : RunSettings) (request : Request) (tested : TesterShown) (remembered : List Answered) (opened : List (Option Outcome)) (first : Begun)
     (before after : Option (List ℕ)) (kept : List (Option Outcome)) (running : Running) : Type 0 where
   pub written : List ℕ
   pub gained : Appends before after written
@@ -57,7 +57,7 @@ log_front request tested history first written running is (inr told) =
       sym (append-nil written) ∙ ap (λ (t : List ℕ). written ++ t) (sym told) ∙ is.log,
     )
 
-module _ (images : List (Option Outcome) → Type 0) (disk : DiskMet) (search : Searched) (request : Request) (first : Begun) (written : List ℕ)
+module _ (images : List (Option Outcome) → Type 0) (disk : DiskMet) (search : RunSettings) (request : Request) (first : Begun) (written : List ℕ)
     (running : Running) (before : Option (List ℕ)) where
   -- memory ran out before anything more was written
   lost_by : (tested later : TesterShown) (mid after : Option (List ℕ)) → IsKnown search.history.now.names later.plan later.answers running.standing.table
@@ -157,7 +157,7 @@ failed_since first before now result cut le is only e =
     rose_since first before now le (only.failed (is ∙ ap (λ (c : Cut). Err c) e))
 
 -- the lines so far were written
-pub flushed_kept : (Leaves : List (Option Outcome) → Type 0) (search : Searched) (request : Request) (tested : TesterShown) (remembered : List Answered) (opened kept : List (Option Outcome)) (first : Begun)
+pub flushed_kept : (Leaves : List (Option Outcome) → Type 0) (search : RunSettings) (request : Request) (tested : TesterShown) (remembered : List Answered) (opened kept : List (Option Outcome)) (first : Begun)
     (before mid after : Option (List ℕ)) (written : List ℕ) (running : Running) (text : List ℕ)
     → IsKeptRun search request tested remembered opened first written kept running → Appends before mid written
     → Appends mid after running.telling.text → text ≡ [] → Leaves running.standing.table

@@ -20,7 +20,7 @@ use Rattle.bf_output.specs.Traces.{course_of}
 use Rattle.bf_journal.specs.Recalling.{KeepsRemembered}
 use Rattle.bf_runs.proofs.Sequences.{Keeps, part_same}
 use Rattle.bf_runs.specs.Courses.{course_from, stand_of}
-use Rattle.bf_runs.specs.declared.case.Search.{Search as Searched}
+use Rattle.bf_runs.specs.declared.case.RunSettings.{RunSettings}
 use Rattle.bf_runs.specs.Legs.{Course, IsKnown, IsLegRun, IsReady, LeadsOn, leg_run}
 use Rattle.bf_search.specs.declared.farm.Ending.{Ending}
 use Rattle.bf_search.specs.declared.farm.Ending.TheVariants as ending
@@ -60,7 +60,7 @@ pub err_if : {T E : Type 0} (P : E → Type 0) (result : Result T E) → IsErrAn
 err_if P (Ok t) is = absurd is
 err_if P (Err e) is = is
 
-module _ (Leaves : (ℕ → Outcome → Type 0) → Type 0) (search : Searched) (running : Running) (tester : TesterMet) (report : Report) (request : Request) (remembered now_remembered : List Answered)
+module _ (Leaves : (ℕ → Outcome → Type 0) → Type 0) (search : RunSettings) (running : Running) (tester : TesterMet) (report : Report) (request : Request) (remembered now_remembered : List Answered)
     (opened : List (Option Outcome)) (first : Begun) (written : List ℕ) (kept new : List (Option Outcome))
     (is : IsKeptRun search request tester.before remembered opened first written kept running)
     (ran : (s : Search) → IsLegRun (course_from search s) running.standing.state report)

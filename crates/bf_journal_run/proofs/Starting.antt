@@ -14,7 +14,7 @@ use Rattle.bf_output.specs.Shown.{TesterShown}
 use Rattle.bf_output.specs.Tested.{run_on}
 use Rattle.bf_runs.proofs.Fresh.{none_known}
 use Rattle.bf_runs.proofs.Known.{nothing_known_yet}
-use Rattle.bf_runs.specs.declared.case.Search.{Search as Searched}
+use Rattle.bf_runs.specs.declared.case.RunSettings.{RunSettings}
 use Rattle.bf_oid.specs.declared.object.Oid.{Oid}
 use Rattle.bf_runs.specs.Legs.{IsKnown}
 use Rattle.bf_search.specs.declared.outcomes.Outcome.{Outcome}
@@ -51,7 +51,7 @@ since_opened : (opened table : List (Option Outcome)) → ((p : ℕ) → outcome
 since_opened opened table none = λ p. sym (ap (kept_of (outcomes_of_table opened p)) (none p) ∙ kept_none (outcomes_of_table opened p))
 
 -- the first leg of a run whose journal was opened
-pub kept_begun : (search : Searched) (request : Request) (tested : TesterShown) (remembered : List Answered) (opened : List (Option Outcome)) (first : Begun)
+pub kept_begun : (search : RunSettings) (request : Request) (tested : TesterShown) (remembered : List Answered) (opened : List (Option Outcome)) (first : Begun)
     (running : Running)
     → request.leg ≡ search.leg → request.workers ≡ search.workers → length search.history.now.names ≡ length opened
     → remembered ≡ answers_of search.history.now.names opened → tested.answers ≡ []

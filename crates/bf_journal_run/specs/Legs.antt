@@ -13,7 +13,7 @@ use Rattle.bf_output.specs.Beginning.{Begun}
 use Rattle.bf_output.specs.Shown.{TesterShown}
 use Rattle.bf_output.specs.Tested.{IsTestedRun, IsTestCut}
 use Rattle.bf_output.specs.Told.{Told}
-use Rattle.bf_runs.specs.declared.case.Search.{Search as Searched}
+use Rattle.bf_runs.specs.declared.case.RunSettings.{RunSettings}
 use Rattle.bf_runs.specs.Legs.{IsKnown}
 use Rattle.bf_search.specs.declared.outcomes.Outcome.{Outcome}
 use Rattle.bf_search.specs.Outcomes.{outcomes_of_table}
@@ -43,7 +43,7 @@ met_disk by before after = record {
 
 -- A run has come so far, and the journal keeps what is known by then: of each place what it kept when it was opened, which the
 -- tester remembers, or else what was tested.
-pub record IsKeptRun (search : Searched) (request : Request) (tested : TesterShown) (remembered : List Answered) (opened : List (Option Outcome))
+pub record IsKeptRun (search : RunSettings) (request : Request) (tested : TesterShown) (remembered : List Answered) (opened : List (Option Outcome))
     (first : Begun) (written : List ℕ) (kept : List (Option Outcome)) (running : Running) : Type 0 where
   pub leg : request.leg ≡ search.leg
   pub workers : request.workers ≡ search.workers
@@ -71,7 +71,7 @@ pub record IsKeptOn (Leaves : (ℕ → Outcome → Type 0) → Type 0) (is_lenie
   pub leaves : Leaves (IsToKeep table)
 
 -- a leg leads to the next one, or to the end of the run; or it was cut short
-abbrev pub IsLedKept : ((ℕ → Outcome → Type 0) → Type 0) → Searched → Request → TesterMet → List Answered → List (Option Outcome) → Begun → List ℕ
+abbrev pub IsLedKept : ((ℕ → Outcome → Type 0) → Type 0) → RunSettings → Request → TesterMet → List Answered → List (Option Outcome) → Begun → List ℕ
     → List (Option Outcome) → List (Option Outcome) → Result Gone Cut → Type 0
 IsLedKept Leaves search request tester remembered opened first written kept known (Ok (On running)) =
     IsKeptRun search request tester.after remembered opened first written kept running
@@ -89,7 +89,7 @@ IsLedKept Leaves search request tester remembered opened first written kept know
     × Leaves (MayBePut search.history.now.names tester.after.answers)
 
 -- whatever search the run is of
-abbrev pub LeadsKeptOn : {J : Type 0} → Ghosts J → J → J → Searched → Running → TesterMet → List Answered → List Answered → Keeping → Keeping
+abbrev pub LeadsKeptOn : {J : Type 0} → Ghosts J → J → J → RunSettings → Running → TesterMet → List Answered → List Answered → Keeping → Keeping
     → Result Gone Cut → Type 0
 LeadsKeptOn by disk disk_now search running tester before after old new result =
     (request : Request) (opened : List (Option Outcome)) (first : Begun) (written : List ℕ)
@@ -139,7 +139,7 @@ IsEndedKept images disk request tested history first before after (Err Output) =
 IsEndedKept images disk request tested history first before after (Err NoMemory) = IsCutByMemory images request tested history first before after
 
 -- whatever search the run is of
-abbrev pub EndsKept : {J : Type 0} → Ghosts J → J → J → Searched → Running → TesterMet → List Answered → Keeping → SinkMet → Result Answer Cut → Type 0
+abbrev pub EndsKept : {J : Type 0} → Ghosts J → J → J → RunSettings → Running → TesterMet → List Answered → Keeping → SinkMet → Result Answer Cut → Type 0
 EndsKept by disk disk_now search running tester remembered journal sink result =
     (request : Request) (opened : List (Option Outcome)) (first : Begun)
     → IsKeptRun search request tester.before remembered opened first [] journal.kept running

@@ -21,14 +21,14 @@ use bf_farm::Report;
 use bf_import::History;
 use bf_io::Sink;
 use bf_journal::{Disk, Journal, Recall};
-use bf_runs::{Search, run_leg};
+use bf_runs::{RunSettings, run_leg};
 use bf_searches::{Gone, Running, Telling, gone_with};
 use bf_tester::{Host, Tester};
 
 /// Tests one leg more, keeps its outcomes, and tells it.
 fn go_on_kept<R: Host, T: Tester, J: Disk>(
     rt: &R,
-    search: Search<'_>,
+    search: RunSettings<'_>,
     running: Running,
     tester: &mut Recall<T>,
     journal: &mut Journal,
@@ -83,7 +83,7 @@ fn tell_leg(telling: Telling, history: &History, report: Report) -> Result<Gone,
 /// and then the lines so far are written and the sink is flushed. The answer is what is left to write.
 pub(crate) fn go_through<R: Host, T: Tester, J: Disk, K: Sink>(
     rt: &R,
-    search: Search<'_>,
+    search: RunSettings<'_>,
     running: Running,
     tester: &mut Recall<T>,
     journal: Journal,

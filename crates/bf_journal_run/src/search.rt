@@ -26,7 +26,7 @@ use bf_import::History;
 use bf_io::Sink;
 use bf_journal::{Disk, Journal, JournalFault, Recall, run_identity};
 use bf_output::Status;
-use bf_runs::Search;
+use bf_runs::RunSettings;
 use bf_searches::{begin_running, command_of};
 use bf_tester::{Host, Tester};
 
@@ -105,7 +105,7 @@ fn run_kept<R: Host, T: Tester, J: Disk, K: Sink>(
         first,
         ..
     } = started;
-    let search = Search {
+    let search = RunSettings {
         history: &history,
         reach: &reach,
         workers: line.request.workers,

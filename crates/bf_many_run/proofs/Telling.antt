@@ -14,7 +14,7 @@ use Rattle.bf_output.specs.Simulate.{run_over, status_of_end}
 use Rattle.bf_output.specs.Tested.{lines_at_end, run_on, status_at_end}
 use Rattle.bf_runs.specs.Courses.{course_from}
 use Rattle.bf_runs.specs.Legs.{IsLegRun}
-use Rattle.bf_runs.specs.declared.case.Search.{Search as Searched}
+use Rattle.bf_runs.specs.declared.case.RunSettings.{RunSettings}
 use Rattle.bf_search.specs.declared.entries.Entry.{Entry}
 use Rattle.bf_search.specs.declared.farm.Ending.{Ending}
 use Rattle.bf_search.specs.declared.farm.Ending.TheVariants as ending
@@ -67,7 +67,7 @@ pub record IsRunOn (history : History) (begun : Begun) (report : Report) (leg : 
   pub terms : report.state.terms ≡ begun.state.terms
   pub ending : end_of report.ending ≡ (one_at_a_time history.parents begun.state.search (outcomes_of_table report.table) leg).end
 
-run_whole : (search : Searched) (begun : Begun) (report : Report) → search.leg ≡ 0
+run_whole : (search : RunSettings) (begun : Begun) (report : Report) → search.leg ≡ 0
     → IsLegRun (course_from search begun.state.search) begun.state report → IsRunOn search.history.now begun report 0
 run_whole search begun report whole ran =
     subst (λ (n : ℕ). IsRunOn search.history.now begun report n) whole
@@ -133,7 +133,7 @@ module _ (history : History) (begun : Begun) (report : Report) (plan : List Outc
 never_failed : (before now : ℕ) (report : Report) → HasFault before now None report → (p : ℕ) → report.ending ≡ ending.TestFault p → ⊥
 never_failed before now report fault p e = cc ((fault p e).1)
 
-module _ {E : Type 0} (search : Searched) (begun : Begun) (report : Report) (told : Option (List Outcome)) (plan : List Outcome) (before now : ℕ)
+module _ {E : Type 0} (search : RunSettings) (begun : Begun) (report : Report) (told : Option (List Outcome)) (plan : List Outcome) (before now : ℕ)
     (result : Result Answer E)
     (whole : search.leg ≡ 0)
     (untraced : begun.telling.trace ≡ None)

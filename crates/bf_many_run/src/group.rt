@@ -19,7 +19,7 @@ use bf_farm::Report;
 use bf_import::History;
 use bf_many::{ManyCase, Search, run_shared};
 use bf_reach::Reach;
-use bf_runs::{Search as Searched, Standing, run_leg};
+use bf_runs::{RunSettings, Standing, run_leg};
 use bf_searches::Telling;
 use bf_spec::Table;
 use bf_tester::{Host, PlanTester, Tester};
@@ -71,7 +71,7 @@ fn finish(history: &History, telling: Telling, report: Report) -> Result<Answer,
 /// What a search tells, where this is known of its commits. What it asks for beyond that its tester tests.
 fn tell<R: Host>(
     rt: &R,
-    search: Searched<'_>,
+    search: RunSettings<'_>,
     begun: Begun,
     table: Table,
     tester: &mut PlanTester,
@@ -92,7 +92,7 @@ fn tell<R: Host>(
 /// What the next slot of a group tells. A search that has begun takes the next tester and the next table.
 fn tell_slot<R: Host>(
     rt: &R,
-    search: Searched<'_>,
+    search: RunSettings<'_>,
     slot: Slot,
     testers: &mut IntoIter<PlanTester>,
     tables: &mut IntoIter<Table>,
@@ -117,7 +117,11 @@ fn tell_slot<R: Host>(
 }
 
 /// Lets so many workers as the search has share the searches, and gives what they find out of the commits of each.
-fn share<R: Host>(rt: &R, search: Searched<'_>, group: &mut Group) -> Result<Vec<Table>, AllocError>
+fn share<R: Host>(
+    rt: &R,
+    search: RunSettings<'_>,
+    group: &mut Group,
+) -> Result<Vec<Table>, AllocError>
     requires reach { search.reach.now ≡ search.history.now.parents }
     requires workers { IsCount search.workers }
     requires few { length group.old.slots.items ≤ 64 }
@@ -146,7 +150,7 @@ fn share<R: Host>(rt: &R, search: Searched<'_>, group: &mut Group) -> Result<Vec
 /// What all searches of a group tell, where this is known of the commits of those that have begun.
 fn tell_all<R: Host>(
     rt: &R,
-    search: Searched<'_>,
+    search: RunSettings<'_>,
     group: Group,
     tables: Vec<Table>,
 ) -> Result<Answer, AllocError>
@@ -191,7 +195,7 @@ pub(crate) fn search_all<R: Host>(
     ensures memory { (IsErrOf result Fault.Read → ⊥) × (IsErrOf result Fault.Shelf → ⊥) }
 {
     let reach = Reach::build(alloc, history.graph())?;
-    let search = Searched {
+    let search = RunSettings {
         history,
         reach: &reach,
         workers,
@@ -200,7 +204,7 @@ pub(crate) fn search_all<R: Host>(
     let mut group = begin_all(alloc, lines, history, &reach)?;
     let tables = share(rt, search, &mut group)?;
     // by one worker: there is nothing left to test
-    let alone = Searched {
+    let alone = RunSettings {
         workers: 1,
         ..search
     };

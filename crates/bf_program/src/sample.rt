@@ -18,7 +18,7 @@ use bf_import::History;
 use bf_io::{Bytes, put_decimal};
 use bf_output::Status;
 use bf_reach::Reach;
-use bf_runs::{Search, Standing, run_leg};
+use bf_runs::{RunSettings, Standing, run_leg};
 use bf_search::Entry;
 use bf_tester::{Host, PlanTester, Tester};
 use bf_words::Request;
@@ -183,7 +183,7 @@ fn search_whole<R: Host>(
 {
     let reach = Reach::build(alloc, history.graph())?;
     let mut tester = tester_of_sample(alloc, request.count)?;
-    let search = Search {
+    let search = RunSettings {
         history,
         reach: &reach,
         workers: request.workers,

@@ -46,7 +46,7 @@ use Rattle.bf_state.specs.Runs.{IsPartOf, is_unfinished, in_sequence}
 use Rattle.bf_state.specs.Session.{Session, IsSearchBelow, with_search}
 use Rattle.bf_state.proofs.Tables.{run_follows}
 use Rattle.bf_tester.specs.declared.answer.Answer.{Answer}
-use Rattle.bf_runs.specs.declared.case.Search.{Search as Searched}
+use Rattle.bf_runs.specs.declared.case.RunSettings.{RunSettings}
 use Rattle.bf_runs.specs.Courses.{course_from}
 use Rattle.bf_runs.specs.Legs.{Course, Stand, first_stand, setting_of, leg_run, IsLeg, stand_after, LegsLead, IsKnown, AreTestsOf, IsTestedAlone}
 use Rattle.bf_runs.specs.Legs.{GoesOnFrom, IsBetween, IsReady, IsLegRun, LeadsOn}
@@ -444,7 +444,7 @@ ending_within course session report is sorted bad =
 
 -- ---- what a leg promises
 
-module _ (search : Searched) (session : Session) (table : List (Option Outcome)) (told : Option (List Outcome)) (before after : List Answer) (report : Report)
+module _ (search : RunSettings) (session : Session) (table : List (Option Outcome)) (told : Option (List Outcome)) (before after : List Answer) (report : Report)
     (names : List Oid) (named : names ≡ search.history.now.names) (reach : search.reach.now ≡ search.history.now.parents)
     (is : IsReport (setting_at search.reach.now session search.leg) session names report)
     (history : HasHistory (setting_at search.reach.now session search.leg) table report)

@@ -1,7 +1,7 @@
 -- What the code searches, as the definition of legs has it.
 use Rattle.std.specs.Prelude.{◌≡◌, ◌<◌, ℕ, List, length, replicate, Option, None}
 use Rattle.bf_farm.specs.declared.report.Report.{Report}
-use Rattle.bf_runs.specs.declared.case.Search.{Search as Searched}
+use Rattle.bf_runs.specs.declared.case.RunSettings.{RunSettings}
 use Rattle.bf_runs.specs.declared.legs.Standing.{Standing}
 use Rattle.bf_runs.specs.Legs.{Course, Stand, IsReady, IsLegRun, LeadsOn}
 use Rattle.bf_search.specs.declared.farm.Ending.TheVariants as ending
@@ -12,7 +12,7 @@ use Rattle.bf_state.specs.Session.{Session}
 use Rattle.bf_tester.specs.declared.tester.Tester.{Ghosts}
 
 -- a search over a history, from where it begins
-abbrev pub course_from : Searched → Search → Course
+abbrev pub course_from : RunSettings → Search → Course
 course_from search first = record {
   graph = search.history.now.parents;
   names = search.history.now.names;
@@ -29,12 +29,12 @@ abbrev pub KnowsNothing : List (List ℕ) → Standing → Type 0
 KnowsNothing graph standing = standing.table ≡ replicate (length graph) None
 
 -- a leg of a search may begin from a session and a table, whose outcomes the tester answered
-abbrev pub CanBegin : {T : Type 0} → Ghosts T → T → Searched → Session → List (Option Outcome) → Type 0
+abbrev pub CanBegin : {T : Type 0} → Ghosts T → T → RunSettings → Session → List (Option Outcome) → Type 0
 CanBegin by tester search session table =
     IsReady search.history.now.parents search.history.now.names (by.told tester) (by.answers tester) session table
 
 -- the report is the run of the leg that begins here, wherever the search began
-abbrev pub IsRunOfLeg : Searched → Standing → Report → Type 0
+abbrev pub IsRunOfLeg : RunSettings → Standing → Report → Type 0
 IsRunOfLeg search standing report = (first : Search) → IsLegRun (course_from search first) standing.state report
 
 -- a leg that ended after its marks leaves fewer places to ask for than it found
@@ -42,7 +42,7 @@ abbrev pub LeavesFewer : List (List ℕ) → Standing → Report → Type 0
 LeavesFewer graph standing report =
     report.ending ≡ ending.Leg → left_to_ask graph report.state.search < left_to_ask graph standing.state.search
 
-module _ {T : Type 0} (by : Ghosts T) (old new : T) (search : Searched) where
+module _ {T : Type 0} (by : Ghosts T) (old new : T) (search : RunSettings) where
   -- the leg that begins here leads on, wherever the search began, while the tester tests more
   abbrev pub LegLeads : Standing → Report → Type 0
   LegLeads standing report =

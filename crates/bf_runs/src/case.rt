@@ -18,7 +18,7 @@ const MOST: u32 = 64;
 /// A history with its graph, how many commits may be tested at once, and after how many marks a run ends;
 /// 0 stands for no legs.
 #[derive(Clone, Copy)]
-pub struct Search<'a> {
+pub struct RunSettings<'a> {
     pub history: &'a History,
     pub reach: &'a Reach,
     pub workers: u32,

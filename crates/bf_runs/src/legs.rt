@@ -4,7 +4,7 @@ ghost use Rattle.bf_farm.specs.Testers.{KeepsManner, HasAnswersOf, HasFaultBy};
 ghost use Rattle.bf_runs.specs.Courses.{KnowsNothing, CanBegin, IsRunOfLeg, LeavesFewer, LegLeads, LeavesReady};
 ghost use Rattle.bf_runs.specs.Within.{HasEntriesWithin, HasEndingWithin};
 
-use crate::case::{Search, run_case};
+use crate::case::{RunSettings, run_case};
 use bf_farm::{Case, Report};
 use bf_import::History;
 use bf_spec::Table;
@@ -37,7 +37,7 @@ impl Standing {
 pub fn run_leg<R: Host, T: Tester>(
     rt: &R,
     alloc: Global,
-    search: Search<'_>,
+    search: RunSettings<'_>,
     standing: Standing,
     tester: &mut T,
 ) -> Result<Report, AllocError>

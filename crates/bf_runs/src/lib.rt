@@ -6,5 +6,5 @@
 mod case;
 mod legs;
 
-pub use case::{Search, run_case};
+pub use case::{RunSettings, run_case};
 pub use legs::{Standing, run_leg};

@@ -20,7 +20,7 @@ use bf_answers::{Answer, Beginning, Line, Started, commits_of, sides_of, write_a
 use bf_farm::Report;
 use bf_import::History;
 use bf_io::{Sink, SinkFault};
-use bf_runs::{Search, Standing, run_leg};
+use bf_runs::{RunSettings, Standing, run_leg};
 use bf_search::Ending;
 use bf_tester::{Host, Tester};
 use std::alloc::AllocError;
@@ -92,7 +92,7 @@ pub fn gone_with(telling: Telling, history: &History, report: Report) -> Result<
 /// Tests one leg more, and tells it.
 pub fn go_on<R: Host, T: Tester>(
     rt: &R,
-    search: Search<'_>,
+    search: RunSettings<'_>,
     running: Running,
     tester: &mut T,
 ) -> Result<Gone, AllocError>
@@ -124,7 +124,7 @@ pub fn go_on<R: Host, T: Tester>(
 /// since each leg but the last leaves fewer to ask for: only the tests may be waited for.
 fn go_through<R: Host, T: Tester, K: Sink>(
     rt: &R,
-    search: Search<'_>,
+    search: RunSettings<'_>,
     running: Running,
     tester: &mut T,
     out: &mut K,
@@ -178,7 +178,7 @@ pub fn run_legs<R: Host, T: Tester, K: Sink>(
         first,
         ..
     } = started;
-    let search = Search {
+    let search = RunSettings {
         history: &history,
         reach: &reach,
         workers: line.request.workers,

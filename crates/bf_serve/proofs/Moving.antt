@@ -21,7 +21,7 @@ use Rattle.bf_search.specs.State.{Asked, Search, ask, mark}
 use Rattle.bf_state.specs.Runs.{IsPartOf}
 use Rattle.bf_state.specs.Tidy.{IsTidy}
 use Rattle.bf_state.proofs.Tables.{seq_goes_on}
-use Rattle.bf_serve.specs.declared.standing.Standing.{Standing}
+use Rattle.bf_serve.specs.declared.standing.Progress.{Progress}
 use Rattle.bf_serve.specs.Searches.{has_outcome, learned, left_in, remaining_in, run_of}
 use Rattle.bf_serve.specs.Serving.{stepped}
 use Rattle.bf_serve.specs.Steps.{KnowsNoLess, StandsAt}
@@ -135,7 +135,7 @@ pub none_of : {X : Type 0} (xs : List X) → (length xs == 0) ≡ true → xs �
 none_of xs none = nil_from_length xs (eqb-true (length xs) 0 none)
 
 -- where a search stood so before, and no entries are behind those
-pub left_behind : (old now : FarmMachine) (standing : Standing) (entries : List Entry) → StandsAt old standing → KnowsNoLess old now
+pub left_behind : (old now : FarmMachine) (standing : Progress) (entries : List Entry) → StandsAt old standing → KnowsNoLess old now
     → entries ≡ drop standing.entries (run_of now).entries → entries ≡ [] → standing.remaining ≡ left_in now
 left_behind old now standing entries stands knows behind none =
     let same : now ≡ record old { farm = now.farm } = ap (λ (x : Setting). record { setting = x; farm = now.farm }) knows.setting in

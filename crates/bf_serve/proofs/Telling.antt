@@ -10,7 +10,7 @@ use Rattle.bf_search.specs.declared.entries.Entry.{Entry}
 use Rattle.bf_terms.specs.Texts.{Known, Sides, known_after, log_from}
 use Rattle.bf_serve.specs.declared.opening.Opening.{Opening}
 use Rattle.bf_serve.specs.declared.remaining.Remaining.{Remaining}
-use Rattle.bf_serve.specs.declared.standing.Standing.{Standing}
+use Rattle.bf_serve.specs.declared.standing.Progress.{Progress}
 use Rattle.bf_serve.specs.Searches.{left_in, run_of}
 use Rattle.bf_serve.specs.Steps.{StandsAt, StartsAs, TellsBegun, TellsRun}
 use Rattle.bf_serve.specs.Turns.{changed_left, ended_by, further, further_log, left_told, newly_ended, told_lines}
@@ -21,12 +21,12 @@ known_joined k [] ys = refl
 known_joined k (x ∷ xs) ys = known_joined (known_after k x) xs ys
 
 -- the entries that are behind those before
-pub further_is : (old m : FarmMachine) (standing : Standing) (entries : List Entry) → StandsAt old standing → entries ≡ drop standing.entries (run_of m).entries
+pub further_is : (old m : FarmMachine) (standing : Progress) (entries : List Entry) → StandsAt old standing → entries ≡ drop standing.entries (run_of m).entries
     → entries ≡ further (run_of old) (run_of m)
 further_is old m standing entries stands is = is ∙ ap (λ (n : ℕ). drop n (run_of m).entries) stands.entries
 
 -- what is told of the run of a search
-pub run_told : (history : History) (s : ℕ) (o new : Opening) (old m : FarmMachine) (standing : Standing) (entries : List Entry) (lines : List ℕ)
+pub run_told : (history : History) (s : ℕ) (o new : Opening) (old m : FarmMachine) (standing : Progress) (entries : List Entry) (lines : List ℕ)
     (remaining : Remaining) (ended : List News) (before t1 t2 t3 : List ℕ) → StandsAt old standing
     → entries ≡ drop standing.entries (run_of m).entries → lines ≡ log_from (commits_of history) o.terms o.known entries
     → new ≡ record o { known = known_after_all o.known entries } → remaining ≡ left_in m

@@ -28,7 +28,7 @@ use Rattle.bf_search.specs.State.{IsSearchOver}
 use Rattle.bf_state.specs.Runs.{IsPartOf, is_open}
 use Rattle.bf_words.specs.declared.request.Request.{Request}
 use Rattle.bf_serve.specs.Begins.{begins_by, file_named_by, words_to_begin}
-use Rattle.bf_serve.specs.declared.standing.Standing.{Standing}
+use Rattle.bf_serve.specs.declared.standing.Progress.{Progress}
 use Rattle.bf_serve.specs.declared.opening.Opening.{Opening}
 use Rattle.bf_serve.specs.declared.remaining.Remaining.{Remaining}
 use Rattle.bf_serve.specs.declared.session.Lull.{Lull}
@@ -99,7 +99,7 @@ pub record Answers (files : Option (List ShelfFile)) (before now : ℕ) (line : 
   pub serves : Serves (turn old.history.now file (searches_in old) line) old new text after
 
 -- where a search stands before a request
-pub record StandsAt (m : FarmMachine) (standing : Standing) : Type 0 where
+pub record StandsAt (m : FarmMachine) (standing : Progress) : Type 0 where
   pub entries : standing.entries ≡ length (run_of m).entries
   pub left : standing.remaining ≡ left_in m
   pub waits : standing.is_open ≡ is_open (run_of m).end

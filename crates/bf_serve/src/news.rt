@@ -21,7 +21,7 @@ ghost use Rattle.bf_terms.specs.Texts.{log_from};
 use crate::ending::put_ending;
 use crate::opening::Opening;
 use crate::remaining::{Remaining, remaining_in};
-use crate::standing::Standing;
+use crate::standing::Progress;
 use bf_answers::{commits_of, sides_of};
 use bf_core::Core;
 use bf_import::History;
@@ -105,7 +105,7 @@ fn remaining_behind(
     alloc: Global,
     reach: &Reach,
     core: &Core<'_>,
-    standing: Standing,
+    standing: Progress,
     further: &[Entry],
 ) -> Result<Remaining, AllocError>
     requires graph { IsGraph reach.now }
@@ -126,7 +126,7 @@ fn remaining_behind(
 pub(crate) fn put_news(
     subject: Subject<'_>,
     opening: &mut Opening,
-    standing: Standing,
+    standing: Progress,
     core: &Core<'_>,
     out: &mut Bytes,
 ) -> Result<Remaining, AllocError>

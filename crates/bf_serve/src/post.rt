@@ -11,7 +11,7 @@ ghost use Rattle.bf_serve.specs.Steps.{StandsAt, TellsChange, others_than, searc
 
 use crate::news::{Subject, put_changed_needless, put_news};
 use crate::session::Session;
-use crate::standing::{Standing, standing_of};
+use crate::standing::{Progress, standing_of};
 use bf_graph::Places;
 use bf_io::Bytes;
 use bf_many::Held;
@@ -87,7 +87,7 @@ impl<'r> Session<'r> {
     pub(crate) fn tell(
         &mut self,
         search: u32,
-        standing: Standing,
+        standing: Progress,
         workers: Vec<u32>,
         out: &mut Bytes,
     ) -> Result<(), AllocError>

@@ -9,7 +9,7 @@ use bf_core::Core;
 
 /// Where a search stands before a request.
 #[derive(Clone, Copy)]
-pub(crate) struct Standing {
+pub(crate) struct Progress {
     /// How many entries its run has.
     pub entries: usize,
     /// What is left of it.
@@ -19,11 +19,11 @@ pub(crate) struct Standing {
 }
 
 /// Where a search stands, of which so much is left.
-pub(crate) fn standing_of(core: &Core<'_>, remaining: Remaining) -> Standing
+pub(crate) fn standing_of(core: &Core<'_>, remaining: Remaining) -> Progress
     requires { remaining ≡ left_in (machine_of core.now) }
     ensures { StandsAt (machine_of core.now) result }
 {
-    Standing {
+    Progress {
         entries: core.entries().len(),
         remaining,
         is_open: core.ending().is_none(),

@@ -95,7 +95,7 @@ pub(crate) fn fault_at(index: usize) -> WordFault
 
 // A line of words that are read.
 #[derive(Clone, Copy)]
-struct Line<'a> {
+struct WordLine<'a> {
     verb: Verb,
     words: &'a [Word],
     roles: &'a [Role],
@@ -162,13 +162,17 @@ fn count_in(verb: Verb, plains: &[u32], words: &[Word]) -> u32
 
 // What a line asks for.
 #[tactic(auto, unfolding(crate::specs::Words::request_of))]
-fn request_of(alloc: Global, read: Line<'_>, terms: Option<Terms>) -> Result<Request, AllocError>
+fn request_of(
+    alloc: Global,
+    read: WordLine<'_>,
+    terms: Option<Terms>,
+) -> Result<Request, AllocError>
     requires size { length read.roles.now ≤ 1000000 }
     requires plains { read.plains.now ≡ line.plains_of read.roles.now }
     requires terms { terms ≡ line.terms_of read.roles.now read.words.now }
     ensures { IfOk result (λ made. made ≡ steps.request_of_line read.entry) }
 {
-    let Line {
+    let WordLine {
         verb,
         words,
         roles,
@@ -209,7 +213,7 @@ fn read_rest(
     let terms = read_terms(alloc, roles, words)?;
     let plains = words_of(alloc, roles, None)?;
     refuse(line_fault(verb, roles, plains.as_slice(), words))?;
-    let read = Line {
+    let read = WordLine {
         verb,
         words,
         roles,

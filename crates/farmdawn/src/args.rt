@@ -8,7 +8,7 @@ use std::rt::Env;
 
 /// The words of the command line, without the program's name. Where an argument is no text there are none.
 #[derive(Drop)]
-pub(crate) struct Line {
+pub(crate) struct CommandLine {
     pub(crate) words: Vec<Word>,
     /// The first argument that is no text. The one of index 0 is the program's name.
     pub(crate) no_text: Option<usize>,
@@ -37,7 +37,7 @@ impl<R: Env> Env for Asked<'_, R> {
 }
 
 /// Reads the command line.
-pub(crate) fn read<R: Env + Alloc<A = Global>>(rt: &R) -> Result<Line, AllocError> {
+pub(crate) fn read<R: Env + Alloc<A = Global>>(rt: &R) -> Result<CommandLine, AllocError> {
     let alloc = rt.alloc();
     let last = Cell::new(0);
     let mut words = Vec::new(alloc);
@@ -46,13 +46,13 @@ pub(crate) fn read<R: Env + Alloc<A = Global>>(rt: &R) -> Result<Line, AllocErro
             for arg in args.skip(1) {
                 words.push(Bytes::from_slice(alloc, arg.as_str().as_bytes())?)?;
             }
-            Ok(Line {
+            Ok(CommandLine {
                 words,
                 no_text: None,
             })
         }
         Err(error) if error.kind() == ErrorKind::OutOfMemory => Err(AllocError),
-        Err(_) => Ok(Line {
+        Err(_) => Ok(CommandLine {
             words,
             no_text: Some(last.get()),
         }),

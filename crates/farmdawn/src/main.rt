@@ -8,7 +8,7 @@ mod args;
 mod help;
 mod hint;
 
-use args::Line;
+use args::CommandLine;
 use bf_checkout::{DirFolder, Folder, FolderTester, TreesRefusal, Workshop};
 use bf_farmed::farm_main;
 use bf_import::Content;
@@ -99,7 +99,7 @@ struct Makers<'a> {
 }
 
 /// Says on the standard error what a word that is at fault should be, or why a test was not made.
-fn tell_why<R: Eprint>(rt: &R, line: &Line, status: Status, makers: &Makers<'_>) {
+fn tell_why<R: Eprint>(rt: &R, line: &CommandLine, status: Status, makers: &Makers<'_>) {
     match (status, line.no_text) {
         (Status::Usage { .. }, Some(argument)) => hint::tell_no_text(rt, argument),
         (Status::Usage { word }, None) => hint::tell(rt, line.words.as_slice(), word),
