@@ -1,4 +1,4 @@
-"""The file of an answer that others can check: its lines, and whether each has its form and its place.
+"""The file of an answer that others can check: its lines, what they claim, and why the program refuses one.
 
     farmdawn-answer 1
     sum SHA-256                     of all lines behind it
@@ -20,6 +20,7 @@
 """
 from __future__ import annotations
 
+import contextlib
 import hashlib
 import re
 from typing import Dict, List, Optional, Set, Tuple
@@ -60,10 +61,15 @@ def encoded(kind: str, word: bytes) -> str:
     return kind + ' ' + ''.join(chr(byte) if 32 <= byte <= 126 and byte != 92 else '\\%03o' % byte for byte in word)
 
 
+def sum_of(below: bytes) -> str:
+    """The line of the sum of all lines behind it."""
+    return 'sum ' + hashlib.sha256(below).hexdigest()
+
+
 def with_sum(lines: List[str]) -> bytes:
     """The whole file."""
     below = ''.join(line + '\n' for line in lines).encode()
-    return ('%s\nsum %s\n' % (FIRST, hashlib.sha256(below).hexdigest())).encode() + below
+    return ('%s\n%s\n' % (FIRST, sum_of(below))).encode() + below
 
 
 class Answer:
@@ -88,7 +94,7 @@ class Answer:
     def commits(self) -> List[str]:
         """All that are named, each once."""
         names = [name for line in self.lines for name in re.findall(r'(?<= )%s(?= |$)' % NAME, line)
-                 if not line.startswith(('word ', 'folder ', 'sum '))]
+                 if not line.startswith(FREE + ('sum ',))]
         return list(dict.fromkeys(names))
 
     def certificate(self) -> List[str]:
@@ -185,6 +191,30 @@ def kind_of(line: str) -> Optional[str]:
     """The kind of a line that has its form."""
     kind = line.split(' ')[0]
     return kind if kind in FORMS and re.fullmatch(FORMS[kind], line) else None
+
+
+def answer_of(data: bytes) -> Answer:
+    """What the lines of a file claim, whatever they are; one in no form, or that contradicts another, claims nothing."""
+    answer = Answer()
+    text = data.decode('latin-1')
+    answer.lines = text.split('\n')[:-1] if text.endswith('\n') else text.split('\n')
+    for number, line in enumerate(answer.lines, 1):
+        kind = kind_of(line)
+        if kind is not None:
+            with contextlib.suppress(Fault):
+                answer.take(number, kind, line)
+    return answer
+
+
+def reason_of(data: bytes) -> str:
+    """Why a file that the program refuses does not hold; nothing where that is a matter of its certificate."""
+    if any(byte != 10 and not 32 <= byte <= 126 for byte in set(data)):
+        return 'it has bytes that no line of an answer has'
+    try:
+        read_answer(data)
+    except Fault as fault:
+        return str(fault)
+    return ''
 
 
 def read_answer(data: bytes) -> Answer:

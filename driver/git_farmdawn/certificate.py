@@ -13,7 +13,7 @@ import subprocess
 import time
 from typing import TYPE_CHECKING, Dict, Iterable, List, NamedTuple, Set, Tuple
 
-from .answer_file import FREE, Answer, Fault, encoded, read_answer, with_sum
+from .answer_file import FREE, Answer, answer_of, encoded, kind_of, reason_of, sum_of, with_sum
 from .ending import Ending
 from .facts import SKIP, marks_of
 from .outputs import has_room, write_whole
@@ -196,10 +196,15 @@ class Mirror:
             self.computed[name] = hashlib.sha1(b'commit %d\0' % len(body) + body.encode()).hexdigest()
         self.stream = ''.join(out).encode()
 
-    def turned(self, answer: Answer) -> bytes:
-        """The whole file with the computed names in place of the repository's, and the sum of these lines."""
-        return with_sum([line if line.startswith(FREE) else ' '.join(self.computed.get(word, word) for word in line.split(' '))
-                         for line in answer.lines[2:]])
+    def turned(self, data: bytes) -> bytes:
+        """A whole file with the computed names in place of the repository's. A sum that is right is that of these lines, too."""
+        head, below = data.decode('latin-1').split('\n')[:2], data.split(b'\n', 2)[2:]
+        lines = [line if line.startswith(FREE) else ' '.join(self.computed.get(word, word) for word in line.split(' '))
+                 for text in below for line in text.decode('latin-1').split('\n')]
+        turned = '\n'.join(lines).encode('latin-1')
+        if below and head[1] == sum_of(below[0]):
+            head[1] = sum_of(turned)
+        return '\n'.join(head).encode('latin-1') + b''.join(b'\n' + turned for _ in below)
 
 
 def in_order(names: List[str], parents: Parents) -> List[str]:
@@ -230,6 +235,8 @@ def lacking_commit(repo: Repository, name: str) -> Stop:
 
 def find_commits(repo: Repository, answer: Answer, shown: str) -> None:
     """The repository has all commits that are named."""
+    if not answer.commits():
+        return
     text = '\n'.join(answer.commits()) + '\n'
     out = repo.text('cat-file', '--batch-check=%(objectname) %(objecttype)', input=text.encode(), check=False, env=plain_env(repo))
     rows = [line.split(' ') for line in out.split('\n') if line]
@@ -242,18 +249,19 @@ def find_commits(repo: Repository, answer: Answer, shown: str) -> None:
             raise Stop(20, '%s does not hold: %s is no commit' % (shown, row[0]))
 
 
-def run_check(checker: Checker, mirror: Mirror, answer: Answer) -> None:
-    """The verdict of the proved program over the whole file."""
+def run_check(checker: Checker, mirror: Mirror, answer: Answer, data: bytes) -> None:
+    """The verdict of the proved program over the whole file; raises Stop with the reason where it refuses one."""
     program, shown = checker.farmdawn, checker.shown
     try:
-        write_whole(os.path.join(checker.folder, 'answer'), mirror.turned(answer))
+        write_whole(os.path.join(checker.folder, 'answer'), mirror.turned(data))
         done = subprocess.run(['farmdawn', 'check', 'answer'], executable=program, cwd=checker.folder, input=mirror.stream,
                               stdout=subprocess.PIPE, check=False)
     except OSError as fault:
         raise Stop(14, '%s cannot be run in %s: %s' % (program, checker.folder, fault.strerror)) from None
     if done.returncode == 20:
         line = int(done.stdout.split()[-1])
-        raise Stop(20, '%s does not hold: line %d, %s' % (shown, line, answer.lines[line - 1] if line <= len(answer.lines) else 'the end'))
+        why = 'line %d, %s' % (line, answer.lines[line - 1] if line <= len(answer.lines) else 'the end')
+        raise Stop(20, '%s does not hold: %s' % (shown, reason_of(data) or why))
     if done.returncode:
         raise Stop(done.returncode, '%s ended with %d' % (program, done.returncode))
 
@@ -273,25 +281,21 @@ def check_marks(repo: Repository, answer: Answer, shown: str) -> None:
 
 
 def check_answer(checker: Checker, data: bytes) -> Answer:
-    """The sum of a file, its commits, and all its lines by `farmdawn check`; raises Stop where it does not hold."""
+    """What a file claims that holds: the repository has its commits, and `farmdawn check` accepts its lines; raises Stop elsewhere."""
     repo, shown = checker.repo, checker.shown
     if len(data) > MOST_BYTES:
         raise Stop(9, '%s is too large' % shown)
-    if any(byte != 10 and not 32 <= byte <= 126 for byte in set(data)):
-        raise Stop(20, '%s does not hold: it has bytes that no line of an answer has' % shown)
-    try:
-        answer = read_answer(data)
-    except Fault as fault:
-        raise Stop(20, '%s does not hold: %s' % (shown, fault)) from None
+    answer = answer_of(data)
     find_commits(repo, answer, shown)
     try:
-        parents = parents_of(repo, led_from(answer.certificate()))
+        steps = [line for line in answer.lines if kind_of(line) in ('bad', 'reach')]
+        parents = parents_of(repo, led_from(steps)) if steps else {}
     except subprocess.CalledProcessError:
         raise Stop(8, 'the parents of the commits cannot be listed') from None
     order = in_order(answer.commits(), parents)
     if len(order) > MOST_COMMITS:
         raise Stop(9, '%s names %d commits; the limit is %d' % (shown, len(order), MOST_COMMITS))
-    run_check(checker, Mirror(order, parents), answer)
+    run_check(checker, Mirror(order, parents), answer, data)
     check_marks(repo, answer, shown)
     return answer
 

@@ -42,7 +42,8 @@ abbrev pub read_either : List Oid → List (List ℕ) → Option (List ℕ) → 
 read_either names graph (Some text) bytes = read_summed names graph text
 read_either names graph None bytes = read_text names graph bytes
 
--- the certificate of a file, or the number of its first line at fault
+-- The certificate of a file, or the number of the line at which its reading stops. An answer's certificate is read to its end before
+-- it is laid beside what stands above it.
 abbrev pub read_file : List Oid → List (List ℕ) → List ℕ → Result Cert ℕ
 read_file names graph bytes = read_either names graph (behind (codes "farmdawn-answer 1\n") bytes) bytes
 

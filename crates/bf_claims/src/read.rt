@@ -25,7 +25,8 @@ const SUM_LINE: usize = 69;
 ///
 /// # Errors
 ///
-/// `Line` tells the first line at fault, by its number in the file.
+/// `Line` tells the line at which the reading stops, by its number in the file. The certificate of an answer is read to
+/// its end before it is laid beside what its lines claim.
 pub fn read_file(alloc: Global, history: &History, bytes: &[u8]) -> Result<Cert, CertFault>
     requires { length bytes.now ≤ 16777216 }
     ensures read { Gives result

@@ -90,7 +90,7 @@ const HELD: [(&[&[u8]], &[u8]); 4] = [
     ),
 ];
 
-/// Lines of answers, and the number of the first one at fault.
+/// Lines of answers, and the number of the one at which the reading stops.
 const REFUSED: [(&[&[u8]], u32); 29] = [
     // Sums of other lines, or none.
     (&[FIRST], 2),
