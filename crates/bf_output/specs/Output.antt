@@ -1,6 +1,6 @@
 -- What the program answers for its words, its stream and its files, in the order of its refusals: the words, the stream to its
 -- end, the log that is replayed, the names, an end that is missing, and then the run.
-use Rattle.std.specs.Prelude.{◌≡◌, ◌⊎◌, ℕ, Bool, true, false, IsTrue, List, Option, is_some, Result, Ok, Err}
+use Rattle.std.specs.Prelude.{◌≡◌, ◌⊎◌, ℕ, Bool, true, false, IsTrue, List, Option, Some, is_some, Result, Ok, Err}
 use Rattle.bf_history.specs.Meanings.{History}
 use Rattle.bf_words.specs.declared.request.Request.{Request}
 use Rattle.bf_words.specs.declared.verb.Verb.{Verb}
