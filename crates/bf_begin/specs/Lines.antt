@@ -1,9 +1,12 @@
 -- How the search begins that a line of words asks for.
 use Rattle.std.specs.Borrow.{Bor}
-use Rattle.std.specs.Prelude.{Option, Result}
+use Rattle.std.specs.Prelude.{ℕ, List, Option, Result, Ok}
+use Rattle.bf_grammar.specs.Forms.{◌>>=◌}
 use Rattle.bf_history.specs.Meanings.{History}
-use Rattle.bf_output.specs.Beginning.{Begun, begun_by, begun_with_skips}
+use Rattle.bf_io.specs.declared.shelf.LoadFault.{LoadFault}
+use Rattle.bf_output.specs.Beginning.{Begun, begun_behind, begun_by, begun_with_skips}
 use Rattle.bf_output.specs.Inputs.{IsToldFrom}
+use Rattle.bf_output.specs.Logs.{replayed_log}
 use Rattle.bf_output.specs.Output.{IsSearched}
 use Rattle.bf_output.specs.Told.{Told}
 use Rattle.bf_begin.specs.Files.{file_given}
@@ -12,6 +15,10 @@ use Rattle.bf_begin.specs.declared.file.LogFile.{LogFile}
 use Rattle.bf_answers.specs.declared.line.Line.{Line}
 use Rattle.bf_answers.specs.declared.started.Means.{Means}
 use Rattle.bf_answers.specs.declared.started.Ready.{Ready}
+
+-- by the log in a file
+abbrev pub begun_by_file : History → Result (List ℕ) LoadFault → Result Begun Told
+begun_by_file history file = replayed_log history file >>= λ replayed. Ok (begun_behind replayed)
 
 -- by the words of the line, or by the log that they name
 abbrev pub begun_by_line : Line → Option (Bor LogFile) → History → Result Begun Told

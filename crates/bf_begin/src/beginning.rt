@@ -1,15 +1,13 @@
 //! How a search begins.
-ghost use Rattle.std.specs.Prelude.{◌≡◌, ◌<◌, [], ◌∷◌, length, is_some, unwrap_or, All, IfOk, Ok};
+ghost use Rattle.std.specs.Prelude.{◌≡◌, ◌<◌, [], ◌∷◌, length, is_some, unwrap_or, All, IfOk};
 ghost use Rattle.std.specs.Option.{ForSome};
 ghost use Rattle.bf_state.specs.Ends.{HasEnds};
 ghost use Rattle.bf_output.specs.Beginning as beginning;
 ghost use Rattle.bf_output.specs.Beginning.{begun_by_words};
-ghost use Rattle.bf_output.specs.Logs.{replayed_log};
-ghost use Rattle.bf_grammar.specs.Forms.{◌>>=◌};
 ghost use Rattle.bf_terms.specs.Texts.{standard_sides};
 ghost use Rattle.bf_search.specs.declared.entries.Entry.TheVariants.{Start};
 ghost use Rattle.bf_begin.specs.Files.{given_of};
-ghost use Rattle.bf_begin.specs.Lines.{begun_by_line, begun_with_line};
+ghost use Rattle.bf_begin.specs.Lines.{begun_by_file, begun_by_line, begun_with_line};
 ghost use Rattle.bf_answers.specs.Steps.{IsStep};
 ghost use Rattle.bf_answers.specs.Tellings.{begun_of, AreWithin, IsBegun};
 
@@ -109,8 +107,7 @@ fn begin_by_log(
     file: &LogFile,
 ) -> Result<Beginning, Stop>
     requires { reach.now ≡ history.now.parents }
-    ensures step { IsStep begun_of result (replayed_log history.now (given_of file.now)
-        >>= λ replayed. Ok (beginning.begun_behind replayed)) }
+    ensures step { IsStep begun_of result (begun_by_file history.now (given_of file.now)) }
     ensures len { IfOk result (λ first. first.state.len ≡ length history.now.parents) }
     ensures places { IfOk result AreWithin }
 {
