@@ -174,10 +174,11 @@ test_wrong() {
     refused 'lines behind it' "s/^end$/&\ngood $good/" 'not in its place'
     refused 'no good commit' '/^called-good/d; /^good/d; /^outcome .* 0$/d' 'is missing'
     refused 'no word' '/^word/d' 'is missing'
-    refused 'a word that is none' 's/^word sh/word \\999/' 'in no form'
     refused 'a name in capitals' 's/^\(called-good\) .*/\1 AAAAAAAAAAAAAAAAAAAAAAAAAAAAAAAAAAAAAAAA/' 'in no form'
     refused 'a tree' "s/^called-good .*/&\ncalled-good $tree/; s/^certificate 1/&\n/; s/^good $good/good $tree\n&/" ''
     refused 'the first one found as a good one' "s/^called-good .*/&\ncalled-good $(git rev-parse main~1)/; s/^good $good/good $(git rev-parse main~1)\n&/" 'comes behind'
+    sed 's/^word sh/word \\999/' ../answer >wrong && sum_again wrong && git farmdawn --check wrong >out 2>told
+    expect 'a word is claimed, and told as it stands' grep -qF 'of: \999 -c test' out
     (head -c 300 ../answer >wrong && git farmdawn --check wrong >out 2>told)
     expect 'a torn file' [ $? -eq 20 ]
     expect 'by its name' grep -q 'wrong does not hold' told

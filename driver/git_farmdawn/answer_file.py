@@ -20,7 +20,6 @@
 """
 from __future__ import annotations
 
-import contextlib
 import hashlib
 import re
 from typing import Dict, List, Optional, Set, Tuple
@@ -194,15 +193,17 @@ def kind_of(line: str) -> Optional[str]:
 
 
 def answer_of(data: bytes) -> Answer:
-    """What the lines of a file claim, whatever they are; one in no form, or that contradicts another, claims nothing."""
+    """What the lines of a file claim, whatever they are; one that names commits in no form, or contradicts another, claims nothing."""
     answer = Answer()
     text = data.decode('latin-1')
     answer.lines = text.split('\n')[:-1] if text.endswith('\n') else text.split('\n')
     for number, line in enumerate(answer.lines, 1):
-        kind = kind_of(line)
-        if kind is not None:
-            with contextlib.suppress(Fault):
+        kind = line.split(' ')[0] if line.startswith(FREE) else kind_of(line)
+        try:
+            if kind is not None:
                 answer.take(number, kind, line)
+        except Fault:
+            continue
     return answer
 
 
