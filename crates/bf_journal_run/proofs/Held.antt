@@ -11,6 +11,7 @@ use Rattle.bf_commands.specs.Journal.{AreImages, AreImagesOf, DiskMet, MayBePut}
 use Rattle.bf_grammar.specs.Limits.{standard_limits}
 use Rattle.bf_history.specs.declared.fault.ImportFault.{ImportFault}
 use Rattle.bf_history.specs.Meanings.{History}
+use Rattle.bf_io.specs.declared.shelf.LoadFault.{LoadFault}
 use Rattle.bf_io.specs.declared.shelf.ShelfFile.{ShelfFile}
 use Rattle.bf_journal.specs.Disk.{LeavesOnly}
 use Rattle.bf_journal.specs.Image.{table_in}
@@ -79,8 +80,9 @@ begins_behind : (replay : Option ℕ) (line : Line) (files : Option (List ShelfF
 begins_behind None line files history started (begun, same) =
     subst (λ (h : History). begun_with_skips line.request.now line.words.now None h ≡ Ok (begun_of started.first)) (sym same) begun
 begins_behind (Some i) line None history started begun = tt
-begins_behind (Some i) line (Some files) history started (begun, same) =
-    subst (λ (h : History). BeginsBehind (Some i) line.request.now line.words.now (Some files) h (begun_of started.first)) (sym same) begun
+begins_behind (Some i) line (Some files) history started (file, at, (begun, same)) =
+    subst (λ (h : History). BeginsBehind (Some i) line.request.now line.words.now (Some files) h (begun_of started.first)) (sym same)
+    (subst (λ (f : Result (List ℕ) LoadFault). begun_with_skips line.request.now line.words.now (Some f) history ≡ Ok (begun_of started.first)) at begun)
 
 begins_loaded : (line : Line) (files : Option (List ShelfFile)) (result : Result History ImportFault) (started : Started)
     → IsBegunLoaded line files result (Search started)
