@@ -1,6 +1,6 @@
 -- What a line of words is answered.
 use Rattle.std.specs.Borrow.{Bor}
-use Rattle.std.specs.Prelude.{ℕ, List, Option, Result}
+use Rattle.std.specs.Prelude.{ℕ, List, Option, Some, Result}
 use Rattle.bf_history.specs.Meanings.{History}
 use Rattle.bf_output.specs.Beginning.{Begun}
 use Rattle.bf_output.specs.Gen.{made_stream}
