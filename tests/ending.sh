@@ -76,8 +76,9 @@ test_children() {
     search run --workers 4 >got 2>/dev/null
     expect 'the same text' cmp got due
     expect 'what the shell has started runs on' pgrep -f "$long_sleep" >children
-    pkill -f "$long_sleep"
-    nothing_sleeps
+    # a shell that was just ended may still have started one
+    all_ended() { ! pkill -f "$long_sleep"; }
+    wait_until 'what the shells started has ended' all_ended
     prepare "exec timeout 0 sh -c '$long_sleep; true'"
     ends_within 300 run --workers 4
 }
