@@ -161,6 +161,8 @@ test_wrong() {
     refused 'a good commit left out' "/^good $good/d" "good $good. is missing"
     refused 'a good commit that was not tested' "s/^good $good/&\ngood $other/" 'no test was good there'
     refused 'an outcome left out' "/^outcome $good/d" 'no test was good there'
+    refused 'a bad outcome not behind it, with zeros before its status' \
+        "0,/^outcome/s/^outcome/outcome $(git rev-parse main~6) 01\n&/" 'does not come behind'
     refused 'another bad commit' "s/^bad .*/bad $other/" 'no test was bad there'
     refused 'which is called so' "s/^bad .*/bad $other/; s/^called-bad .*/called-bad $other/" ''
     refused 'a step left out' '0,/^reach/{/^reach/d}' 'line '

@@ -28,7 +28,7 @@ from .facts import SKIP
 
 FIRST = 'farmdawn-answer 1'
 NAME = '[0-9a-f]{40}(?:[0-9a-f]{24})?'
-STATUS = '(0|[1-9][0-9]{0,2})'
+STATUS = '(0*[0-9]{1,20})'     # as the program reads it, also with zeros before it
 TERM = '[A-Za-z0-9-]{1,40}'
 WORD = r'([ -\[\]-~]|\\[0-3][0-7][0-7])*'
 # the kinds of lines in their order, and their forms
@@ -69,6 +69,11 @@ def with_sum(lines: List[str]) -> bytes:
     """The whole file."""
     below = ''.join(line + '\n' for line in lines).encode()
     return ('%s\n%s\n' % (FIRST, sum_of(below))).encode() + below
+
+
+def status_of(digits: str) -> int:
+    """A status, however many zeros stand before it."""
+    return int(digits.lstrip('0') or '0')
 
 
 class Answer:
@@ -123,9 +128,9 @@ class Answer:
         elif kind in ('called-bad', 'called-good'):
             self.take_end(number, kind[len('called-'):], parts)
         elif kind == 'outcome':
-            self.take_outcome(number, parts[1], int(parts[2]))
+            self.take_outcome(number, parts[1], status_of(parts[2]))
         elif kind == 'against':
-            self.against[parts[1]] = int(parts[2])
+            self.against[parts[1]] = status_of(parts[2])
         elif kind == 'confirmed':
             self.take_confirmed(number, parts)
         elif kind == 'certificate':
@@ -143,7 +148,7 @@ class Answer:
         if called == 'good':
             self.goods.append(parts[1])
         if len(parts) > 2:
-            self.tested_ends[parts[1]] = int(parts[2])
+            self.tested_ends[parts[1]] = status_of(parts[2])
 
     def take_outcome(self, number: int, commit: str, status: int) -> None:
         """The outcome of a test."""
