@@ -52,7 +52,7 @@ fn search<'r>(alloc: Global, reach: &'r Reach) -> Result<Option<Core<'r>>, Alloc
     Ok(Some(Core::start(alloc, reach, state, table, 0)?))
 }
 
-/// Does a task over a generated history, and gives the number of places that were picked or posted last.
+/// Does a task over a generated history, and returns the number of places that were picked or posted last.
 pub fn done(
     alloc: Global,
     task: Task,
@@ -90,7 +90,7 @@ fn done_in(core: &mut Core<'_>, task: Task, workers: u32, commits: u32) -> Resul
     }
 }
 
-/// Has each worker without a claim pick a place, and gives how many got one.
+/// Has each worker without a claim pick a place, and returns how many got one.
 fn pick_all(core: &mut Core<'_>, workers: u32) -> Result<u32, AllocError> {
     let mut places = 0u32;
     for worker in 0..workers {
@@ -104,7 +104,7 @@ fn pick_all(core: &mut Core<'_>, workers: u32) -> Result<u32, AllocError> {
     Ok(places)
 }
 
-/// Posts the outcome of the oldest claim, and gives how many were posted.
+/// Posts the outcome of the oldest claim, and returns how many were posted.
 fn post_first(core: &mut Core<'_>, outcome: Outcome) -> Result<u32, AllocError> {
     let Some(claim) = core.claims().first().copied() else {
         return Ok(0);
@@ -116,7 +116,7 @@ fn post_first(core: &mut Core<'_>, outcome: Outcome) -> Result<u32, AllocError> 
     Ok(1)
 }
 
-/// Picks and posts until the run has ended, and gives how many outcomes were posted. Places in the later
+/// Picks and posts until the run has ended, and returns how many outcomes were posted. Places in the later
 /// half of the history are bad, where they are not skipped.
 fn run(core: &mut Core<'_>, workers: u32, len: u32, skips: bool) -> Result<u32, AllocError> {
     let mut posted = 0u32;

@@ -16,7 +16,7 @@ mod write;
 pub use answer::{Answer, Fault, Stop};
 pub use bf_names::NameFault;
 pub use bf_output::{Status, StreamKind};
-pub use line::{Line, word_at};
+pub use line::{RequestLine, word_at};
 pub use refusals::{
     log_refusal, name_refusal, no_file, refusal, too_large, usage, waiting, word_refusal,
 };

@@ -40,7 +40,7 @@ pub fn sides_of(terms: &Terms) -> Sides<'_>
     }
 }
 
-/// Adds the lines of the end of a run, or of a test that failed, and gives the status.
+/// Adds the lines of the end of a run, or of a test that failed, and returns the status.
 #[tactic(auto, unfolding(bf_terms::specs::Texts::answer_lines))]
 pub fn write_end(
     commits: Commits<'_>,
@@ -50,7 +50,8 @@ pub fn write_end(
 ) -> Result<Status, AllocError>
     requires { IsEndingWithin (length commits.names.now) ending }
     ensures status { IfOk result (λ status. status ≡ status_at_end (end_of ending)) }
-    ensures text { OnOk result (out.new ≡ out.old ++ end_lines_of commits.entry sides.entry ending) }
+    ensures text { OnOk result
+        (out.new ≡ out.old ++ end_lines_of commits.entry sides.entry ending) }
 {
     match ending {
         Ending::FirstBad(place) => write_told(commits, sides, &Ask::FirstBad(place), out),
@@ -72,7 +73,7 @@ pub fn write_end(
     }
 }
 
-/// Adds the lines of an ask that ends a run, and gives the status.
+/// Adds the lines of an ask that ends a run, and returns the status.
 fn write_told(
     commits: Commits<'_>,
     sides: Sides<'_>,

@@ -11,7 +11,7 @@ use crate::answer::{Answer, Fault};
 use bf_io::{Sink, SinkFault, write_whole};
 use bf_output::Status;
 
-/// Writes an answer, or the line of what stood in its way, and gives the status: `ReadFault` where the source could
+/// Writes an answer, or the line of what stood in its way, and returns the status: `ReadFault` where the source could
 /// not be read, `ShelfFault` where a file could not. `WriteFault` and `NoMemory` come as those of `say`.
 pub fn say_answer<K: Sink>(out: &mut K, answer: Result<Answer, Fault>) -> Status
     requires whole { IfOk answer IsWholeAnswer }
@@ -28,7 +28,7 @@ pub fn say_answer<K: Sink>(out: &mut K, answer: Result<Answer, Fault>) -> Status
     }
 }
 
-/// Writes a text, and gives its status. `WriteFault` and `NoMemory` come where it was not written whole; then
+/// Writes a text, and returns its status. `WriteFault` and `NoMemory` come where it was not written whole; then
 /// some front of it was.
 pub fn say<K: Sink>(out: &mut K, text: &[u8], status: Status) -> Status
     ensures written { IsWritten (K.held out.old) (K.held out.new) text.now status result }

@@ -5,7 +5,7 @@ use Rattle.std.specs.Borrow.{Bor}
 use Rattle.bf_answers.specs.Answers.{IsWhole}
 use Rattle.bf_answers.specs.declared.answer.Answer.{Answer}
 use Rattle.bf_answers.specs.declared.answer.Fault.{Fault}
-use Rattle.bf_answers.specs.declared.line.Line.{Line}
+use Rattle.bf_answers.specs.declared.line.RequestLine.{RequestLine}
 use Rattle.bf_answers.specs.declared.started.Ready.{Ready}
 use Rattle.bf_answers.specs.declared.started.Ready.TheVariants.{Told as ToldAnswer, Search}
 use Rattle.bf_answers.specs.Tellings.{begun_of, told_of}
@@ -28,7 +28,7 @@ use Rattle.bf_io.specs.declared.shelf.ShelfFile.{ShelfFile}
 use Rattle.bf_begin.specs.Opening.{IsBegunAs, IsBegunBehind, IsBegunFile, IsBegunLoaded, IsBegunOver, IsBegunStream, IsOf, IsReadFrom, IsReadyTold}
 
 -- from the file that the shelf gave
-behind : (replay : Option ℕ) (line : Line) (files : Option (List ShelfFile)) (history : History) (file : Option LogFile) (ready : Ready)
+behind : (replay : Option ℕ) (line : RequestLine) (files : Option (List ShelfFile)) (history : History) (file : Option LogFile) (ready : Ready)
     → IsFileOf files line.words.now replay file
     → IsBegunAs (begun_with_skips line.request.now line.words.now (option_map given_of file) history) history ready
     → IsBegunBehind replay line files history ready
@@ -40,7 +40,7 @@ behind (Some i) line None history (Some file) ready is begun = (given_of file, t
 behind (Some i) line (Some files) history None ready is begun = absurd (cc)
 behind (Some i) line (Some files) history (Some file) ready is begun = (given_of file, cc, begun)
 
-pub begun_over : (line : Line) (files : Option (List ShelfFile)) (history : History) (file : Option LogFile) (lent : Option (Bor LogFile))
+pub begun_over : (line : RequestLine) (files : Option (List ShelfFile)) (history : History) (file : Option LogFile) (lent : Option (Bor LogFile))
     (result : Result Ready Fault)
     → IsFileOf files line.words.now line.request.now.replay file → file_given lent ≡ option_map given_of file
     → IfOk result (IsBegunFile line lent history) → IfOk result (IsBegunOver line files history)
@@ -50,12 +50,12 @@ begun_over line files history file lent (Ok ready) is given begun =
     (subst (λ (f : Option (Result (List ℕ) LoadFault)). IsBegunAs (begun_with_skips line.request.now line.words.now f history) history ready) given begun)
 
 -- from what the stream gave
-pub begun_loaded : (line : Line) (files : Option (List ShelfFile)) (left : Option (List ℕ)) (history : History) (result : Result Ready Fault)
+pub begun_loaded : (line : RequestLine) (files : Option (List ShelfFile)) (left : Option (List ℕ)) (history : History) (result : Result Ready Fault)
     → MayImport left standard_limits (Ok history) → IfOk result (IsBegunOver line files history) → IfOk result (IsBegunStream line files left)
 begun_loaded line files left history (Err fault) may begun = tt
 begun_loaded line files left history (Ok ready) may begun = (Ok history, imported left standard_limits history may, begun)
 
-pub begun_refused : (line : Line) (files : Option (List ShelfFile)) (left : Option (List ℕ)) (fault : ImportFault) (answer : Answer)
+pub begun_refused : (line : RequestLine) (files : Option (List ShelfFile)) (left : Option (List ℕ)) (fault : ImportFault) (answer : Answer)
     → IsImported left standard_limits (Err fault) → told_of answer ≡ refusal fault → IsBegunStream line files left (ToldAnswer answer)
 begun_refused line files left fault answer read is = (Err fault, read, is)
 
@@ -67,7 +67,7 @@ read_from left history (Ok (Search started)) may of = subst (λ (h : History). M
 
 -- ---- what is told of what is ready
 
-module _ (IsTold : History → Begun → Told → Type 0) (line : Line) (files : Option (List ShelfFile)) (ready : Ready) (told : Told)
+module _ (IsTold : History → Begun → Told → Type 0) (line : RequestLine) (files : Option (List ShelfFile)) (ready : Ready) (told : Told)
     (tells : IsReadyTold IsTold ready told) where
   from_begun : (begun : Result Begun Told) (history : History) → IsBegunAs begun history ready → IsToldFrom (IsTold history) begun told
   from_begun begun history is = by ready is tells

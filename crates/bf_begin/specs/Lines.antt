@@ -12,7 +12,7 @@ use Rattle.bf_output.specs.Told.{Told}
 use Rattle.bf_begin.specs.Files.{file_given}
 use Rattle.bf_answers.specs.Ready.{AllTold, verb_of}
 use Rattle.bf_begin.specs.declared.file.LogFile.{LogFile}
-use Rattle.bf_answers.specs.declared.line.Line.{Line}
+use Rattle.bf_answers.specs.declared.line.RequestLine.{RequestLine}
 use Rattle.bf_answers.specs.declared.started.Means.{Means}
 use Rattle.bf_answers.specs.declared.started.Ready.{Ready}
 
@@ -21,15 +21,15 @@ abbrev pub begun_by_file : History → Result (List ℕ) LoadFault → Result Be
 begun_by_file history file = replayed_log history file >>= λ replayed. Ok (begun_behind replayed)
 
 -- by the words of the line, or by the log that they name
-abbrev pub begun_by_line : Line → Option (Bor LogFile) → History → Result Begun Told
+abbrev pub begun_by_line : RequestLine → Option (Bor LogFile) → History → Result Begun Told
 begun_by_line line file history = begun_by line.request.now line.words.now (file_given file) history
 
 -- and with the skips that they ask for
-abbrev pub begun_with_line : Line → Option (Bor LogFile) → History → Result Begun Told
+abbrev pub begun_with_line : RequestLine → Option (Bor LogFile) → History → Result Begun Told
 begun_with_line line file history = begun_with_skips line.request.now line.words.now (file_given file) history
 
 -- of the search that begins so, with these means
-abbrev pub TellsSearchFrom : Line → Option (Bor LogFile) → History → Means → Ready → Type 0
+abbrev pub TellsSearchFrom : RequestLine → Option (Bor LogFile) → History → Means → Ready → Type 0
 TellsSearchFrom line file history means ready =
     AllTold line.request.now line.words.now ready (λ tested told.
     IsToldFrom (IsSearched (verb_of means) line.request.now line.words.now tested history) (begun_with_line line file history) told)

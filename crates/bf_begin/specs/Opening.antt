@@ -2,7 +2,7 @@
 use Rattle.std.specs.Borrow.{Bor}
 use Rattle.std.specs.Prelude.{◌≡◌, ℕ, List, Option, Some, None, IfSome, Result, Ok, Err}
 use Rattle.bf_answers.specs.declared.answer.Answer.{Answer}
-use Rattle.bf_answers.specs.declared.line.Line.{Line}
+use Rattle.bf_answers.specs.declared.line.RequestLine.{RequestLine}
 use Rattle.bf_answers.specs.declared.started.Ready.{Ready}
 use Rattle.bf_answers.specs.declared.started.Ready.TheVariants.{Told as ToldAnswer, Search}
 use Rattle.bf_answers.specs.Answers.{IsWhole}
@@ -58,26 +58,26 @@ IsBegunAs begun history (ToldAnswer answer) = begun ≡ Err (told_of answer)
 IsBegunAs begun history (Search started) = (begun ≡ Ok (begun_of started.first)) × (started.history ≡ history)
 
 -- by the words of the line and the file that they name
-abbrev pub IsBegunFile : Line → Option (Bor LogFile) → History → Ready → Type 0
+abbrev pub IsBegunFile : RequestLine → Option (Bor LogFile) → History → Ready → Type 0
 IsBegunFile line file history ready = IsBegunAs (begun_with_line line file history) history ready
 
 -- behind the log that the words name, or without one
-abbrev pub IsBegunBehind : Option ℕ → Line → Option (List ShelfFile) → History → Ready → Type 0
+abbrev pub IsBegunBehind : Option ℕ → RequestLine → Option (List ShelfFile) → History → Ready → Type 0
 IsBegunBehind None line files history ready = IsBegunAs (begun_with_skips line.request.now line.words.now None history) history ready
 IsBegunBehind (Some i) line files history ready =
     (file : Result (List ℕ) LoadFault) × IfSome files (λ all. file ≡ file_of line.words.now i all)
     × IsBegunAs (begun_with_skips line.request.now line.words.now (Some file) history) history ready
 
-abbrev pub IsBegunOver : Line → Option (List ShelfFile) → History → Ready → Type 0
+abbrev pub IsBegunOver : RequestLine → Option (List ShelfFile) → History → Ready → Type 0
 IsBegunOver line files history ready = IsBegunBehind line.request.now.replay line files history ready
 
 -- over what the stream gave
-abbrev pub IsBegunLoaded : Line → Option (List ShelfFile) → Result History ImportFault → Ready → Type 0
+abbrev pub IsBegunLoaded : RequestLine → Option (List ShelfFile) → Result History ImportFault → Ready → Type 0
 IsBegunLoaded line files (Ok history) ready = IsBegunOver line files history ready
 IsBegunLoaded line files (Err fault) (ToldAnswer answer) = told_of answer ≡ refusal fault
 IsBegunLoaded line files (Err fault) (Search started) = ⊥
 
-abbrev pub IsBegunStream : Line → Option (List ShelfFile) → Option (List ℕ) → Ready → Type 0
+abbrev pub IsBegunStream : RequestLine → Option (List ShelfFile) → Option (List ℕ) → Ready → Type 0
 IsBegunStream line files left ready =
     (result : Result History ImportFault) × IsImported left standard_limits result × IsBegunLoaded line files result ready
 

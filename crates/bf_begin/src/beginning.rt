@@ -14,7 +14,7 @@ ghost use Rattle.bf_answers.specs.Tellings.{begun_of, AreWithin, IsBegun};
 use crate::file::{LogFile, replay_file};
 use crate::named::{all_named, named_if_given};
 use crate::skips::{all_meant, skip_all};
-use bf_answers::{Beginning, Line, Stop, waiting};
+use bf_answers::{Beginning, RequestLine, Stop, waiting};
 use bf_import::History;
 use bf_io::Word;
 use bf_log::Known;
@@ -124,7 +124,7 @@ fn begin_by_log(
 /// The search that the words for its ends begin, or the log that they name.
 fn begin_first(
     alloc: Global,
-    line: Line<'_>,
+    line: RequestLine<'_>,
     file: Option<&LogFile>,
     history: &History,
     reach: &Reach,
@@ -156,7 +156,7 @@ fn with_ends(alloc: Global, first: Beginning) -> Result<Beginning, Stop>
 #[tactic(auto, unfolding(bf_output::specs::Beginning::begun_with_skips))]
 pub fn begin(
     alloc: Global,
-    line: Line<'_>,
+    line: RequestLine<'_>,
     file: Option<&LogFile>,
     history: &History,
     reach: &Reach,

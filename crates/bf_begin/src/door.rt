@@ -7,7 +7,7 @@ ghost use Rattle.bf_begin.specs.Opening.{IsBegunStream, IsOpened, IsReadFrom, Is
 
 use crate::file::{LogFile, LogText, lent, load_file, load_word};
 use crate::ready::start;
-use bf_answers::{Answer, Fault, Line, Means, Ready, no_file, refusal, too_large};
+use bf_answers::{Answer, Fault, Means, Ready, RequestLine, no_file, refusal, too_large};
 use bf_grammar::{Limit, Limits};
 use bf_import::{History, import};
 use bf_io::{Shelf, Source, Word};
@@ -23,6 +23,9 @@ pub enum Opened {
 }
 
 /// Reads the stream to its end, and then loads the file of a word, where there is one.
+///
+/// # Errors
+/// `Read` where the source fails, `Shelf` where the file cannot be loaded, and `NoMemory`.
 pub fn open<S: Source, F: Shelf>(
     alloc: Global,
     words: &[Word],
@@ -47,8 +50,11 @@ pub fn open<S: Source, F: Shelf>(
 }
 
 /// The search that a line asks for, once the stream and the file of its words are open; or the refusal.
+///
+/// # Errors
+/// As [`open`].
 pub fn open_search<S: Source, F: Shelf>(
-    line: Line<'_>,
+    line: RequestLine<'_>,
     means: Means,
     stream: &mut S,
     shelf: &mut F,
@@ -80,6 +86,9 @@ pub enum OpenedText {
 }
 
 /// Reads the stream to its end, and then loads the text of the file that a word names.
+///
+/// # Errors
+/// As [`open`].
 pub fn open_text<S: Source, F: Shelf>(
     alloc: Global,
     words: &[Word],

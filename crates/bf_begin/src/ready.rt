@@ -6,13 +6,13 @@ ghost use Rattle.bf_answers.specs.Ready.{IsSound, KeepsSound, TellsStep, verb_of
 
 use crate::beginning::begin;
 use crate::file::LogFile;
-use bf_answers::{Answer, Fault, Line, Means, Ready, Started, Stop};
+use bf_answers::{Answer, Fault, Means, Ready, RequestLine, Started, Stop};
 use bf_import::History;
 use bf_reach::Reach;
 
 /// The search that words begin over a history, or its refusal.
 pub fn start(
-    line: Line<'_>,
+    line: RequestLine<'_>,
     file: Option<&LogFile>,
     history: History,
     means: Means,

@@ -8,7 +8,7 @@ ghost use Rattle.bf_cert.specs.Reading as reading;
 use crate::cert::Cert;
 use crate::edges::Edges;
 use crate::fault::{CertFault, LineFault};
-use crate::line::Line;
+use crate::line::CertLine;
 use crate::parse::read_line;
 use crate::reader::Reader;
 use bf_import::History;
@@ -49,13 +49,13 @@ fn read_lines(alloc: Global, history: &History, bytes: &[u8]) -> Result<Cert, Ce
     let Some((version, rest)) = first_line(bytes) else {
         return Err(CertFault::Line { line: 1 });
     };
-    let Some(Line::Version) = read_line(history, version) else {
+    let Some(CertLine::Version) = read_line(history, version) else {
         return Err(CertFault::Line { line: 1 });
     };
     let Some((bad, rest)) = first_line(rest) else {
         return Err(CertFault::Line { line: 2 });
     };
-    let Some(Line::Bad(bad)) = read_line(history, bad) else {
+    let Some(CertLine::Bad(bad)) = read_line(history, bad) else {
         return Err(CertFault::Line { line: 2 });
     };
     let edges = Edges::of(alloc, history.graph())?;

@@ -10,7 +10,7 @@ ghost use Rattle.bf_cert.specs.Reading.{opened, take_line, RefusesLine};
 use crate::cert::{Cert, CertStep, Steps};
 use crate::edges::Edges;
 use crate::fault::{CertFault, LineFault};
-use crate::line::Line;
+use crate::line::CertLine;
 use crate::make::parents_in_mode;
 use bf_graph::Places;
 use bf_reach::Row;
@@ -93,7 +93,7 @@ impl Reader {
 
     /// Takes the next line, where it may stand here.
     #[tactic(auto, unfolding(crate::specs::Reading::take_line))]
-    pub(crate) fn take(&mut self, graph: &Edges<'_>, line: Line) -> Result<(), LineFault>
+    pub(crate) fn take(&mut self, graph: &Edges<'_>, line: CertLine) -> Result<(), LineFault>
         requires len { length graph.now ≡ self.old.len }
         requires line { IsLineWithin self.old.len line }
         ensures taken { OnOk result (take_line graph.now self.old line ≡ Some self.new) }
@@ -125,14 +125,14 @@ impl Reader {
         }
     }
 
-    fn take_mode(&mut self, graph: &Edges<'_>, line: Line) -> Result<(), LineFault>
+    fn take_mode(&mut self, graph: &Edges<'_>, line: CertLine) -> Result<(), LineFault>
         requires len { length graph.now ≡ self.old.len }
         requires line { IsLineWithin self.old.len line }
         ensures taken { OnOk result (reading.take_mode graph.now self.old line ≡ Some self.new) }
         ensures refused { RefusesLine result (reading.take_mode graph.now self.old line) }
     {
         match line {
-            Line::FirstParent => {
+            CertLine::FirstParent => {
                 self.first_parent = true;
                 self.wants = Wants::Goods;
                 Ok(())
@@ -141,14 +141,14 @@ impl Reader {
         }
     }
 
-    fn take_good(&mut self, graph: &Edges<'_>, line: Line) -> Result<(), LineFault>
+    fn take_good(&mut self, graph: &Edges<'_>, line: CertLine) -> Result<(), LineFault>
         requires len { length graph.now ≡ self.old.len }
         requires line { IsLineWithin self.old.len line }
         ensures taken { OnOk result (reading.take_good graph.now self.old line ≡ Some self.new) }
         ensures refused { RefusesLine result (reading.take_good graph.now self.old line) }
     {
         match line {
-            Line::Good(place) => {
+            CertLine::Good(place) => {
                 self.add_good(place)?;
                 Ok(())
             }
@@ -156,18 +156,18 @@ impl Reader {
         }
     }
 
-    fn take_step(&mut self, graph: &Edges<'_>, line: Line) -> Result<(), LineFault>
+    fn take_step(&mut self, graph: &Edges<'_>, line: CertLine) -> Result<(), LineFault>
         requires len { length graph.now ≡ self.old.len }
         requires line { IsLineWithin self.old.len line }
         ensures taken { OnOk result (reading.take_step graph.now self.old line ≡ Some self.new) }
         ensures refused { RefusesLine result (reading.take_step graph.now self.old line) }
     {
         match line {
-            Line::Reach(step) if self.is_step(graph, step) => {
+            CertLine::Reach(step) if self.is_step(graph, step) => {
                 self.add_step(step)?;
                 Ok(())
             }
-            Line::End if self.reaches_parents(graph) => {
+            CertLine::End if self.reaches_parents(graph) => {
                 self.wants = Wants::Nothing;
                 Ok(())
             }

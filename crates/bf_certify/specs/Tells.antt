@@ -3,7 +3,7 @@ use Rattle.std.specs.Prelude.{ℕ, List, Option, Result, IsErrOf, ◌⊎◌}
 use Rattle.bf_answers.specs.declared.answer.Answer.{Answer}
 use Rattle.bf_answers.specs.declared.answer.Fault.{Fault}
 use Rattle.bf_answers.specs.declared.answer.Fault.TheVariants.{Read, Shelf}
-use Rattle.bf_answers.specs.declared.line.Line.{Line}
+use Rattle.bf_answers.specs.declared.line.RequestLine.{RequestLine}
 use Rattle.bf_answers.specs.declared.started.Started.{Started}
 use Rattle.bf_answers.specs.Answers.{IsBeforeSearch, IsUntested, IsUntestedIfRefused}
 use Rattle.bf_answers.specs.Devices.{TesterMet}
@@ -17,25 +17,25 @@ use Rattle.bf_output.specs.Tested.{IsTestedAs}
 use Rattle.bf_io.specs.declared.shelf.ShelfFile.{ShelfFile}
 
 -- of a search, by what the tester of its run shows
-abbrev pub TellsRun : Line → Started → TesterShown → Answer → Type 0
+abbrev pub TellsRun : RequestLine → Started → TesterShown → Answer → Type 0
 TellsRun line started tested answer =
     IsTestedAs (λ legs. IsRunCertified started.history (begun_of started.first)) line.request.now tested started.history
     (begun_of started.first) (told_of answer)
 
 -- over the plan of the words
-abbrev pub TellsPlanned : Line → Started → Answer → Type 0
+abbrev pub TellsPlanned : RequestLine → Started → Answer → Type 0
 TellsPlanned line started answer =
     let first = begun_of started.first in
     IsRunCertified started.history first (run_over started.history first (plan_of line.request.now line.words.now)) (told_of answer)
 
 -- as the command of the line searches
-abbrev pub TellsSearch : Line → Started → TesterShown → Answer → Type 0
+abbrev pub TellsSearch : RequestLine → Started → TesterShown → Answer → Type 0
 TellsSearch line started tested answer =
     IsCertified line.request.now.verb line.request.now line.words.now tested started.history (begun_of started.first)
     (told_of answer)
 
 -- of the search that the words of the line ask for
-abbrev pub TellsStream : Line → Option (List ShelfFile) → TesterShown → Option (List ℕ) → Answer → Type 0
+abbrev pub TellsStream : RequestLine → Option (List ShelfFile) → TesterShown → Option (List ℕ) → Answer → Type 0
 TellsStream line files tested left answer =
     IsStreamed (IsSearchOver (IsCertified line.request.now.verb line.request.now line.words.now tested) line.request.now line.words.now files) left (told_of answer)
 

@@ -23,7 +23,7 @@ use std::alloc::{AllocError, Global};
 /// The number of words that a line of `check` has: the command and its file.
 const WORDS: usize = 2;
 
-/// Checks the certificate in the file that word 1 names, over the history of the stream, and tells whether it
+/// Checks the certificate in the file that word 1 names, over the history of the stream, and returns whether it
 /// holds. Where the first line is that of an answer, it checks the whole answer.
 ///
 /// The stream is read to its end before the file is asked for. The status is `ReadFault` only where the count of

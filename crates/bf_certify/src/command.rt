@@ -14,7 +14,7 @@ ghost use Rattle.bf_searches.specs.Lines.{IsCausedIn, IsUsedIn};
 
 use crate::search::certify_search;
 use crate::words::read_to_certify;
-use bf_answers::{Answer, Fault, Line, Means, Ready, say, word_refusal};
+use bf_answers::{Answer, Fault, Means, Ready, RequestLine, say, word_refusal};
 use bf_begin::open_search;
 use bf_io::{Shelf, Sink, Source, Word};
 use bf_output::Status;
@@ -23,7 +23,7 @@ use bf_words::{Request, Verb};
 use std::alloc::Global;
 
 /// Searches as the words of `simulate` or `run` behind the first word ask for, and writes the certificate of the
-/// first bad commit, or how the search ended otherwise, and gives the status.
+/// first bad commit, or how the search ended otherwise, and returns the status.
 ///
 /// The words are read first: another command than these two is at fault at word 1 before all else, and the first
 /// word that asks for legs or for a trace is at fault once the words are accepted. Then the stream is read to its
@@ -102,7 +102,7 @@ fn answer<R: Host, S: Source, F: Shelf, T: Tester>(
 {
     match read_to_certify(alloc, words) {
         Ok(request) => {
-            let line = Line {
+            let line = RequestLine {
                 alloc,
                 request: &request,
                 words,
@@ -113,7 +113,7 @@ fn answer<R: Host, S: Source, F: Shelf, T: Tester>(
     }
 }
 
-/// Writes an answer, or the line of what stood in its way, and gives the status.
+/// Writes an answer, or the line of what stood in its way, and returns the status.
 fn say_tested<K: Sink>(out: &mut K, answer: Result<Answer, Fault>) -> Status
     requires whole { IfOk answer (λ a. a.status ≢ Status.WriteFault) }
     ensures told { SaysAnswer answer (met_sink K.Sink out.old out.new) result }
@@ -130,7 +130,7 @@ fn say_tested<K: Sink>(out: &mut K, answer: Result<Answer, Fault>) -> Status
 /// What is answered to a line: its search is certified, or refused.
 fn certify_line<R: Host, S: Source, F: Shelf, T: Tester>(
     rt: &R,
-    line: Line<'_>,
+    line: RequestLine<'_>,
     stream: &mut S,
     shelf: &mut F,
     tester: &mut T,

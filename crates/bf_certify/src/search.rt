@@ -9,7 +9,7 @@ ghost use Rattle.bf_output.specs.Shown.{shown_by};
 ghost use Rattle.bf_searches.specs.Lines.{IsCausedIn, IsUsedIn, IsUsedToTest};
 
 use crate::ended::answer_run;
-use bf_answers::{Answer, Line, Means, Started};
+use bf_answers::{Answer, Means, RequestLine, Started};
 use bf_runs::{RunSettings, run_leg};
 use bf_searches::{Running, begin_running, command_of, tester_of};
 use bf_tester::{Host, Tester};
@@ -18,7 +18,7 @@ use std::alloc::AllocError;
 /// Tests what a search asks for, by its means, and answers with its certificate or with how it ended.
 pub(crate) fn certify_search<R: Host, T: Tester>(
     rt: &R,
-    line: Line<'_>,
+    line: RequestLine<'_>,
     started: Started,
     tester: &mut T,
 ) -> Result<Answer, AllocError>
@@ -44,7 +44,11 @@ pub(crate) fn certify_search<R: Host, T: Tester>(
 }
 
 /// Tests by the plan that the words write.
-fn certify_by_plan<R: Host>(rt: &R, line: Line<'_>, started: Started) -> Result<Answer, AllocError>
+fn certify_by_plan<R: Host>(
+    rt: &R,
+    line: RequestLine<'_>,
+    started: Started,
+) -> Result<Answer, AllocError>
     requires plan { HasPlan line.request.now line.words.now }
     requires whole { line.request.now.leg ≡ 0 }
     requires plain { line.request.now.trace ≡ false }
@@ -60,7 +64,7 @@ fn certify_by_plan<R: Host>(rt: &R, line: Line<'_>, started: Started) -> Result<
 /// Tests by the command that the words name: the tester takes it first.
 fn certify_by_command<R: Host, T: Tester>(
     rt: &R,
-    line: Line<'_>,
+    line: RequestLine<'_>,
     started: Started,
     tester: &mut T,
 ) -> Result<Answer, AllocError>
@@ -83,7 +87,7 @@ fn certify_by_command<R: Host, T: Tester>(
 /// Tests what a search asks for, in one run to its end.
 fn certify_run<R: Host, T: Tester>(
     rt: &R,
-    line: Line<'_>,
+    line: RequestLine<'_>,
     started: Started,
     tester: &mut T,
 ) -> Result<Answer, AllocError>

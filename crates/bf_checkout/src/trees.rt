@@ -29,7 +29,7 @@ pub enum TreesRefusal {
 
 /// What came of the claim.
 #[derive(Drop)]
-enum Claim {
+enum TreesClaim {
     /// The locked file: the lock ends as it is closed, also where the process is killed.
     Held(File),
     Refused(TreesRefusal),
@@ -38,7 +38,7 @@ enum Claim {
 /// The claim of a run on `bisect-trees`: made once, by the first call that needs it, and held until it is dropped.
 #[derive(Drop)]
 pub(crate) struct Trees {
-    claim: OnceBox<Claim>,
+    claim: OnceBox<TreesClaim>,
 }
 
 impl Trees {
@@ -49,7 +49,7 @@ impl Trees {
         }
     }
 
-    /// Makes the claim, where none was made, and tells whether the run may work there. The first call is to be made
+    /// Makes the claim, where none was made, and returns whether the run may work there. The first call is to be made
     /// before there are other threads, since two that claim at once would refuse each other.
     pub(crate) fn claim<R: SystemFiles>(
         &self,
@@ -59,24 +59,24 @@ impl Trees {
             .claim
             .get_or_try_init(|| Box::new(rt.alloc(), claim_of(rt)))?;
         Ok(match claim {
-            Claim::Held(_) => Ok(()),
-            Claim::Refused(refusal) => Err(*refusal),
+            TreesClaim::Held(_) => Ok(()),
+            TreesClaim::Refused(refusal) => Err(*refusal),
         })
     }
 
     /// Why the claim was refused, where it was.
     pub(crate) fn refusal(&self) -> Option<TreesRefusal> {
         match self.claim.get() {
-            Some(Claim::Refused(refusal)) => Some(*refusal),
+            Some(TreesClaim::Refused(refusal)) => Some(*refusal),
             _ => None,
         }
     }
 }
 
-fn claim_of<R: SystemFiles>(rt: &R) -> Claim {
+fn claim_of<R: SystemFiles>(rt: &R) -> TreesClaim {
     match open_locked(rt) {
-        Ok(file) => Claim::Held(file),
-        Err(refusal) => Claim::Refused(refusal),
+        Ok(file) => TreesClaim::Held(file),
+        Err(refusal) => TreesClaim::Refused(refusal),
     }
 }
 

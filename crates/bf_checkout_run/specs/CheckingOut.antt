@@ -7,7 +7,7 @@ use Rattle.bf_tester.specs.declared.answer.Answer.{Answer as Answered}
 use Rattle.bf_tester.specs.Grounds.{Ground}
 use Rattle.bf_words.specs.declared.request.Request.{Request}
 use Rattle.bf_output.specs.Output.{given_to}
-use Rattle.bf_answers.specs.declared.line.Line.{Line}
+use Rattle.bf_answers.specs.declared.line.RequestLine.{RequestLine}
 use Rattle.bf_answers.specs.declared.started.Ready.{Ready}
 use Rattle.bf_answers.specs.declared.started.Ready.TheVariants.{Search, Told}
 use Rattle.bf_answers.specs.Answers.{Command, asking}
@@ -32,7 +32,7 @@ abbrev pub to_checkout : Met → Command
 to_checkout met = checking_out (asked_by met.words) met
 
 -- the answer of a line over the stream, or the search that is to be tested
-abbrev pub TellsCheckout : Line → Option (List ShelfFile) → Option (List ℕ) → Ready → Type 0
+abbrev pub TellsCheckout : RequestLine → Option (List ShelfFile) → Option (List ℕ) → Ready → Type 0
 TellsCheckout line files left ready =
     AllTold line.request.now line.words.now ready (λ tested told.
     IsCheckedOut line.request.now (given_to line.words.now files tested) left told)

@@ -14,7 +14,7 @@ ghost use Rattle.bf_words.specs.declared.verb.Verb.TheVariants as Verb;
 
 use crate::asked;
 use crate::prepare::prepare;
-use bf_answers::{Line, Ready, say_answer, word_refusal};
+use bf_answers::{Ready, RequestLine, say_answer, word_refusal};
 use bf_checkout::{Folder, FolderTester, Workshop};
 use bf_io::{Shelf, Sink, Source, Word};
 use bf_output::Status;
@@ -44,11 +44,13 @@ pub fn checkout<R: Host, S: Source, F: Shelf, U: FolderTester<D>, D: Folder, K: 
     requires whole { U.is_split shop.old.tester ≡ false }
     // What it answers.
     ensures answers { let met = met words.now (met_source S.Source stream.old stream.new)
-        (met_shelf F.Shelf shelf.old shelf.new) (met_tester ⟦<Workshop<U, D> as Tester>⟧ shop.old shop.new)
+        (met_shelf F.Shelf shelf.old shelf.new)
+        (met_tester ⟦<Workshop<U, D> as Tester>⟧ shop.old shop.new)
         (met_sink K.Sink out.old out.new) in
         Answers (to_checkout met) met result }
     ensures complete { let met = met words.now (met_source S.Source stream.old stream.new)
-        (met_shelf F.Shelf shelf.old shelf.new) (met_tester ⟦<Workshop<U, D> as Tester>⟧ shop.old shop.new)
+        (met_shelf F.Shelf shelf.old shelf.new)
+        (met_tester ⟦<Workshop<U, D> as Tester>⟧ shop.old shop.new)
         (met_sink K.Sink out.old out.new) in
         IsComplete (to_checkout met) met result }
     // A fault of a device is answered only where its count of faults rose.
@@ -76,7 +78,7 @@ pub fn checkout<R: Host, S: Source, F: Shelf, U: FolderTester<D>, D: Folder, K: 
 {
     match asked::asked_by(alloc, words) {
         Ok(request) => {
-            let line = Line {
+            let line = RequestLine {
                 alloc,
                 request: &request,
                 words,
@@ -96,7 +98,7 @@ pub fn checkout<R: Host, S: Source, F: Shelf, U: FolderTester<D>, D: Folder, K: 
 /// The same of words that ask for a run.
 fn checkout_line<R: Host, S: Source, F: Shelf, U: FolderTester<D>, D: Folder, K: Sink>(
     rt: &R,
-    line: Line<'_>,
+    line: RequestLine<'_>,
     stream: &mut S,
     shelf: &mut F,
     shop: &mut Workshop<U, D>,
@@ -107,7 +109,8 @@ fn checkout_line<R: Host, S: Source, F: Shelf, U: FolderTester<D>, D: Folder, K:
     requires fresh { U.answers shop.old.tester ≡ [] }
     requires whole { U.is_split shop.old.tester ≡ false }
     ensures answers { let met = met line.entry.words.now (met_source S.Source stream.old stream.new)
-        (met_shelf F.Shelf shelf.old shelf.new) (met_tester ⟦<Workshop<U, D> as Tester>⟧ shop.old shop.new)
+        (met_shelf F.Shelf shelf.old shelf.new)
+        (met_tester ⟦<Workshop<U, D> as Tester>⟧ shop.old shop.new)
         (met_sink K.Sink out.old out.new) in
         Answers (checking_out (Ok line.entry.request.now) met) met result }
     ensures write { result ≡ Status.WriteFault → Rose (K.faults out.old) (K.faults out.new) }

@@ -8,7 +8,7 @@ ghost use Rattle.bf_checkout.specs.Shops.{furnished};
 ghost use Rattle.bf_checkout_run.specs.CheckingOut.{IsFurnishedFor, IsFurnishedIf, IsLeftByAnswer, TellsCheckout};
 ghost use Rattle.bf_words.specs.declared.verb.Verb.TheVariants as Verb;
 
-use bf_answers::{Fault, Line, Means, Ready, refusal};
+use bf_answers::{Fault, Means, Ready, RequestLine, refusal};
 use bf_begin::{lent, load_file, start};
 use bf_checkout::{Folder, FolderTester, Workshop};
 use bf_grammar::Limits;
@@ -19,7 +19,7 @@ use std::sync::Arc;
 /// What a line is answered before any commit is tested, or the search that is to be tested. For a search the workshop
 /// gets the content of the stream, which is read to its end; by an answer, and by an error, it is left as it was.
 pub(crate) fn prepare<S: Source, F: Shelf, U: FolderTester<D>, D: Folder>(
-    line: Line<'_>,
+    line: RequestLine<'_>,
     stream: &mut S,
     shelf: &mut F,
     shop: &mut Workshop<U, D>,
@@ -65,7 +65,11 @@ fn furnish_for<U: FolderTester<D>, D: Folder>(
 }
 
 /// The same over a history: the file that the words name is loaded first.
-fn prepare_over<F: Shelf>(line: Line<'_>, history: History, shelf: &mut F) -> Result<Ready, Fault>
+fn prepare_over<F: Shelf>(
+    line: RequestLine<'_>,
+    history: History,
+    shelf: &mut F,
+) -> Result<Ready, Fault>
     requires run { line.request.now.verb ≡ Verb.Run }
     ensures tells { IfOk result (TellsHistory line.entry (F.files shelf.old) history) }
     ensures sound { IfOk result (IsSound line.entry.request.now) }

@@ -44,13 +44,13 @@ abbrev pub identity_of : History → Request → List (List ℕ) → Oid
 identity_of history request words = record { 0 = run_identity history.names request.lenient (command_of request words) }
 
 -- what opening its journal gives: the outcomes that it kept, the identity of another run, or a fault of the disk
-pub data Opened : Type 0 where
-  Kept : List (Option Outcome) → Opened
-  Other : Oid → Opened
-  Failed : Opened
+pub data OpenedJournal : Type 0 where
+  Kept : List (Option Outcome) → OpenedJournal
+  Other : Oid → OpenedJournal
+  Failed : OpenedJournal
 
 -- by what the bytes stand for, where the disk tells them
-abbrev pub Opens : DiskMet → Oid → ℕ → Opened → Type 0
+abbrev pub Opens : DiskMet → Oid → ℕ → OpenedJournal → Type 0
 Opens disk identity len (Kept outcomes) = IfSome disk.before (λ bytes. table_in identity len bytes ≡ Ok outcomes)
 Opens disk identity len (Other kept) = IfSome disk.before (λ bytes. table_in identity len bytes ≡ Err kept)
 Opens disk identity len Failed = Rose disk.faults disk.faults_now
@@ -145,7 +145,7 @@ IsRunKept disk identity found request tested history first told =
     ⊎ ((table : List (Option Outcome)) × IsJournalCut disk request tested history first table told
     × AreImagesOf disk identity history.names tested found table)))
 
-abbrev pub IsOpenedTold : Opened → DiskMet → Oid → Request → TesterShown → History → Begun → Told → Type 0
+abbrev pub IsOpenedTold : OpenedJournal → DiskMet → Oid → Request → TesterShown → History → Begun → Told → Type 0
 IsOpenedTold (Kept found) disk identity request tested history first told = IsRunKept disk identity found request tested history first told
 IsOpenedTold (Other kept) disk identity request tested history first told =
     (told ≡ record { status = status.JournalRefused kept; text = codes "journal of another run\n" }) × IfSome disk.before (IsLeftAlone disk)
@@ -155,7 +155,7 @@ IsOpenedTold Failed disk identity request tested history first told =
 -- the journal is opened once the search has begun
 abbrev pub IsJournalled : DiskMet → Request → List (List ℕ) → TesterShown → History → Begun → Told → Type 0
 IsJournalled disk request words tested history first told =
-    (opened : Opened)
+    (opened : OpenedJournal)
     × Opens disk (identity_of history request words) (length history.names) opened
     × IsOpenedTold opened disk (identity_of history request words) request tested history first told
 

@@ -153,8 +153,8 @@ impl<'r> Consumed<'r> {
         Ok(())
     }
 
-    /// Whether some path asks for a place; none does where the search has ended. No node is lost, also where
-    /// memory runs out.
+    /// Whether some path asks for a place; none does where the search has ended. No node is lost, even
+    /// after want of memory.
     pub(crate) fn asks(&mut self, table: &Table, place: u32) -> Result<bool, AllocError>
         requires asked { HasAsked self.old }
         requires within { place < length self.old.tree.graph }
@@ -168,8 +168,8 @@ impl<'r> Consumed<'r> {
         self.tree.is_asked(table, place)
     }
 
-    /// The best open place; there is none where the run has ended. No node is lost, also where memory
-    /// runs out.
+    /// The best open place; there is none where the run has ended. No node is lost, even after want of
+    /// memory.
     pub(crate) fn best(
         &mut self,
         table: &Table,

@@ -7,7 +7,7 @@ use crate::line::{history, stream};
 use bf_core::Core;
 use bf_import::History;
 use bf_io::{Bytes, Word};
-use bf_many::{ManyCase, Search, run_shared};
+use bf_many::{ManyCase, ReadySearch, run_shared};
 use bf_names::{NameFault, resolve};
 use bf_oid::oid_hex;
 use bf_reach::Reach;
@@ -37,7 +37,7 @@ fn tester_of(alloc: Global, script: &[u8]) -> Result<ProcessTester, AllocError>
 }
 
 /// The search between the commits `main` and `old`, of which no outcome is known.
-fn search(alloc: Global, history: &History) -> Result<Search, NameFault>
+fn search(alloc: Global, history: &History) -> Result<ReadySearch, NameFault>
     ensures { IfOk result (IsFresh (length history.now.parents)) }
 {
     let bad = resolve(alloc, history, b"main")?;
@@ -46,11 +46,11 @@ fn search(alloc: Global, history: &History) -> Result<Search, NameFault>
     let len = history.len();
     let state = State::new(alloc, len, terms, false, false, Some(bad), &[good])?;
     let table = Table::new(alloc, len)?;
-    Ok(Search { state, table })
+    Ok(ReadySearch { state, table })
 }
 
 /// Two such searches.
-fn two(alloc: Global, history: &History) -> Result<Vec<Search>, NameFault>
+fn two(alloc: Global, history: &History) -> Result<Vec<ReadySearch>, NameFault>
     ensures { IfOk result (λ searches. AreFresh (length history.now.parents) searches.items) }
 {
     let first = search(alloc, history)?;
@@ -72,7 +72,7 @@ fn add_found(
     requires reach { reach.now ≡ history.now.parents }
     requires table { length table ≡ length history.now.parents }
 {
-    let Search { state, .. } = search(alloc, history)?;
+    let ReadySearch { state, .. } = search(alloc, history)?;
     let core = Core::start(alloc, reach, state, table, 0)?;
     let Some(Ending::FirstBad(place)) = core.ending() else {
         return Ok(());

@@ -114,7 +114,7 @@ pub fn farm_main<
     ensures is_split { T.is_split tester.new.inner ≡ false }
     ensures shop_is_split { U.is_split shop.new.tester ≡ false }
 {
-    let asked = Asked {
+    let asked = OrderLine {
         alloc,
         words,
         order: order_in(words),
@@ -128,7 +128,7 @@ pub fn farm_main<
 
 /// A line of words with the order that it gives, and where the answer has its memory.
 #[derive(Clone, Copy)]
-struct Asked<'a> {
+struct OrderLine<'a> {
     alloc: Global,
     words: &'a [Word],
     order: Option<Order>,
@@ -153,7 +153,7 @@ fn carry_out<
     K: Sink,
 >(
     rt: &R,
-    asked: Asked<'_>,
+    asked: OrderLine<'_>,
     stream: &mut S,
     shelf: &mut F,
     tester: &mut Recall<T>,
@@ -202,7 +202,7 @@ fn carry_out<
     ensures is_split { T.is_split tester.new.inner ≡ false }
     ensures shop_is_split { U.is_split shop.new.tester ≡ false }
 {
-    let Asked {
+    let OrderLine {
         alloc,
         words,
         order,

@@ -4,7 +4,7 @@ use Rattle.std.specs.BTreeMap.{BTreeMap}
 use Rattle.std.proofs.lemmas.Bool.{ltb-true}
 use Rattle.bf_oid.specs.declared.object.Oid.{Oid}
 use Rattle.bf_forest.specs.declared.nodes.Entry.{Entry}
-use Rattle.bf_forest.specs.declared.pool.Kept.{Kept}
+use Rattle.bf_forest.specs.declared.pool.KeptTree.{KeptTree}
 use Rattle.bf_forest.specs.Files.{Files}
 use Rattle.bf_forest.specs.Index.{IsIndexed}
 use Rattle.bf_forest.specs.Nodes.{World, Node, AreNodes, StaysIn, nodes_of, kept_trees, world_of, trees_from, stood, files_in, are_kept_within, HaveJoined}
@@ -22,14 +22,14 @@ abbrev pub node_in : World → List ℕ → Oid → Node
 node_in world numbers name = record { entries = stood world.table numbers; name = name }
 
 -- the trees with one more
-pub record IsPushed (table : List Entry) (kept next : List Kept) (trees : List Files) (node : Node) : Type 0 where
+pub record IsPushed (table : List Entry) (kept next : List KeptTree) (trees : List Files) (node : Node) : Type 0 where
   pub nodes : nodes_of table next ≡ nodes_of table kept ++ node ∷ []
   pub trees_are : kept_trees table next ≡ trees ++ files_in trees node.entries ∷ []
 
-pub pushed : (table : List Entry) (kept next : List Kept) (world : World) (numbers : List ℕ) (name : Oid) → world_of table kept ≡ world
+pub pushed : (table : List Entry) (kept next : List KeptTree) (world : World) (numbers : List ℕ) (name : Oid) → world_of table kept ≡ world
     → next ≡ kept ++ record { numbers = numbers; name = name } ∷ [] → IsPushed table kept next world.trees (node_in world numbers name)
 pushed table kept next world numbers name view is =
-    let tree : Kept = record { numbers = numbers; name = name } in
+    let tree : KeptTree = record { numbers = numbers; name = name } in
     let before = nodes_of table kept in
     let nodes : nodes_of table next ≡ before ++ node_in world numbers name ∷ [] =
     ap (nodes_of table) is ∙ nodes-push table kept tree
@@ -39,7 +39,7 @@ pushed table kept next world numbers name view is =
       trees_are = trees_pushed before (nodes_of table next) world.trees (node_in world numbers name) nodes (ap (λ (w : World). w.trees) view);
     }
 
-pub count_kept : (table : List Entry) (kept : List Kept) (world : World) → world_of table kept ≡ world → length kept ≡ length world.trees
+pub count_kept : (table : List Entry) (kept : List KeptTree) (world : World) → world_of table kept ≡ world → length kept ≡ length world.trees
 count_kept table kept world view =
     let all : length (kept_trees table kept) ≡ length world.trees = ap (λ (w : World). length w.trees) view in
     omega (arith, length-trees [] (nodes_of table kept), length-nodes table kept, all)
@@ -47,12 +47,12 @@ count_kept table kept world view =
 -- ---- an entry more
 
 -- what a pool keeps true of its trees
-abbrev pub IsPool : ℕ → BTreeMap (List ℕ) ℕ → List Entry → List Kept → Type 0
+abbrev pub IsPool : ℕ → BTreeMap (List ℕ) ℕ → List Entry → List KeptTree → Type 0
 IsPool entries index table kept =
     (entries ≡ entries_of (kept_trees table kept)) × IsIndexed index (kept_trees table kept) × AreNodes [] (nodes_of table kept)
     × (are_kept_within (length table) kept ≡ true)
 
-pub pool_grown : (entries : ℕ) (index : BTreeMap (List ℕ) ℕ) (old new : List Entry) (kept : List Kept) → take (length old) new ≡ old
+pub pool_grown : (entries : ℕ) (index : BTreeMap (List ℕ) ℕ) (old new : List Entry) (kept : List KeptTree) → take (length old) new ≡ old
     → IsPool entries index old kept → IsPool entries index new kept
 pool_grown entries index old new kept grown h =
     let P : List Node → Type 0 = λ v. (entries ≡ entries_of (trees_from [] v)) × IsIndexed index (trees_from [] v) × AreNodes [] v in
@@ -60,12 +60,12 @@ pool_grown entries index old new kept grown h =
     (all.0, all.1, all.2, kept_within_more (length old) (length new) kept (kept_length old new grown) h.3)
 
 -- the table has grown, and the trees are the same
-pub record IsGrown (new : List Entry) (kept : List Kept) (world : World) : Type 0 where
+pub record IsGrown (new : List Entry) (kept : List KeptTree) (world : World) : Type 0 where
   pub table_is : take (length world.table) new ≡ world.table
   pub trees_are : kept_trees new kept ≡ world.trees
   pub stays : StaysIn world (world_of new kept)
 
-pub grown_in : (old new : List Entry) (kept : List Kept) (world : World) → world_of old kept ≡ world → take (length old) new ≡ old
+pub grown_in : (old new : List Entry) (kept : List KeptTree) (world : World) → world_of old kept ≡ world → take (length old) new ≡ old
     → are_kept_within (length old) kept ≡ true
     → IsGrown new kept world
 grown_in old new kept world view grown within =
@@ -80,7 +80,7 @@ pub based_number : (count : ℕ) (base : Option ℕ) (number : ℕ) → base ≡
 based_number count base number is h = ltb-true number count (sym (ap (is_base count) is) ∙ h)
 
 -- the trees of its directories are there
-pub filled_joined : (table : List Entry) (kept : List Kept) (world : World) (base : Option ℕ) (number : ℕ) → world_of table kept ≡ world
+pub filled_joined : (table : List Entry) (kept : List KeptTree) (world : World) (base : Option ℕ) (number : ℕ) → world_of table kept ≡ world
     → AreNodes [] (nodes_of table kept)
     → base ≡ Some number → is_base (length world.trees) base ≡ true → HaveJoined world.trees (base_directories world.trees base)
 filled_joined table kept world base number view nodes is h =

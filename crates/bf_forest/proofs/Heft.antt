@@ -9,13 +9,13 @@ use Rattle.bf_forest.specs.declared.edits.Edit.TheVariants.{Set, Remove, Clear}
 use Rattle.bf_forest.specs.declared.nodes.Entry.{Entry}
 use Rattle.bf_forest.specs.declared.nodes.EntryKind.{EntryKind}
 use Rattle.bf_forest.specs.declared.nodes.EntryKind.TheVariants as kind
-use Rattle.bf_forest.specs.declared.slots.Slot.{Slot}
-use Rattle.bf_forest.specs.declared.slots.Slot.TheVariants.{File, Directory}
+use Rattle.bf_forest.specs.declared.slots.EntrySlot.{EntrySlot}
+use Rattle.bf_forest.specs.declared.slots.EntrySlot.TheVariants.{File, Directory}
 use Rattle.bf_forest.specs.Opened.{weight, slot_heft, heft}
 use Rattle.bf_forest.specs.Slots.{directory_key, put, without, found, directory_of, directory_at, with_edit, less_inside, slots_after, slot_of, slots_of}
 use Rattle.bf_forest.specs.Slots.{edit_length}
 
-heft_put : (slots : List (List ℕ × Slot)) (key : List ℕ) (slot : Slot) → heft (put slots key slot) ≤ heft slots + slot_heft slot
+heft_put : (slots : List (List ℕ × EntrySlot)) (key : List ℕ) (slot : EntrySlot) → heft (put slots key slot) ≤ heft slots + slot_heft slot
 heft_put [] key slot = omega arith
 heft_put (e ∷ es) key slot =
     let more = heft_put es key slot in
@@ -26,7 +26,7 @@ heft_put (e ∷ es) key slot =
       | Greater ↦ omega (arith, more)
     ]
 
-heft_without : (key : List ℕ) (slots : List (List ℕ × Slot)) → heft (without key slots) ≤ heft slots
+heft_without : (key : List ℕ) (slots : List (List ℕ × EntrySlot)) → heft (without key slots) ≤ heft slots
 heft_without key [] = omega arith
 heft_without key (e ∷ es) =
     let more = heft_without key es in
@@ -40,12 +40,12 @@ waiting : Option (Option ℕ × List Edit) → ℕ
 waiting None = 0
 waiting (Some directory) = weight directory.1
 
-waiting_slot : (slot : Slot) → waiting (directory_of (Some slot)) ≤ slot_heft slot
+waiting_slot : (slot : EntrySlot) → waiting (directory_of (Some slot)) ≤ slot_heft slot
 unfolding waiting
 waiting_slot (File mode oid) = omega arith
 waiting_slot (Directory base pending) = omega arith
 
-heft_found : (key : List ℕ) (slots : List (List ℕ × Slot)) → waiting (directory_at key slots) + heft (without key slots) ≤ heft slots
+heft_found : (key : List ℕ) (slots : List (List ℕ × EntrySlot)) → waiting (directory_at key slots) + heft (without key slots) ≤ heft slots
 unfolding waiting
 heft_found key [] = omega arith
 heft_found key (e ∷ es) =
@@ -66,14 +66,14 @@ unfolding waiting
 heft_edit None edit = omega arith
 heft_edit (Some directory) edit = omega (arith, weight_more directory.1 edit)
 
-heft_less : (directory : Option (Option ℕ × List Edit)) (key : List ℕ) (edit : Edit) (others : List (List ℕ × Slot))
+heft_less : (directory : Option (Option ℕ × List Edit)) (key : List ℕ) (edit : Edit) (others : List (List ℕ × EntrySlot))
     → heft (less_inside directory key edit others) ≤ waiting directory + heft others + 2 * edit_length edit
 unfolding waiting
 heft_less None key edit others = omega arith
 heft_less (Some directory) key edit others =
     omega (arith, heft_put others key (Directory directory.0 (directory.1 ++ edit ∷ [])), weight_more directory.1 edit)
 
-heft_after : (edit : Edit) (slots : List (List ℕ × Slot)) → heft (slots_after edit slots) + 2 ≤ heft slots + 2 * edit_length edit
+heft_after : (edit : Edit) (slots : List (List ℕ × EntrySlot)) → heft (slots_after edit slots) + 2 ≤ heft slots + 2 * edit_length edit
 heft_after (Set [] mode oid) slots = omega arith
 heft_after (Set (name ∷ []) mode oid) slots =
     omega (arith, heft_put (without (directory_key name) slots) name (File mode oid), heft_without (directory_key name) slots)
@@ -90,7 +90,7 @@ heft_after (Remove (name ∷ next ∷ rest)) slots =
     omega (arith, heft_less (directory_at key slots) key (Remove (next ∷ rest)) (without key slots), heft_found key slots)
 heft_after Clear slots = omega arith
 
-pub heft_edited : (edits : List Edit) (slots : List (List ℕ × Slot))
+pub heft_edited : (edits : List Edit) (slots : List (List ℕ × EntrySlot))
     → heft (fold (λ slots edit. slots_after edit slots) slots edits) + 2 * length edits ≤ heft slots + weight edits
 heft_edited [] slots = omega arith
 heft_edited (edit ∷ edits) slots =

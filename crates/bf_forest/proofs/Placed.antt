@@ -11,7 +11,7 @@ use Rattle.std.proofs.lemmas.List.{drop-drop}
 use Rattle.std.proofs.lemmas.Map.Lookups.{exact_bytes}
 use Rattle.std.proofs.Math.Seq.{drop-cons}
 use Rattle.bf_forest.specs.declared.nodes.Entry.{Entry}
-use Rattle.bf_forest.specs.declared.slots.Slot.{Slot}
+use Rattle.bf_forest.specs.declared.slots.EntrySlot.{EntrySlot}
 use Rattle.bf_forest.specs.Nodes.{entry_at, stood}
 use Rattle.bf_forest.specs.Overlays.{overlaid, change_entry, are_from, is_below, do_ascend}
 use Rattle.bf_forest.specs.Rests.{IsOld, IsShorter, IsPassed, key_at, is_before_key}
@@ -69,7 +69,7 @@ all_before table [] key (suc place) l h = absurd (omega arith)
 all_before table (first ∷ numbers) key (suc place) l h =
     and_from _ _ (h 0 (omega arith)) (all_before table numbers key place (omega arith) (λ k m. h (suc k) (omega arith)))
 
-found_front : (table : List Entry) (front : List ℕ) (key : List ℕ) (back : List (List ℕ × Slot))
+found_front : (table : List Entry) (front : List ℕ) (key : List ℕ) (back : List (List ℕ × EntrySlot))
     → list_all (λ entry. is_lt (slice_cmp nat_cmp entry.key key)) (stood table front) ≡ true
     → found key (slots_of (stood table front) ++ back) ≡ found key back
 found_front table [] key back h = refl
@@ -81,7 +81,7 @@ found_front table (first ∷ front) key back h =
 
 pub slots_append : (a b : List Entry) → slots_of (a ++ b) ≡ slots_of a ++ slots_of b
 slots_append [] b = refl
-slots_append (entry ∷ a) b = ap {A = List (List ℕ × Slot)} (λ v. (entry.key, slot_of entry.kind) ∷ v) (slots_append a b)
+slots_append (entry ∷ a) b = ap {A = List (List ℕ × EntrySlot)} (λ v. (entry.key, slot_of entry.kind) ∷ v) (slots_append a b)
 
 pub both_parts : (numbers : List ℕ) (place : ℕ) → numbers ≡ take place numbers ++ drop place numbers
 both_parts [] zero = refl
@@ -257,7 +257,7 @@ below_front table (first ∷ front) key changes h k x =
     (and_from (is_lt (slice_cmp nat_cmp entry.key key)) _ parts.0 (below_more entry.key key changes (less _ parts.0) k))
     (below_front table front key changes parts.1 k x)
 
-pub taken_slots : (table : List Entry) (old new base rest key : List ℕ) (changes : List (List ℕ × Option Slot)) (change : Option Slot) → IsOld table base
+pub taken_slots : (table : List Entry) (old new base rest key : List ℕ) (changes : List (List ℕ × Option EntrySlot)) (change : Option EntrySlot) → IsOld table base
     → is_below key changes ≡ true
     → (p : IsPassed table old new base rest key)
     → overlaid (slots_of (stood table base)) ((key, change) ∷ changes) ≡ slots_of (stood table (take p.0 base))

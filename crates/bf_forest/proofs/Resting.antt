@@ -6,18 +6,18 @@ use Rattle.bf_forest.specs.declared.edits.Edit.{Edit}
 use Rattle.bf_forest.specs.declared.edits.Edit.TheVariants.{Set, Remove}
 use Rattle.bf_forest.specs.declared.nodes.EntryKind.{EntryKind}
 use Rattle.bf_forest.specs.declared.nodes.EntryKind.TheVariants as kind
-use Rattle.bf_forest.specs.declared.slots.Slot.{Slot}
-use Rattle.bf_forest.specs.declared.slots.Slot.TheVariants.{File, Directory}
+use Rattle.bf_forest.specs.declared.slots.EntrySlot.{EntrySlot}
+use Rattle.bf_forest.specs.declared.slots.EntrySlot.TheVariants.{File, Directory}
 use Rattle.bf_forest.specs.Overlays.{overlaid, do_ascend}
 use Rattle.bf_forest.specs.Rests.{less_change, set_rest, remove_rest}
 use Rattle.bf_forest.specs.Slots.{directory_key, put, without, found, directory_of, directory_at, with_edit, less_inside, slot_of, set_slots, remove_slots}
 use Rattle.bf_forest.proofs.Overlaid.{change_or, overlaid_put, found_overlaid}
 
 abbrev Slots : Type 0
-Slots = List (List ℕ × Slot)
+Slots = List (List ℕ × EntrySlot)
 
 abbrev Changed : Type 0
-Changed = List (List ℕ × Option Slot)
+Changed = List (List ℕ × Option EntrySlot)
 
 pub set_rests : (slots : Slots) (path : List (List ℕ)) (mode : Mode) (oid : Oid) (changes : Changed) → do_ascend slots ≡ true
     → overlaid slots (set_rest slots path mode oid changes) ≡ set_slots path mode oid (overlaid slots changes)
@@ -52,7 +52,7 @@ remove_rests slots (name ∷ next ∷ rest) changes h =
     ∙ ap (less_inside directory key (Remove (next ∷ rest))) (overlaid_put slots changes key None h)
 
 -- the directory at a key: that of a change, or else the old one
-pub directory_over : (slots : Slots) (changes : Changed) (key : List ℕ) (change : Option (Option Slot)) → do_ascend slots ≡ true → change ≡ found key changes
+pub directory_over : (slots : Slots) (changes : Changed) (key : List ℕ) (change : Option (Option EntrySlot)) → do_ascend slots ≡ true → change ≡ found key changes
     → directory_of (change_or change (found key slots)) ≡ directory_at key (overlaid slots changes)
 directory_over slots changes key change h e =
     ap directory_of (ap (λ v. change_or v (found key slots)) e ∙ sym (found_overlaid key slots changes h))

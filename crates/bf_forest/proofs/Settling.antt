@@ -9,8 +9,8 @@ use Rattle.bf_forest.specs.declared.edits.Edit.{Edit}
 use Rattle.bf_forest.specs.declared.nodes.Entry.{Entry}
 use Rattle.bf_forest.specs.declared.nodes.EntryKind.{EntryKind}
 use Rattle.bf_forest.specs.declared.nodes.EntryKind.TheVariants as kind
-use Rattle.bf_forest.specs.declared.slots.Slot.{Slot}
-use Rattle.bf_forest.specs.declared.slots.Slot.TheVariants.{File, Directory}
+use Rattle.bf_forest.specs.declared.slots.EntrySlot.{EntrySlot}
+use Rattle.bf_forest.specs.declared.slots.EntrySlot.TheVariants.{File, Directory}
 use Rattle.bf_forest.specs.Files.{Files, edited}
 use Rattle.bf_forest.specs.Listing.{name_in, Listing, stands_before, is_listing, shown, beneath}
 use Rattle.bf_forest.specs.Nodes.{kind_files, listed, files_in, has_some, is_filled, is_earlier, IsSound, IsSettled}
@@ -75,7 +75,7 @@ inside_none key = refl
 
 -- ---- the directories in slots
 
-slot_inside : (trees : List Files) (key : List ℕ) (slot : Slot) (bound : ℕ) → IsSound trees → is_slot (length trees) bound slot ≡ true
+slot_inside : (trees : List Files) (key : List ℕ) (slot : EntrySlot) (bound : ℕ) → IsSound trees → is_slot (length trees) bound slot ≡ true
     → inside_of (slot_files trees key slot) (name_in key) ≡ slot_directories trees slot
 unfolding below
 slot_inside trees key (File mode oid) bound sound h = refl
@@ -84,7 +84,7 @@ slot_inside trees key (Directory base pending) bound sound h =
     let paths = are_paths-edited pending (base_files trees base) (and_parts (list_all has_path pending) _ parts.1).0 (base-sound trees base sound parts.0).0 in
     ap (λ v. or_none (where_some directories v)) (below_beneath (name_in key) (edited (base_files trees base) pending) paths)
 
-slots_inside : (trees : List Files) (slots : List (List ℕ × Slot)) (bound : ℕ) → IsSound trees
+slots_inside : (trees : List Files) (slots : List (List ℕ × EntrySlot)) (bound : ℕ) → IsSound trees
     → list_all (λ slot. is_slot (length trees) bound slot.1) slots ≡ true
     → flat_map (λ e. inside_of e.1 (name_in e.0)) (contents trees slots) ≡ flat_map (λ slot. slot_directories trees slot.1) slots
 slots_inside trees [] bound sound h = refl
@@ -92,7 +92,7 @@ slots_inside trees (slot ∷ slots) bound sound h =
     ap (λ v. v ++ flat_map (λ e. inside_of e.1 (name_in e.0)) (contents trees slots)) (slot_inside trees slot.0 slot.1 bound sound (and_parts _ _ h).0)
     ∙ ap (λ v. slot_directories trees slot.1 ++ v) (slots_inside trees slots bound sound (and_parts (is_slot (length trees) bound slot.1) _ h).1)
 
-all_inside : (trees : List Files) (slots : List (List ℕ × Slot)) (bound : ℕ) → IsSound trees → is_listing (contents trees slots) ≡ true
+all_inside : (trees : List Files) (slots : List (List ℕ × EntrySlot)) (bound : ℕ) → IsSound trees → is_listing (contents trees slots) ≡ true
     → list_all (λ slot. is_slot (length trees) bound slot.1) slots ≡ true
     → flat_map (λ slot. slot_directories trees slot.1) slots ≡ flat_map (inside_of (shown (contents trees slots))) (names (shown (contents trees slots)))
 all_inside trees slots bound sound listing h =
@@ -104,7 +104,7 @@ all_inside trees slots bound sound listing h =
 
 -- ---- the entries that are made
 
-pub made : (trees next : List Files) (slots : List (List ℕ × Slot)) (bound : ℕ) (files : Files) (entries : List Entry) → IsSound trees
+pub made : (trees next : List Files) (slots : List (List ℕ × EntrySlot)) (bound : ℕ) (files : Files) (entries : List Entry) → IsSound trees
     → is_listing (contents trees slots) ≡ true
     → list_all (λ slot. is_slot (length trees) bound slot.1) slots ≡ true → shown (contents trees slots) ≡ files
     → next ≡ fold with_tree trees (flat_map (λ slot. slot_directories trees slot.1) slots) → listed next entries ≡ filter is_filled (contents trees slots)
@@ -120,7 +120,7 @@ made trees next slots bound files entries sound listing h e joined added =
     )
 
 -- the pool of the directories in no files is as it was
-pub made_none : (trees next : List Files) (slots : List (List ℕ × Slot)) (bound : ℕ) (files : Files) → IsSound trees → is_listing (contents trees slots) ≡ true
+pub made_none : (trees next : List Files) (slots : List (List ℕ × EntrySlot)) (bound : ℕ) (files : Files) → IsSound trees → is_listing (contents trees slots) ≡ true
     → list_all (λ slot. is_slot (length trees) bound slot.1) slots ≡ true → shown (contents trees slots) ≡ files
     → next ≡ fold with_tree trees (flat_map (λ slot. slot_directories trees slot.1) slots) → files ≡ []
     → next ≡ fold with_tree trees (or_none (where_some directories files))
@@ -141,11 +141,11 @@ edited-nil files edits e = ap (edited files) e
 
 -- ---- bounds
 
-slot_based : (count bound : ℕ) (slot : Slot) → is_slot count bound slot ≡ true → is_based count slot ≡ true
+slot_based : (count bound : ℕ) (slot : EntrySlot) → is_slot count bound slot ≡ true → is_based count slot ≡ true
 slot_based count bound (File mode oid) h = refl
 slot_based count bound (Directory base pending) h = (and_parts (is_base count base) _ h).0
 
-pub slots_based : (count bound : ℕ) (slots : List (List ℕ × Slot)) → list_all (λ slot. is_slot count bound slot.1) slots ≡ true
+pub slots_based : (count bound : ℕ) (slots : List (List ℕ × EntrySlot)) → list_all (λ slot. is_slot count bound slot.1) slots ≡ true
     → list_all (λ slot. is_based count slot.1) slots ≡ true
 slots_based count bound [] h = refl
 slots_based count bound (slot ∷ slots) h =
@@ -172,12 +172,12 @@ base_kept : (a b : List Files) (base : Option ℕ) → take (length a) b ≡ a �
 base_kept a b None e h = refl
 base_kept a b (Some number) e h = files_at_kept a b number e (ltb-true number (length a) h)
 
-pub slot_files_kept : (a b : List Files) (key : List ℕ) (slot : Slot) → take (length a) b ≡ a → is_based (length a) slot ≡ true
+pub slot_files_kept : (a b : List Files) (key : List ℕ) (slot : EntrySlot) → take (length a) b ≡ a → is_based (length a) slot ≡ true
     → slot_files b key slot ≡ slot_files a key slot
 slot_files_kept a b key (File mode oid) e h = refl
 slot_files_kept a b key (Directory base pending) e h = ap (λ v. beneath (name_in key) (edited v pending)) (base_kept a b base e h)
 
-pub slot_directories_kept : (a b : List Files) (slot : Slot) → take (length a) b ≡ a → is_based (length a) slot ≡ true
+pub slot_directories_kept : (a b : List Files) (slot : EntrySlot) → take (length a) b ≡ a → is_based (length a) slot ≡ true
     → slot_directories b slot ≡ slot_directories a slot
 slot_directories_kept a b (File mode oid) e h = refl
 slot_directories_kept a b (Directory base pending) e h = ap (λ v. or_none (where_some directories (edited v pending))) (base_kept a b base e h)
@@ -189,7 +189,7 @@ pub listed_more : (trees : List Files) (entries : List Entry) (entry : Entry)
 listed_more trees entries entry = map-append {A = Entry} {B = List ℕ × Files} (λ entry. (entry.key, kind_files trees entry.key entry.kind)) entries (entry ∷ [])
 
 -- what a slot adds to the entries
-abbrev pub IsAdded : List Files → List Files → List Entry → List ℕ → Slot → List Entry → Type 0
+abbrev pub IsAdded : List Files → List Files → List Entry → List ℕ → EntrySlot → List Entry → Type 0
 IsAdded trees next old key slot entries =
     (listed next entries ≡ listed trees old ++ filter is_filled ((key, slot_files trees key slot) ∷ [])) × (list_all (is_earlier (length next)) entries ≡ true)
 
@@ -226,8 +226,8 @@ filter_cons e es =
       | false ↦ refl
     ]
 
-pub settling_next : (trees : List Files) (slots : List (List ℕ × Slot)) (now next : List Files) (old entries : List Entry) (key : List ℕ) (slot : Slot)
-    (rest : List (List ℕ × Slot))
+pub settling_next : (trees : List Files) (slots : List (List ℕ × EntrySlot)) (now next : List Files) (old entries : List Entry) (key : List ℕ) (slot : EntrySlot)
+    (rest : List (List ℕ × EntrySlot))
     → IsSettling trees slots now old ((key, slot) ∷ rest) → take (length trees) next ≡ trees
     → next ≡ fold with_tree now (slot_directories now slot) → listed next entries ≡ listed now old ++ filter is_filled ((key, slot_files now key slot) ∷ [])
     → list_all (is_earlier (length next)) entries ≡ true

@@ -16,8 +16,8 @@ use Rattle.bf_paths.specs.Components.{is_path}
 use Rattle.bf_forest.specs.declared.edits.Edit.{Edit}
 use Rattle.bf_forest.specs.declared.edits.Edit.TheVariants.{Set, Remove, Clear}
 use Rattle.bf_forest.specs.declared.edits.Part.TheVariants.{Outside}
-use Rattle.bf_forest.specs.declared.slots.Slot.{Slot}
-use Rattle.bf_forest.specs.declared.slots.Slot.TheVariants.{File, Directory}
+use Rattle.bf_forest.specs.declared.slots.EntrySlot.{EntrySlot}
+use Rattle.bf_forest.specs.declared.slots.EntrySlot.TheVariants.{File, Directory}
 use Rattle.bf_forest.specs.Files.{Files, is_same, is_in_part, edited_by, edited, set_file, remove_file, is_tree}
 use Rattle.bf_forest.specs.Listing.{name_in, Listing, is_listing, shown, beneath}
 use Rattle.bf_forest.specs.Trees.{mode_text}
@@ -35,7 +35,7 @@ use Rattle.bf_forest.proofs.Ordered.{is_tree-edited, is_tree-nil, is_tree-set, i
 
 -- ---- the files of slots that are put and taken
 
-contents-put : (trees : List Files) (slots : List (List ℕ × Slot)) (key : List ℕ) (slot : Slot)
+contents-put : (trees : List Files) (slots : List (List ℕ × EntrySlot)) (key : List ℕ) (slot : EntrySlot)
     → contents trees (put slots key slot) ≡ put (contents trees slots) key (slot_files trees key slot)
 contents-put trees [] key slot = refl
 contents-put trees (e ∷ es) key slot =
@@ -53,7 +53,7 @@ contents-put trees (e ∷ es) key slot =
     ] in
     by (slice_cmp nat_cmp key e.0) refl
 
-contents-without : (trees : List Files) (key : List ℕ) (slots : List (List ℕ × Slot)) → contents trees (without key slots) ≡ without key (contents trees slots)
+contents-without : (trees : List Files) (key : List ℕ) (slots : List (List ℕ × EntrySlot)) → contents trees (without key slots) ≡ without key (contents trees slots)
 contents-without trees key [] = refl
 contents-without trees key (e ∷ es) =
     let first : List ℕ × Files = (e.0, slot_files trees e.0 e.1) in
@@ -64,11 +64,11 @@ contents-without trees key (e ∷ es) =
     ]
 
 -- the files of what is found
-found_files : List Files → List ℕ → Option Slot → Files
+found_files : List Files → List ℕ → Option EntrySlot → Files
 found_files trees key None = []
 found_files trees key (Some slot) = slot_files trees key slot
 
-at-contents : (trees : List Files) (key : List ℕ) (slots : List (List ℕ × Slot)) → at_key key (contents trees slots) ≡ found_files trees key (found key slots)
+at-contents : (trees : List Files) (key : List ℕ) (slots : List (List ℕ × EntrySlot)) → at_key key (contents trees slots) ≡ found_files trees key (found key slots)
 unfolding found_files
 at-contents trees key [] = refl
 at-contents trees key (e ∷ es) =
@@ -90,7 +90,7 @@ inside_of_slot : List Files → Option (Option ℕ × List Edit) → Files
 inside_of_slot trees None = []
 inside_of_slot trees (Some directory) = edited (base_files trees directory.0) directory.1
 
-slot_inside : (trees : List Files) (name : List ℕ) (slot : Option Slot) (next : List ℕ) (rest : List (List ℕ)) (m : Mode) (o : Oid)
+slot_inside : (trees : List Files) (name : List ℕ) (slot : Option EntrySlot) (next : List ℕ) (rest : List (List ℕ)) (m : Mode) (o : Oid)
     → has (file_of (name ∷ next ∷ rest) m o) (found_files trees (directory_key name) slot) ≡ has (file_of (next ∷ rest) m o)
     (inside_of_slot trees (directory_of slot))
 unfolding found_files inside_of_slot
@@ -103,7 +103,7 @@ slot_inside trees name (Some (Directory base pending)) next rest m o =
     ap (λ v. has (file_of (name ∷ next ∷ rest) m o) (beneath v (edited (base_files trees base) pending))) (name_in-slash name)
     ∙ has-beneath name (next ∷ rest) m o (edited (base_files trees base) pending)
 
-is_inside : (trees : List Files) (name : List ℕ) (slots : List (List ℕ × Slot))
+is_inside : (trees : List Files) (name : List ℕ) (slots : List (List ℕ × EntrySlot))
     → IsInside name (contents trees slots) (inside_of_slot trees (directory_at (directory_key name) slots))
 is_inside trees name slots next rest m o =
     ap (has (file_of (name ∷ next ∷ rest) m o)) (at-contents trees (directory_key name) slots) ∙ slot_inside trees name (found (directory_key name) slots) next
@@ -133,10 +133,10 @@ edited-one edit = refl
 
 -- ---- what is known of the slots of a directory
 
-abbrev pub IsSlots : List Files → ℕ → List (List ℕ × Slot) → Type 0
+abbrev pub IsSlots : List Files → ℕ → List (List ℕ × EntrySlot) → Type 0
 IsSlots trees bound slots = (is_listing (contents trees slots) ≡ true) × (list_all (λ slot. is_slot (length trees) bound slot.1) slots ≡ true)
 
-found_passes : (p : Slot → Bool) (key : List ℕ) (slots : List (List ℕ × Slot)) (slot : Slot) → list_all (λ s. p s.1) slots ≡ true → found key slots ≡ Some slot
+found_passes : (p : EntrySlot → Bool) (key : List ℕ) (slots : List (List ℕ × EntrySlot)) (slot : EntrySlot) → list_all (λ s. p s.1) slots ≡ true → found key slots ≡ Some slot
     → p slot ≡ true
 found_passes p key [] slot h e = absurd (cc)
 found_passes p key (s ∷ slots) slot h e =
@@ -147,7 +147,7 @@ found_passes p key (s ∷ slots) slot h e =
     ] in
     by (is_eq (slice_cmp nat_cmp key s.0)) e
 
-found_there : (trees : List Files) (key : List ℕ) (slots : List (List ℕ × Slot)) (slot : Slot) → found key slots ≡ Some slot
+found_there : (trees : List Files) (key : List ℕ) (slots : List (List ℕ × EntrySlot)) (slot : EntrySlot) → found key slots ≡ Some slot
     → list_any (λ e. is_same key e.0) (contents trees slots) ≡ true
 found_there trees key [] slot e = absurd (cc)
 found_there trees key (s ∷ slots) slot e =
@@ -165,17 +165,17 @@ abbrev IsKnown : List Files → ℕ → Option (Option ℕ × List Edit) → Typ
 IsKnown trees bound None = Unit {0}
 IsKnown trees bound (Some directory) = (is_base (length trees) directory.0 ≡ true) × (list_all has_path directory.1 ≡ true) × (longest directory.1 < bound)
 
-known_slot : (trees : List Files) (bound : ℕ) (slot : Slot) → is_slot (length trees) bound slot ≡ true → IsKnown trees bound (directory_of (Some slot))
+known_slot : (trees : List Files) (bound : ℕ) (slot : EntrySlot) → is_slot (length trees) bound slot ≡ true → IsKnown trees bound (directory_of (Some slot))
 known_slot trees bound (File mode oid) h = tt
 known_slot trees bound (Directory base pending) h =
     let parts = and_parts (is_base (length trees) base) _ h in
     let more = and_parts (list_all has_path pending) (nat_lt (longest pending) bound) parts.1 in
     (parts.0, more.0, ltb-true (longest pending) bound more.1)
 
-known : (trees : List Files) (bound : ℕ) (key : List ℕ) (slots : List (List ℕ × Slot)) → list_all (λ slot. is_slot (length trees) bound slot.1) slots ≡ true
+known : (trees : List Files) (bound : ℕ) (key : List ℕ) (slots : List (List ℕ × EntrySlot)) → list_all (λ slot. is_slot (length trees) bound slot.1) slots ≡ true
     → IsKnown trees bound (directory_at key slots)
 known trees bound key slots h =
-    let by : (o : Option Slot) → found key slots ≡ o → IsKnown trees bound (directory_of o) =
+    let by : (o : Option EntrySlot) → found key slots ≡ o → IsKnown trees bound (directory_of o) =
     λ o. elim o as (λ v. found key slots ≡ v → IsKnown trees bound (directory_of v)) [
       | None ↦ λ e. tt
       | Some slot ↦ λ e. known_slot trees bound slot (found_passes (is_slot (length trees) bound) key slots slot h e)
@@ -221,15 +221,15 @@ files-more trees name (Some directory) edit =
 -- ---- an edit of slots is an edit of files
 
 -- the slots after an edit, and their files
-abbrev IsStep : List Files → ℕ → List (List ℕ × Slot) → Files → Type 0
+abbrev IsStep : List Files → ℕ → List (List ℕ × EntrySlot) → Files → Type 0
 IsStep trees bound slots files = IsSlots trees bound slots × (shown (contents trees slots) ≡ files)
 
-step-from : (trees : List Files) (bound : ℕ) (slots : List (List ℕ × Slot)) (list : Listing) (files : Files) → contents trees slots ≡ list
+step-from : (trees : List Files) (bound : ℕ) (slots : List (List ℕ × EntrySlot)) (list : Listing) (files : Files) → contents trees slots ≡ list
     → is_listing list ≡ true → shown list ≡ files
     → list_all (λ slot. is_slot (length trees) bound slot.1) slots ≡ true → IsStep trees bound slots files
 step-from trees bound slots list files e h k l = ((ap is_listing e ∙ h, l), ap shown e ∙ k)
 
-set_here : (trees : List Files) (bound : ℕ) (slots : List (List ℕ × Slot)) (name : List ℕ) (m : Mode) (o : Oid) → IsSlots trees bound slots
+set_here : (trees : List Files) (bound : ℕ) (slots : List (List ℕ × EntrySlot)) (name : List ℕ) (m : Mode) (o : Oid) → IsSlots trees bound slots
     → is_path (name ∷ []) ≡ true
     → IsStep trees bound (set_slots (name ∷ []) m o slots) (set_file (name ∷ []) m o (shown (contents trees slots)))
 set_here trees bound slots name m o h p =
@@ -243,7 +243,7 @@ set_here trees bound slots name m o h p =
     (all-put (λ slot. is_slot (length trees) bound slot.1) name (File m o) (without key slots) (λ q e. refl)
     (all-without (λ slot. is_slot (length trees) bound slot.1) key slots h.1))
 
-set_deep : (trees : List Files) (bound : ℕ) (slots : List (List ℕ × Slot)) (name p : List ℕ) (r : List (List ℕ)) (m : Mode) (o : Oid) → IsSound trees
+set_deep : (trees : List Files) (bound : ℕ) (slots : List (List ℕ × EntrySlot)) (name p : List ℕ) (r : List (List ℕ)) (m : Mode) (o : Oid) → IsSound trees
     → IsSlots trees bound slots
     → is_path (name ∷ p ∷ r) ≡ true → length (name ∷ p ∷ r) < bound
     → IsStep trees bound (set_slots (name ∷ p ∷ r) m o slots) (set_file (name ∷ p ∷ r) m o (shown (contents trees slots)))
@@ -275,7 +275,7 @@ set_deep trees bound slots name p r m o sound h hp l =
     (λ k e. slot-more trees bound directory edit is_known q (omega arith))
     (all-without (λ slot. is_slot (length trees) bound slot.1) key others all_others))
 
-remove_here : (trees : List Files) (bound : ℕ) (slots : List (List ℕ × Slot)) (name : List ℕ) → IsSlots trees bound slots → is_path (name ∷ []) ≡ true
+remove_here : (trees : List Files) (bound : ℕ) (slots : List (List ℕ × EntrySlot)) (name : List ℕ) → IsSlots trees bound slots → is_path (name ∷ []) ≡ true
     → IsStep trees bound (remove_slots (name ∷ []) slots) (remove_file (name ∷ []) (shown (contents trees slots)))
 remove_here trees bound slots name h p =
     let list = contents trees slots in
@@ -290,7 +290,7 @@ nothing : (trees : List Files) (next : List ℕ) (rest : List (List ℕ)) (m : M
 unfolding inside_of_slot
 nothing trees next rest m o = refl
 
-gone : (trees : List Files) (bound : ℕ) (slots : List (List ℕ × Slot)) (name p : List ℕ) (r : List (List ℕ)) → IsSlots trees bound slots
+gone : (trees : List Files) (bound : ℕ) (slots : List (List ℕ × EntrySlot)) (name p : List ℕ) (r : List (List ℕ)) → IsSlots trees bound slots
     → is_path (name ∷ p ∷ r) ≡ true
     → IsInside name (contents trees slots) [] → IsStep trees bound (without (directory_key name) slots)
     (remove_file (name ∷ p ∷ r) (shown (contents trees slots)))
@@ -301,8 +301,8 @@ gone trees bound slots name p r h hp is =
     (listing-without key list h.0)
     (shown-none name p r list hp h.0 is) (all-without (λ slot. is_slot (length trees) bound slot.1) key slots h.1)
 
-some : (trees : List Files) (bound : ℕ) (slots : List (List ℕ × Slot)) (name p : List ℕ) (r : List (List ℕ)) → IsSound trees → IsSlots trees bound slots
-    → is_path (name ∷ p ∷ r) ≡ true → length (name ∷ p ∷ r) < bound → (slot : Slot) → found (directory_key name) slots ≡ Some slot
+some : (trees : List Files) (bound : ℕ) (slots : List (List ℕ × EntrySlot)) (name p : List ℕ) (r : List (List ℕ)) → IsSound trees → IsSlots trees bound slots
+    → is_path (name ∷ p ∷ r) ≡ true → length (name ∷ p ∷ r) < bound → (slot : EntrySlot) → found (directory_key name) slots ≡ Some slot
     → IsStep trees bound (less_inside (directory_of (Some slot)) (directory_key name) (Remove (p ∷ r)) (without (directory_key name) slots))
     (remove_file (name ∷ p ∷ r) (shown (contents trees slots)))
 some trees bound slots name p r sound h hp l (File mode oid) e =
@@ -336,7 +336,7 @@ some trees bound slots name p r sound h hp l (Directory base pending) e =
     (λ k d. slot-more trees bound directory edit is_known q (omega arith))
     (all-without (λ slot. is_slot (length trees) bound slot.1) key slots h.1))
 
-remove_deep : (trees : List Files) (bound : ℕ) (slots : List (List ℕ × Slot)) (name p : List ℕ) (r : List (List ℕ)) → IsSound trees → IsSlots trees bound slots
+remove_deep : (trees : List Files) (bound : ℕ) (slots : List (List ℕ × EntrySlot)) (name p : List ℕ) (r : List (List ℕ)) → IsSound trees → IsSlots trees bound slots
     → is_path (name ∷ p ∷ r) ≡ true → length (name ∷ p ∷ r) < bound
     → IsStep trees bound (remove_slots (name ∷ p ∷ r) slots) (remove_file (name ∷ p ∷ r) (shown (contents trees slots)))
 remove_deep trees bound slots name p r sound h hp l =
@@ -348,7 +348,7 @@ remove_deep trees bound slots name p r sound h hp l =
     let edit = Remove (p ∷ r) in
     let c = first_component name (p ∷ r) hp in
     let q = path_rest name p r hp in
-    let there : (slot : Option Slot) → found key slots ≡ slot → IsStep trees bound (less_inside (directory_of slot) key edit others) files =
+    let there : (slot : Option EntrySlot) → found key slots ≡ slot → IsStep trees bound (less_inside (directory_of slot) key edit others) files =
     λ slot. elim slot as (λ s. found key slots ≡ s → IsStep trees bound (less_inside (directory_of s) key edit others) files) [
       | None ↦ λ e. gone trees bound slots name p r h hp
           (λ next rest m o. is_inside trees name slots next rest m o ∙ ap (λ s. has (file_of (next ∷ rest) m o) (inside_of_slot trees (directory_of s))) e ∙
@@ -357,7 +357,7 @@ remove_deep trees bound slots name p r sound h hp l =
     ] in
     there (found key slots) refl
 
-step : (trees : List Files) (bound : ℕ) (slots : List (List ℕ × Slot)) (edit : Edit) → IsSound trees → IsSlots trees bound slots → has_path edit ≡ true
+step : (trees : List Files) (bound : ℕ) (slots : List (List ℕ × EntrySlot)) (edit : Edit) → IsSound trees → IsSlots trees bound slots → has_path edit ≡ true
     → edit_length edit ≤ bound
     → IsStep trees bound (slots_after edit slots) (edited_by (shown (contents trees slots)) edit)
 unfolding is_listing
@@ -369,7 +369,7 @@ step trees bound slots (Remove (name ∷ [])) sound h p l = remove_here trees bo
 step trees bound slots (Remove (name ∷ next ∷ rest)) sound h p l = remove_deep trees bound slots name next rest sound h p (omega arith)
 step trees bound slots Clear sound h p l = ((refl, refl), refl)
 
-pub slots_edited : (trees : List Files) (bound : ℕ) (edits : List Edit) (slots : List (List ℕ × Slot)) → IsSound trees → IsSlots trees bound slots
+pub slots_edited : (trees : List Files) (bound : ℕ) (edits : List Edit) (slots : List (List ℕ × EntrySlot)) → IsSound trees → IsSlots trees bound slots
     → list_all has_path edits ≡ true → longest edits ≤ bound
     → IsSlots trees bound (fold (λ slots edit. slots_after edit slots) slots edits)
     × (shown (contents trees (fold (λ slots edit. slots_after edit slots) slots edits)) ≡ edited (shown (contents trees slots)) edits)
@@ -383,7 +383,7 @@ slots_edited trees bound (edit ∷ edits) slots sound h p l =
 
 -- ---- bounds
 
-slot_wider : (count : ℕ) (bound : ℕ) (slot : Slot) → 1 ≤ bound → is_slot count 1 slot ≡ true → is_slot count bound slot ≡ true
+slot_wider : (count : ℕ) (bound : ℕ) (slot : EntrySlot) → 1 ≤ bound → is_slot count 1 slot ≡ true → is_slot count bound slot ≡ true
 slot_wider count bound (File mode oid) l h = refl
 slot_wider count bound (Directory base pending) l h =
     let parts = and_parts (is_base count base) (list_all has_path pending && nat_lt (longest pending) 1) h in
@@ -391,7 +391,7 @@ slot_wider count bound (Directory base pending) l h =
     let less = ltb-true (longest pending) 1 more.1 in
     and_from _ _ parts.0 (and_from _ _ more.0 (lt-ltb (longest pending) bound (omega (arith, less, l))))
 
-pub slots_wider : (count : ℕ) (bound : ℕ) (slots : List (List ℕ × Slot)) → 1 ≤ bound → list_all (λ slot. is_slot count 1 slot.1) slots ≡ true
+pub slots_wider : (count : ℕ) (bound : ℕ) (slots : List (List ℕ × EntrySlot)) → 1 ≤ bound → list_all (λ slot. is_slot count 1 slot.1) slots ≡ true
     → list_all (λ slot. is_slot count bound slot.1) slots ≡ true
 slots_wider count bound [] l h = refl
 slots_wider count bound (slot ∷ slots) l h =

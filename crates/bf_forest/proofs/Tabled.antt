@@ -5,7 +5,7 @@ use Rattle.std.proofs.lemmas.Bool.{and_parts, and_from, ltb-true, lt-ltb}
 use Rattle.std.proofs.lemmas.List.{get_or-take}
 use Rattle.std.proofs.Math.ListN.{length-map}
 use Rattle.bf_forest.specs.declared.nodes.Entry.{Entry}
-use Rattle.bf_forest.specs.declared.pool.Kept.{Kept}
+use Rattle.bf_forest.specs.declared.pool.KeptTree.{KeptTree}
 use Rattle.bf_forest.specs.Nodes.{Node, no_entry, entry_at, stood, are_within, node_of, nodes_of, are_kept_within}
 use Rattle.bf_forest.proofs.Settling.{kept_length}
 
@@ -29,27 +29,27 @@ within_more a b (number ∷ numbers) l h =
 pub within_kept : (a b : List Entry) (numbers : List ℕ) → take (length a) b ≡ a → are_within (length a) numbers ≡ true → are_within (length b) numbers ≡ true
 within_kept a b numbers e h = within_more (length a) (length b) numbers (kept_length a b e) h
 
-pub nodes_kept : (a b : List Entry) (kept : List Kept) → take (length a) b ≡ a → are_kept_within (length a) kept ≡ true → nodes_of b kept ≡ nodes_of a kept
+pub nodes_kept : (a b : List Entry) (kept : List KeptTree) → take (length a) b ≡ a → are_kept_within (length a) kept ≡ true → nodes_of b kept ≡ nodes_of a kept
 nodes_kept a b [] e h = refl
 nodes_kept a b (tree ∷ kept) e h =
     let parts = and_parts (are_within (length a) tree.numbers) (are_kept_within (length a) kept) h in
     ap (λ (v : List Entry). record { entries = v; name = tree.name } ∷ nodes_of b kept) (stood_kept a b tree.numbers e parts.0) ∙ ap (λ v. node_of a tree ∷ v)
     (nodes_kept a b kept e parts.1)
 
-pub kept_within_more : (a b : ℕ) (kept : List Kept) → a ≤ b → are_kept_within a kept ≡ true → are_kept_within b kept ≡ true
+pub kept_within_more : (a b : ℕ) (kept : List KeptTree) → a ≤ b → are_kept_within a kept ≡ true → are_kept_within b kept ≡ true
 kept_within_more a b [] l h = refl
 kept_within_more a b (tree ∷ kept) l h =
     let parts = and_parts (are_within a tree.numbers) (are_kept_within a kept) h in
     and_from _ _ (within_more a b tree.numbers l parts.0) (kept_within_more a b kept l parts.1)
 
-pub kept_within_push : (count : ℕ) (kept : List Kept) (tree : Kept) → are_kept_within count kept ≡ true → are_within count tree.numbers ≡ true
+pub kept_within_push : (count : ℕ) (kept : List KeptTree) (tree : KeptTree) → are_kept_within count kept ≡ true → are_within count tree.numbers ≡ true
     → are_kept_within count (kept ++ tree ∷ []) ≡ true
 kept_within_push count [] tree h k = and_from _ _ k refl
 kept_within_push count (first ∷ kept) tree h k =
     let parts = and_parts (are_within count first.numbers) (are_kept_within count kept) h in
     and_from _ _ parts.0 (kept_within_push count kept tree parts.1 k)
 
-pub kept_within_take : (count n : ℕ) (kept : List Kept) → are_kept_within count kept ≡ true → are_kept_within count (take n kept) ≡ true
+pub kept_within_take : (count n : ℕ) (kept : List KeptTree) → are_kept_within count kept ≡ true → are_kept_within count (take n kept) ≡ true
 kept_within_take count zero [] h = refl
 kept_within_take count zero (tree ∷ kept) h = refl
 kept_within_take count (suc n) [] h = refl
@@ -57,31 +57,31 @@ kept_within_take count (suc n) (tree ∷ kept) h =
     let parts = and_parts (are_within count tree.numbers) (are_kept_within count kept) h in
     and_from _ _ parts.0 (kept_within_take count n kept parts.1)
 
-pub kept_within_at : (count : ℕ) (kept : List Kept) (i : ℕ) (tree : Kept) → are_kept_within count kept ≡ true → i < length kept → tree ≡ get_or kept i tree
+pub kept_within_at : (count : ℕ) (kept : List KeptTree) (i : ℕ) (tree : KeptTree) → are_kept_within count kept ≡ true → i < length kept → tree ≡ get_or kept i tree
     → are_within count tree.numbers ≡ true
 kept_within_at count [] i tree h l e = absurd (omega arith)
 kept_within_at count (first ∷ kept) zero tree h l e =
-    ap (λ (v : Kept). are_within count v.numbers) e ∙ (and_parts (are_within count first.numbers) (are_kept_within count kept) h).0
+    ap (λ (v : KeptTree). are_within count v.numbers) e ∙ (and_parts (are_within count first.numbers) (are_kept_within count kept) h).0
 kept_within_at count (first ∷ kept) (suc i) tree h l e = kept_within_at count kept i tree
     (and_parts (are_within count first.numbers) (are_kept_within count kept) h).1 (omega arith) e
 
-pub length-nodes : (table : List Entry) (kept : List Kept) → length (nodes_of table kept) ≡ length kept
-length-nodes table kept = length-map {A = Kept} {B = Node} kept (node_of table)
+pub length-nodes : (table : List Entry) (kept : List KeptTree) → length (nodes_of table kept) ≡ length kept
+length-nodes table kept = length-map {A = KeptTree} {B = Node} kept (node_of table)
 
 pub length-stood : (table : List Entry) (numbers : List ℕ) → length (stood table numbers) ≡ length numbers
 length-stood table numbers = length-map {A = ℕ} {B = Entry} numbers (entry_at table)
 
-pub node-at : (table : List Entry) (kept : List Kept) (i : ℕ) (tree : Kept) → tree ≡ get_or kept i tree
+pub node-at : (table : List Entry) (kept : List KeptTree) (i : ℕ) (tree : KeptTree) → tree ≡ get_or kept i tree
     → node_of table tree ≡ get_or (nodes_of table kept) i (node_of table tree)
 node-at table [] i tree e = refl
 node-at table (first ∷ kept) zero tree e = ap (node_of table) e
 node-at table (first ∷ kept) (suc i) tree e = node-at table kept i tree e
 
-pub nodes-push : (table : List Entry) (kept : List Kept) (tree : Kept) → nodes_of table (kept ++ tree ∷ []) ≡ nodes_of table kept ++ node_of table tree ∷ []
+pub nodes-push : (table : List Entry) (kept : List KeptTree) (tree : KeptTree) → nodes_of table (kept ++ tree ∷ []) ≡ nodes_of table kept ++ node_of table tree ∷ []
 nodes-push table [] tree = refl
 nodes-push table (first ∷ kept) tree = ap (λ v. node_of table first ∷ v) (nodes-push table kept tree)
 
-pub nodes-front : (table : List Entry) (kept : List Kept) (n : ℕ) → nodes_of table (take n kept) ≡ take n (nodes_of table kept)
+pub nodes-front : (table : List Entry) (kept : List KeptTree) (n : ℕ) → nodes_of table (take n kept) ≡ take n (nodes_of table kept)
 nodes-front table [] zero = refl
 nodes-front table [] (suc n) = refl
 nodes-front table (tree ∷ kept) zero = refl

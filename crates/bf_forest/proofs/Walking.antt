@@ -15,10 +15,10 @@ use Rattle.bf_forest.specs.declared.edits.Edit.{Edit}
 use Rattle.bf_forest.specs.declared.nodes.Entry.{Entry}
 use Rattle.bf_forest.specs.declared.nodes.EntryKind.{EntryKind}
 use Rattle.bf_forest.specs.declared.nodes.EntryKind.TheVariants as kind
-use Rattle.bf_forest.specs.declared.opened.Opened.{Opened}
+use Rattle.bf_forest.specs.declared.opened.OpenDirectory.{OpenDirectory}
 use Rattle.bf_forest.specs.declared.slots.Rest.{Rest}
-use Rattle.bf_forest.specs.declared.slots.Slot.{Slot}
-use Rattle.bf_forest.specs.declared.slots.Slot.TheVariants.{File, Directory}
+use Rattle.bf_forest.specs.declared.slots.EntrySlot.{EntrySlot}
+use Rattle.bf_forest.specs.declared.slots.EntrySlot.TheVariants.{File, Directory}
 use Rattle.bf_forest.specs.Files.{Files, edited}
 use Rattle.bf_forest.specs.Listing.{name_in, Listing, beneath}
 use Rattle.bf_forest.specs.Nodes.{World, StaysIn, stood, are_within, kind_files, files_in, listed, has_some, is_filled, is_node, is_earlier, IsSettled}
@@ -36,7 +36,7 @@ use Rattle.bf_forest.proofs.Settling.{made, made_none, joined_some, edited-nil, 
 use Rattle.bf_forest.proofs.Settling.{settling_next}
 
 abbrev pub Slots : Type 0
-Slots = List (List ℕ × Slot)
+Slots = List (List ℕ × EntrySlot)
 
 -- ---- one slot is taken
 
@@ -81,7 +81,7 @@ settling_there trees slots now old key base pending rest number none h joined se
     settling_directory trees slots now now old key base pending rest number h (kept_refl now)
     (sym joined ∙ ap (λ v. fold with_tree now (or_none (where_some directories v))) (sym same)) (subst P (sym same) settled)
 
-slot_based_more : (a b : ℕ) (slot : Slot) → a ≤ b → is_based a slot ≡ true → is_based b slot ≡ true
+slot_based_more : (a b : ℕ) (slot : EntrySlot) → a ≤ b → is_based a slot ≡ true → is_based b slot ≡ true
 slot_based_more a b (File mode oid) l h = refl
 slot_based_more a b (Directory None pending) l h = refl
 slot_based_more a b (Directory (Some number) pending) l h = let less = ltb-true number a h in lt-ltb number b (omega (arith, less, l))
@@ -173,7 +173,7 @@ pub slots_kept : (before after : World) (rest : Rest) → StaysIn before after �
     → slots_in after.table rest ≡ slots_in before.table rest
 slots_kept before after rest stays h = ap (λ v. overlaid (slots_of v) rest.changes.entries) (stood_kept before.table after.table rest.base stays.0 h)
 
-pub frame_kept : (before after : World) (top : Opened) → StaysIn before after → IsFrame before top → IsFrame after top
+pub frame_kept : (before after : World) (top : OpenDirectory) → StaysIn before after → IsFrame before top → IsFrame after top
 frame_kept before after top stays h = (
   base_kept before after top.rest.base stays h.0,
   within_kept before.table after.table top.numbers stays.0 h.1,
@@ -241,7 +241,7 @@ base_take trees table base n h = (
         and_from _ _ parts.0 (filled_take entries m parts.1)
 
 -- the old entries below a key are taken, and what is to stand there lies in front
-pub turn_taken : (world : World) (old new base rest key : List ℕ) (change : Option Slot) (changes : List (List ℕ × Option Slot)) → IsClosedPool world.trees
+pub turn_taken : (world : World) (old new base rest key : List ℕ) (change : Option EntrySlot) (changes : List (List ℕ × Option EntrySlot)) → IsClosedPool world.trees
     → are_within (length world.table) old ≡ true → IsBase world.trees world.table base → is_below key changes ≡ true
     → IsPassed world.table old new base rest key
     → IsTaken world old new (overlaid (slots_of (stood world.table base)) ((key, change) ∷ changes))
@@ -292,21 +292,21 @@ below_all key (entry ∷ entries) h =
 
 -- ---- directories that wait for one in them
 
-abbrev pub Chain : World → Files → List Opened → World → Files → Type 0
+abbrev pub Chain : World → Files → List OpenDirectory → World → Files → Type 0
 Chain start files [] now inner = (start ≡ now) × (files ≡ inner)
 Chain start files (outer ∷ opened) now inner =
     (slots : Slots) × (mid : World) × (base : Option ℕ) × (pending : List Edit) × IsOpened start.trees files slots
     × IsSettling start.trees slots mid.trees (stood mid.table outer.numbers) ((outer.inside, Directory base pending) ∷ slots_in mid.table outer.rest)
     × IsFrame mid outer × StaysIn start mid × Chain mid (edited (base_files mid.trees base) pending) opened now inner
 
-chain_kept : (start : World) (files : Files) (opened : List Opened) (now : World) (inner : Files) → Chain start files opened now inner → StaysIn start now
+chain_kept : (start : World) (files : Files) (opened : List OpenDirectory) (now : World) (inner : Files) → Chain start files opened now inner → StaysIn start now
 chain_kept start files [] now inner h =
     let P : World → Type 0 = λ v. StaysIn start v in
     subst P h.0 (stays_refl start)
 chain_kept start files (outer ∷ opened) now inner h = stays_trans start h.1 now h.7
     (chain_kept h.1 (edited (base_files h.1.trees h.2) h.3) opened now inner h.8)
 
-chain_push : (start : World) (files : Files) (opened : List Opened) (now : World) (inner : Files) (outer : Opened) (slots : Slots) (mid : World)
+chain_push : (start : World) (files : Files) (opened : List OpenDirectory) (now : World) (inner : Files) (outer : OpenDirectory) (slots : Slots) (mid : World)
     (base : Option ℕ) (pending : List Edit)
     → Chain start files opened now inner → IsOpened now.trees inner slots
     → IsSettling now.trees slots mid.trees (stood mid.table outer.numbers) ((outer.inside, Directory base pending) ∷ slots_in mid.table outer.rest)
@@ -322,14 +322,14 @@ chain_push start files (first ∷ opened) now inner outer slots mid base pending
     (h.0, h.1, h.2, h.3, h.4, h.5, h.6, h.7, chain_push h.1 (edited (base_files h.1.trees h.2) h.3) opened now inner outer slots mid base pending h.8 o s f k)
 
 -- the last of them, and those below it
-abbrev IsLast : World → Files → List Opened → Opened → World → Files → Type 0
+abbrev IsLast : World → Files → List OpenDirectory → OpenDirectory → World → Files → Type 0
 IsLast start files opened outer now inner =
     (mid : World) × (made : Files) × (slots : Slots) × (base : Option ℕ) × (pending : List Edit) × Chain start files opened mid made × IsOpened mid.trees made
     slots
     × IsSettling mid.trees slots now.trees (stood now.table outer.numbers) ((outer.inside, Directory base pending) ∷ slots_in now.table outer.rest)
     × IsFrame now outer × StaysIn mid now × (edited (base_files now.trees base) pending ≡ inner)
 
-chain_pop : (start : World) (files : Files) (opened : List Opened) (outer : Opened) (now : World) (inner : Files)
+chain_pop : (start : World) (files : Files) (opened : List OpenDirectory) (outer : OpenDirectory) (now : World) (inner : Files)
     → Chain start files (opened ++ outer ∷ []) now inner
     → IsLast start files opened outer now inner
 chain_pop start files [] outer now inner h =
@@ -356,44 +356,44 @@ chain_pop start files (first ∷ opened) outer now inner h =
 
 -- ---- the directories below and the one on top
 
-abbrev pub IsStacked : World → Files → List Opened → World → Opened → Type 0
+abbrev pub IsStacked : World → Files → List OpenDirectory → World → OpenDirectory → Type 0
 IsStacked start files below now top =
     (mid : World) × (inner : Files) × (slots : Slots) × Chain start files below mid inner × IsOpened mid.trees inner slots
     × IsSettling mid.trees slots now.trees (stood now.table top.numbers) (slots_in now.table top.rest) × IsFrame now top × StaysIn mid now
 
 -- what is known of a directory that was opened
-abbrev pub IsNew : World → Files → Opened → Type 0
+abbrev pub IsNew : World → Files → OpenDirectory → Type 0
 IsNew now files top = IsOpened now.trees files (slots_in now.table top.rest) × IsBase now.trees now.table top.rest.base × (top.numbers ≡ [])
 
-new_frame : (now : World) (files : Files) (top : Opened) → IsNew now files top → IsFrame now top
+new_frame : (now : World) (files : Files) (top : OpenDirectory) → IsNew now files top → IsFrame now top
 new_frame now files top h =
     (h.1, ap (are_within (length now.table)) h.2, slots_based (length now.trees) h.0.3.0 (slots_in now.table top.rest) h.0.3.1)
 
-new_settling : (now : World) (files : Files) (top : Opened) → IsNew now files top
+new_settling : (now : World) (files : Files) (top : OpenDirectory) → IsNew now files top
     → IsSettling now.trees (slots_in now.table top.rest) now.trees (stood now.table top.numbers) (slots_in now.table top.rest)
 new_settling now files top h =
     let P : List ℕ → Type 0 = λ v. IsSettling now.trees (slots_in now.table top.rest) now.trees (stood now.table v) (slots_in now.table top.rest) in
     subst P (sym h.2) (settling_start now.trees files (slots_in now.table top.rest) h.0)
 
-pub stacked_start : (start : World) (files : Files) (top : Opened) → IsNew start files top → IsStacked start files [] start top
+pub stacked_start : (start : World) (files : Files) (top : OpenDirectory) → IsNew start files top → IsStacked start files [] start top
 stacked_start start files top h =
     (start, files, slots_in start.table top.rest, (refl, refl), h.0, new_settling start files top h, new_frame start files top h, stays_refl start)
 
-pub stacked_stays : (start : World) (files : Files) (below : List Opened) (now : World) (top : Opened) → IsStacked start files below now top → StaysIn start now
+pub stacked_stays : (start : World) (files : Files) (below : List OpenDirectory) (now : World) (top : OpenDirectory) → IsStacked start files below now top → StaysIn start now
 stacked_stays start files below now top h = stays_trans start h.0 now (chain_kept start files below h.0 h.1 h.3) h.7
 
 -- what a call that takes entries says
-abbrev pub IsAdvance : World → World → Opened → Opened → Option (Option ℕ × List Edit) → Type 0
+abbrev pub IsAdvance : World → World → OpenDirectory → OpenDirectory → Option (Option ℕ × List Edit) → Type 0
 IsAdvance now next old top inner = Advances now next old top inner × IsFrame next top × StaysIn now next × (next.trees ≡ now.trees)
 
-pub stacked_base : (start : World) (files : Files) (below : List Opened) (now next : World) (old top : Opened) (base : Option ℕ) (pending : List Edit)
+pub stacked_base : (start : World) (files : Files) (below : List OpenDirectory) (now next : World) (old top : OpenDirectory) (base : Option ℕ) (pending : List Edit)
     → IsStacked start files below now old
     → IsAdvance now next old top (Some (base, pending)) → is_base (length next.trees) base ≡ true
 stacked_base start files below now next old top base pending h go =
     (and_parts _ _ (settling_based h.0.trees h.2 next.trees (stood next.table top.numbers) ((top.inside, Directory base pending) ∷ slots_in next.table top.rest)
     (go.0 h.0.trees h.2 h.5))).0
 
-pub stacked_push : (start : World) (files : Files) (below : List Opened) (now next : World) (old top inner : Opened) (base : Option ℕ) (pending : List Edit)
+pub stacked_push : (start : World) (files : Files) (below : List OpenDirectory) (now next : World) (old top inner : OpenDirectory) (base : Option ℕ) (pending : List Edit)
     → IsStacked start files below now old
     → IsAdvance now next old top (Some (base, pending)) → IsNew next (edited (base_files next.trees base) pending) inner
     → IsStacked start files (below ++ top ∷ []) next inner
@@ -409,18 +409,18 @@ stacked_push start files below now next old top inner base pending h go new =
       stays_refl next,
     )
 
-pub stacked_made : (start : World) (files : Files) (below : List Opened) (now next : World) (old top : Opened) → IsStacked start files below now old
+pub stacked_made : (start : World) (files : Files) (below : List OpenDirectory) (now next : World) (old top : OpenDirectory) → IsStacked start files below now old
     → IsAdvance now next old top None
     → slots_in next.table top.rest ≡ [] → is_node next.trees (stood next.table top.numbers) ≡ true
 stacked_made start files below now next old top h go spent =
     let P : Slots → Type 0 = λ v. IsSettling h.0.trees h.2 next.trees (stood next.table top.numbers) v in
     (settling_made h.0.trees h.1 h.2 next.trees (stood next.table top.numbers) h.4 (subst P spent (go.0 h.0.trees h.2 h.5))).1
 
-pub stacked_end : (start : World) (files : Files) (below : List Opened) (now next : World) (old top : Opened) → IsStacked start files below now old
+pub stacked_end : (start : World) (files : Files) (below : List OpenDirectory) (now next : World) (old top : OpenDirectory) → IsStacked start files below now old
     → IsAdvance now next old top None
     → slots_in next.table top.rest ≡ [] → below ≡ [] → IsMade start.trees next.trees files (stood next.table top.numbers)
 stacked_end start files below now next old top h go spent none =
-    let C : List Opened → Type 0 = λ v. Chain start files v h.0 h.1 in
+    let C : List OpenDirectory → Type 0 = λ v. Chain start files v h.0 h.1 in
     let here = subst C none h.3 in
     let P : Slots → Type 0 = λ v. IsSettling h.0.trees h.2 next.trees (stood next.table top.numbers) v in
     let Q : World → Type 0 = λ v. IsMade v.trees next.trees h.1 (stood next.table top.numbers) in
@@ -434,23 +434,23 @@ tree_stays next closed kept table =
     let T : List Entry → Type 0 = λ v. take (length next.table) v ≡ next.table in
     (subst T (sym table) (kept_refl next.table), kept)
 
-pub stacked_under : (start : World) (files : Files) (below less : List Opened) (now later : World) (top outer : Opened) → IsStacked start files below now top
+pub stacked_under : (start : World) (files : Files) (below less : List OpenDirectory) (now later : World) (top outer : OpenDirectory) → IsStacked start files below now top
     → below ≡ less ++ outer ∷ []
     → StaysIn now later → are_within (length later.table) outer.numbers ≡ true
 stacked_under start files below less now later top outer h parts stays =
-    let C : List Opened → Type 0 = λ v. Chain start files v h.0 h.1 in
+    let C : List OpenDirectory → Type 0 = λ v. Chain start files v h.0 h.1 in
     let low = chain_pop start files less outer h.0 h.1 (subst C parts h.3) in
     within_kept h.0.table later.table outer.numbers (stays_trans h.0 now later h.7 stays).0 low.8.1
 
 -- the directory on top is over: its tree is there, and the one below it has an entry more
-pub stacked_pop : (start : World) (files : Files) (below less : List Opened) (now next closed last : World) (old top outer after : Opened) (number : Option ℕ)
+pub stacked_pop : (start : World) (files : Files) (below less : List OpenDirectory) (now next closed last : World) (old top outer after : OpenDirectory) (number : Option ℕ)
     → IsStacked start files below now old → IsAdvance now next old top None → slots_in next.table top.rest ≡ [] → below ≡ less ++ outer ∷ []
     → IsClosed next.trees closed.trees (stood next.table top.numbers) number → take (length next.trees) closed.trees ≡ next.trees → closed.table ≡ next.table
     → stood last.table after.numbers ≡ with_directory (stood closed.table outer.numbers) outer.inside number
     → are_within (length last.table) after.numbers ≡ true
     → StaysIn closed last → last.trees ≡ closed.trees → after.rest ≡ outer.rest → IsStacked start files less last after
 stacked_pop start files below less now next closed last old top outer after number h go spent parts done kept table entries within stays trees rest =
-    let C : List Opened → Type 0 = λ v. Chain start files v h.0 h.1 in
+    let C : List OpenDirectory → Type 0 = λ v. Chain start files v h.0 h.1 in
     let low = chain_pop start files less outer h.0 h.1 (subst C parts h.3) in
     let P : Slots → Type 0 = λ v. IsSettling h.0.trees h.2 next.trees (stood next.table top.numbers) v in
     let settled = settling_closed h.0.trees h.1 h.2 next.trees closed.trees (stood next.table top.numbers) number h.4 (subst P spent (go.0 h.0.trees h.2 h.5))
@@ -487,17 +487,17 @@ stacked_pop start files below less now next closed last old top outer after numb
 
 -- ---- what is still to be done falls
 
-abbrev pub height : List Entry → List Opened → ℕ
+abbrev pub height : List Entry → List OpenDirectory → ℕ
 height table [] = 0
 height table (outer ∷ opened) = suc (heft (slots_in table outer.rest)) + height table opened
 
-pub height_more : (table : List Entry) (opened : List Opened) (outer : Opened)
+pub height_more : (table : List Entry) (opened : List OpenDirectory) (outer : OpenDirectory)
     → height table (opened ++ outer ∷ []) ≡ height table opened + suc (heft (slots_in table outer.rest))
 height_more table [] outer = omega arith
 height_more table (first ∷ opened) outer = let more = height_more table opened outer in omega (arith, more)
 
 -- a table that grows leaves it as it was
-height_kept : (start now : World) (files inner : Files) (below : List Opened) (later : World) → Chain start files below now inner → StaysIn now later
+height_kept : (start now : World) (files inner : Files) (below : List OpenDirectory) (later : World) → Chain start files below now inner → StaysIn now later
     → height later.table below ≡ height now.table below
 height_kept start now files inner [] later h stays = refl
 height_kept start now files inner (outer ∷ below) later h stays =
@@ -507,7 +507,7 @@ height_kept start now files inner (outer ∷ below) later h stays =
     let same = ap heft (b ∙ sym a) in
     omega (arith, same, height_kept h.1 now (edited (base_files h.1.trees h.2) h.3) inner below later h.8 stays)
 
-pub stacked_height : (start : World) (files : Files) (below : List Opened) (now later : World) (top : Opened) → IsStacked start files below now top
+pub stacked_height : (start : World) (files : Files) (below : List OpenDirectory) (now later : World) (top : OpenDirectory) → IsStacked start files below now top
     → StaysIn now later
     → height later.table below ≡ height now.table below
 stacked_height start files below now later top h stays =

@@ -5,7 +5,7 @@ use Rattle.bf_paths.specs.Components.{is_component, is_path}
 use Rattle.bf_forest.specs.declared.nodes.EntryKind.{EntryKind}
 use Rattle.bf_forest.specs.declared.nodes.EntryKind.TheVariants.{File, Directory}
 use Rattle.bf_forest.specs.declared.nodes.Entry.{Entry}
-use Rattle.bf_forest.specs.declared.pool.Kept.{Kept}
+use Rattle.bf_forest.specs.declared.pool.KeptTree.{KeptTree}
 use Rattle.bf_oid.specs.declared.object.Oid.{Oid}
 use Rattle.bf_forest.specs.Files.{Files, is_tree}
 use Rattle.bf_forest.specs.Listing.{name_in, Listing, is_listing, shown, beneath}
@@ -109,18 +109,18 @@ stood table numbers = map (entry_at table) numbers
 abbrev pub are_within : ℕ → List ℕ → Bool
 are_within count numbers = list_all (λ number. nat_lt number count) numbers
 
-abbrev pub node_of : List Entry → Kept → Node
+abbrev pub node_of : List Entry → KeptTree → Node
 node_of table kept = record { entries = stood table kept.numbers; name = kept.name }
 
-abbrev pub nodes_of : List Entry → List Kept → List Node
+abbrev pub nodes_of : List Entry → List KeptTree → List Node
 nodes_of table kept = map (node_of table) kept
 
 -- the files of the trees that are kept
-abbrev pub kept_trees : List Entry → List Kept → List Files
+abbrev pub kept_trees : List Entry → List KeptTree → List Files
 kept_trees table kept = trees_from [] (nodes_of table kept)
 
 -- all numbers of trees have an entry
-abbrev pub are_kept_within : ℕ → List Kept → Bool
+abbrev pub are_kept_within : ℕ → List KeptTree → Bool
 are_kept_within count kept = list_all (λ tree. are_within count tree.numbers) kept
 
 -- the entries of all trees, and the trees
@@ -129,7 +129,7 @@ pub record World : Type 0 where
   pub trees : List Files
 
 -- the entries and the trees that are kept
-abbrev pub world_of : List Entry → List Kept → World
+abbrev pub world_of : List Entry → List KeptTree → World
 world_of table kept = record { table = table; trees = kept_trees table kept }
 
 -- entries and trees that are there stay

@@ -8,8 +8,8 @@ use Rattle.bf_oid.specs.declared.object.Oid.{Oid}
 use Rattle.bf_forest.specs.declared.edits.Edit.{Edit}
 use Rattle.bf_forest.specs.declared.edits.Edit.TheVariants.{Set, Remove, Clear}
 use Rattle.bf_forest.specs.declared.nodes.Entry.{Entry}
-use Rattle.bf_forest.specs.declared.slots.Slot.{Slot}
-use Rattle.bf_forest.specs.declared.slots.Slot.TheVariants.{File, Directory}
+use Rattle.bf_forest.specs.declared.slots.EntrySlot.{EntrySlot}
+use Rattle.bf_forest.specs.declared.slots.EntrySlot.TheVariants.{File, Directory}
 use Rattle.bf_forest.specs.declared.slots.Rest.{Rest}
 use Rattle.bf_forest.specs.Nodes.{entry_at, stood, are_within}
 use Rattle.bf_forest.specs.Overlays.{overlaid, are_from}
@@ -40,19 +40,19 @@ abbrev pub IsShorter : List ℕ → List ℕ → Type 0
 IsShorter numbers all = (count : ℕ) × (numbers ≡ drop count all)
 
 -- the old entries with these numbers
-abbrev pub old_slots : List Entry → List ℕ → List (List ℕ × Slot)
+abbrev pub old_slots : List Entry → List ℕ → List (List ℕ × EntrySlot)
 old_slots table numbers = slots_of (stood table numbers)
 
 -- the directory at a key, in old entries with changes over them
-abbrev pub standing_directory : List Entry → List ℕ → List (List ℕ × Option Slot) → List ℕ → Option (Option ℕ × List Edit)
+abbrev pub standing_directory : List Entry → List ℕ → List (List ℕ × Option EntrySlot) → List ℕ → Option (Option ℕ × List Edit)
 standing_directory table numbers changes key = directory_at key (overlaid (old_slots table numbers) changes)
 
 -- the entries, with what waits in them
-abbrev pub slots_in : List Entry → Rest → List (List ℕ × Slot)
+abbrev pub slots_in : List Entry → Rest → List (List ℕ × EntrySlot)
 slots_in table rest = overlaid (old_slots table rest.base) rest.changes.entries
 
 -- the entries, with one change in front of the others
-abbrev pub slots_with : List Entry → Rest → List ℕ → Option Slot → List (List ℕ × Slot)
+abbrev pub slots_with : List Entry → Rest → List ℕ → Option EntrySlot → List (List ℕ × EntrySlot)
 slots_with table rest key change = overlaid (old_slots table rest.base) ((key, change) ∷ rest.changes.entries)
 
 -- a directory that no edits wait in
@@ -63,38 +63,38 @@ old_directory (Some number) = Some (Some number, [])
 -- ---- what an edit makes of the changes
 
 -- a file is to stand at a name, and no directory
-abbrev pub file_changes : List (List ℕ × Option Slot) → List ℕ → Mode → Oid → List (List ℕ × Option Slot)
+abbrev pub file_changes : List (List ℕ × Option EntrySlot) → List ℕ → Mode → Oid → List (List ℕ × Option EntrySlot)
 file_changes changes name mode oid = put (put changes (directory_key name) None) name (Some (File mode oid))
 
 -- neither a file nor a directory is to stand at a name
-abbrev pub gone_changes : List (List ℕ × Option Slot) → List ℕ → List (List ℕ × Option Slot)
+abbrev pub gone_changes : List (List ℕ × Option EntrySlot) → List ℕ → List (List ℕ × Option EntrySlot)
 gone_changes changes name = put (put changes name None) (directory_key name) None
 
-abbrev pub set_changes : List (List ℕ × Slot) → List ℕ → Edit → List (List ℕ × Option Slot) → List (List ℕ × Option Slot)
+abbrev pub set_changes : List (List ℕ × EntrySlot) → List ℕ → Edit → List (List ℕ × Option EntrySlot) → List (List ℕ × Option EntrySlot)
 set_changes slots name edit changes =
     put (gone_changes changes name) (directory_key name)
     (Some (with_edit (directory_at (directory_key name) (overlaid slots (put changes name None))) edit))
 
-abbrev pub less_change : Option (Option ℕ × List Edit) → List ℕ → Edit → List (List ℕ × Option Slot) → List (List ℕ × Option Slot)
+abbrev pub less_change : Option (Option ℕ × List Edit) → List ℕ → Edit → List (List ℕ × Option EntrySlot) → List (List ℕ × Option EntrySlot)
 less_change None key edit changes = changes
 less_change (Some directory) key edit changes = put changes key (Some (Directory directory.0 (directory.1 ++ edit ∷ [])))
 
-abbrev pub less_changes : List (List ℕ × Slot) → List ℕ → Edit → List (List ℕ × Option Slot) → List (List ℕ × Option Slot)
+abbrev pub less_changes : List (List ℕ × EntrySlot) → List ℕ → Edit → List (List ℕ × Option EntrySlot) → List (List ℕ × Option EntrySlot)
 less_changes slots name edit changes =
     less_change (directory_at (directory_key name) (overlaid slots changes)) (directory_key name) edit (put changes (directory_key name) None)
 
-abbrev pub set_rest : List (List ℕ × Slot) → List (List ℕ) → Mode → Oid → List (List ℕ × Option Slot) → List (List ℕ × Option Slot)
+abbrev pub set_rest : List (List ℕ × EntrySlot) → List (List ℕ) → Mode → Oid → List (List ℕ × Option EntrySlot) → List (List ℕ × Option EntrySlot)
 set_rest slots [] mode oid changes = changes
 set_rest slots (name ∷ []) mode oid changes = file_changes changes name mode oid
 set_rest slots (name ∷ next ∷ rest) mode oid changes = set_changes slots name (Set (next ∷ rest) mode oid) changes
 
-abbrev pub remove_rest : List (List ℕ × Slot) → List (List ℕ) → List (List ℕ × Option Slot) → List (List ℕ × Option Slot)
+abbrev pub remove_rest : List (List ℕ × EntrySlot) → List (List ℕ) → List (List ℕ × Option EntrySlot) → List (List ℕ × Option EntrySlot)
 remove_rest slots [] changes = changes
 remove_rest slots (name ∷ []) changes = gone_changes changes name
 remove_rest slots (name ∷ next ∷ rest) changes = less_changes slots name (Remove (next ∷ rest)) changes
 
 -- the changes after an edit of the entries
-abbrev pub changes_after : List Entry → Rest → Edit → List (List ℕ × Option Slot)
+abbrev pub changes_after : List Entry → Rest → Edit → List (List ℕ × Option EntrySlot)
 changes_after table rest (Set path mode oid) = set_rest (old_slots table rest.base) path mode oid rest.changes.entries
 changes_after table rest (Remove path) = remove_rest (old_slots table rest.base) path rest.changes.entries
 changes_after table rest Clear = []

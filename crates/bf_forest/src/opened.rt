@@ -6,7 +6,7 @@ use bf_io::Bytes;
 
 /// A directory that is being made. While a directory in it is made, it waits for that.
 #[derive(Debug, Drop)]
-pub(crate) struct Opened<'a> {
+pub(crate) struct OpenDirectory<'a> {
     /// The numbers of the entries so far, in order of their keys.
     pub(crate) numbers: Numbers,
     /// The key of the directory in it that is made now.

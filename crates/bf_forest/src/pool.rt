@@ -17,8 +17,8 @@ use crate::edits::Edit;
 use crate::entries::{FileEntry, add_file, are_same};
 use crate::levels::Level;
 use crate::nodes::{Entry, EntryKind, Numbers, add_entry, empty_body, mode_text, name_in};
-use crate::opened::Opened;
-use crate::slots::{Rest, Slot, edit_all};
+use crate::opened::OpenDirectory;
+use crate::slots::{EntrySlot, Rest, edit_all};
 use crate::table::Table;
 use crate::tail::{Tail, take_below};
 use bf_io::Bytes;
@@ -30,7 +30,7 @@ use std::mem;
 
 /// A tree: the numbers of its entries, and its name.
 #[derive(Debug, Drop)]
-pub(crate) struct Kept {
+pub(crate) struct KeptTree {
     numbers: Numbers,
     name: Oid,
 }
@@ -41,7 +41,7 @@ pub(crate) struct Kept {
 pub(crate) struct Trees {
     alloc: Global,
     table: Table,
-    nodes: Vec<Kept>,
+    nodes: Vec<KeptTree>,
     index: BTreeMap<[u8; 20], usize>,
     entries: u64,
 }
@@ -232,7 +232,7 @@ impl Trees {
         self.search(files.as_slice(), name)
     }
 
-    /// Adds the tree with these entries where it is not there, and answers its number. After an error
+    /// Adds the tree with these entries where it is not there, and returns its number. After an error
     /// all is as before.
     pub(crate) fn add(&mut self, numbers: Numbers) -> Result<usize, AllocError>
         requires node { IsDirectory self.old numbers }
@@ -252,7 +252,7 @@ impl Trees {
         let count = numbers.as_slice().len();
         let total = self.entries.checked_add(count as u64).ok_or(AllocError)?;
         self.index.insert(name.0, number)?;
-        self.nodes.push(Kept { numbers, name })?;
+        self.nodes.push(KeptTree { numbers, name })?;
         self.entries = total;
         Ok(number)
     }
@@ -312,7 +312,7 @@ impl Trees {
         &self,
         base: Option<usize>,
         edits: &[LocalEdit<'a>],
-    ) -> Result<Opened<'a>, AllocError>
+    ) -> Result<OpenDirectory<'a>, AllocError>
         requires base { IsTrue (is_base (length self.now.trees) base) }
         requires some { 0 < length edits.now }
         ensures opened { IfOk result (Opens self.now (edited_base self.now.trees base edits.now)) }
@@ -331,7 +331,7 @@ impl Trees {
             .as_slice()
             .len()
             .saturating_add(rest.changes.len());
-        Ok(Opened {
+        Ok(OpenDirectory {
             numbers: Numbers::with_room(self.alloc, room)?,
             inside: Bytes::new(self.alloc),
             rest,
@@ -353,12 +353,12 @@ impl Trees {
         Some(number)
     }
 
-    /// Takes the old entries below a key and what is to stand there, or answers what the directory there is made of.
+    /// Takes the old entries below a key and what is to stand there, or returns what the directory there is made of.
     fn take<'a>(
         &mut self,
-        top: &mut Opened<'a>,
+        top: &mut OpenDirectory<'a>,
         key: Bytes,
-        change: Option<Slot<'a>>,
+        change: Option<EntrySlot<'a>>,
     ) -> Result<Option<(Option<usize>, Pending<'a>)>, AllocError>
         requires { IsTurn self.old top.old key change }
         ensures turns { IfOk result (Turns self.old self.new top.old key change.entry top.new) }
@@ -378,11 +378,11 @@ impl Trees {
         )?;
         match change {
             None => Ok(None),
-            Some(Slot::File(mode, oid)) => {
+            Some(EntrySlot::File(mode, oid)) => {
                 self.enter(&mut top.numbers, key, EntryKind::File(mode, oid))?;
                 Ok(None)
             }
-            Some(Slot::Directory(base, pending)) => {
+            Some(EntrySlot::Directory(base, pending)) => {
                 if pending.as_slice().is_empty() {
                     self.enter_directory(&mut top.numbers, key, self.filled(base))?;
                     return Ok(None);
@@ -393,10 +393,10 @@ impl Trees {
         }
     }
 
-    /// Takes entries up to the next directory that is to be made first, and answers what it is made of.
+    /// Takes entries up to the next directory that is to be made first, and returns what it is made of.
     fn advance<'a>(
         &mut self,
-        top: &mut Opened<'a>,
+        top: &mut OpenDirectory<'a>,
     ) -> Result<Option<(Option<usize>, Pending<'a>)>, AllocError>
         requires { IsFrame self.old top.old }
         ensures advanced { IfOk result (Advances self.old self.new top.old top.new) }
@@ -417,7 +417,7 @@ impl Trees {
     }
 
     /// Takes the old entries, where no changes are left.
-    fn take_all(&self, top: &mut Opened<'_>) -> Result<(), AllocError>
+    fn take_all(&self, top: &mut OpenDirectory<'_>) -> Result<(), AllocError>
         requires frame { IsFrame self.now top.old }
         requires none { top.old.rest.changes.entries ≡ [] }
         ensures advanced { OnOk result (Advances self.now self.now top.old top.new None) }
@@ -431,7 +431,7 @@ impl Trees {
         Ok(())
     }
 
-    /// Adds the tree of a directory with these entries, if there are any, and answers its number.
+    /// Adds the tree of a directory with these entries, if there are any, and returns its number.
     fn close(&mut self, numbers: Numbers) -> Result<Option<usize>, AllocError>
         requires node { IsDirectory self.old numbers }
         requires within { HaveEntries self.old numbers }
@@ -476,7 +476,11 @@ impl Trees {
     }
 
     /// Adds the directory that another one waited for, if it has files.
-    fn wait_over(&mut self, outer: &mut Opened<'_>, number: Option<usize>) -> Result<(), AllocError>
+    fn wait_over(
+        &mut self,
+        outer: &mut OpenDirectory<'_>,
+        number: Option<usize>,
+    ) -> Result<(), AllocError>
         requires { HaveEntries self.old outer.old.numbers }
         ensures entry { OnOk result (Resumes self.old outer.old number self.new outer.new) }
         ensures within { OnOk result (HaveEntries self.new outer.new.numbers) }

@@ -21,13 +21,13 @@ use std::collections::BTreeMap;
 /// What stands at a key: a file, or the directory of a tree (none: an empty one) with the edits that
 /// wait to be made in it.
 #[derive(Debug, Drop)]
-pub(crate) enum Slot<'a> {
+pub(crate) enum EntrySlot<'a> {
     File(Mode, Oid),
     Directory(Option<usize>, Pending<'a>),
 }
 
 /// Changes of entries by their keys: what is to stand there, or that nothing is.
-pub(crate) type Changes<'a> = BTreeMap<Bytes, Option<Slot<'a>>>;
+pub(crate) type Changes<'a> = BTreeMap<Bytes, Option<EntrySlot<'a>>>;
 
 /// The entries of a directory: the old ones, and by their keys the changes that lie over them.
 #[derive(Debug, Drop)]
@@ -61,16 +61,16 @@ fn old_directory(table: &Table, numbers: &[u32], key: &[u8]) -> Option<usize>
 }
 
 /// What is a directory, and none for all else.
-fn directory_in<'a>(slot: Option<Slot<'a>>) -> Option<(Option<usize>, Pending<'a>)>
+fn directory_in<'a>(slot: Option<EntrySlot<'a>>) -> Option<(Option<usize>, Pending<'a>)>
     ensures { result ≡ directory_of slot.entry }
 {
     match slot {
-        Some(Slot::Directory(base, pending)) => Some((base, pending)),
+        Some(EntrySlot::Directory(base, pending)) => Some((base, pending)),
         _ => None,
     }
 }
 
-/// Lets nothing stand at a key, and answers the directory that stood there.
+/// Lets nothing stand at a key, and returns the directory that stood there.
 fn taken<'a>(
     table: &Table,
     base: &[u32],
@@ -97,7 +97,7 @@ fn set_file(changes: &mut Changes<'_>, name: &Bytes, mode: Mode, oid: Oid) -> Re
         (changes.new.entries ≡ file_changes changes.old.entries name.now mode oid) }
 {
     changes.insert(directory_key(name)?, None)?;
-    changes.insert(name.try_clone()?, Some(Slot::File(mode, oid)))?;
+    changes.insert(name.try_clone()?, Some(EntrySlot::File(mode, oid)))?;
     Ok(())
 }
 
@@ -129,7 +129,7 @@ fn set_inside<'a>(
         None => (None, Pending::new(name.allocator())),
     };
     pending.push(edit)?;
-    changes.insert(key, Some(Slot::Directory(number, pending)))?;
+    changes.insert(key, Some(EntrySlot::Directory(number, pending)))?;
     Ok(())
 }
 
@@ -148,7 +148,7 @@ fn remove_inside<'a>(
     let key = directory_key(name)?;
     if let Some((number, mut pending)) = taken(table, base, changes, &key)? {
         pending.push(edit)?;
-        changes.insert(key, Some(Slot::Directory(number, pending)))?;
+        changes.insert(key, Some(EntrySlot::Directory(number, pending)))?;
     }
     Ok(())
 }

@@ -110,7 +110,7 @@ impl Forest {
     }
 }
 
-/// Adds the tree after edits, and answers its number. After a refusal some trees may have been added.
+/// Adds the tree after edits, and returns its number. After a refusal some trees may have been added.
 fn joined(trees: &mut Trees, limit: u32, tree: u32, edits: &[Edit]) -> Result<u32, ForestFault>
     requires { tree < length trees.old.trees }
     ensures pool { OnOk result (trees.new.trees ≡ trees_after trees.old.trees tree edits.now) }

@@ -72,7 +72,7 @@ fn put_commit(text: &mut Bytes, state: u32, commit: u32) -> Result<(), AllocErro
     put_parents(text, state, commit)
 }
 
-/// Adds the lines of commits from one on, and answers the state of the one after them.
+/// Adds the lines of commits from one on, and returns the state of the one after them.
 pub(crate) fn put_commits(
     text: &mut Bytes,
     mut state: u32,

@@ -78,7 +78,7 @@ impl Graph {
         )
     }
 
-    /// Adds a commit with these parents, and gives its place. After an error the graph is as before.
+    /// Adds a commit with these parents, and returns its place. After an error the graph is as before.
     pub fn push(&mut self, parents: &[u32]) -> Result<u32, AllocError>
         requires earlier { All (λ parent. parent < length self.old) parents.now }
         requires room { length self.old < 4294967295 }

@@ -28,7 +28,7 @@ impl Growth {
         }
     }
 
-    /// Adds a commit with these parents, whose files are those of a place after edits, and gives its
+    /// Adds a commit with these parents, whose files are those of a place after edits, and returns its
     /// place; without a place they begin with no files. A commit whose name is there already stays at its
     /// place.
     pub(crate) fn commit(
@@ -73,7 +73,7 @@ impl Growth {
         }
     }
 
-    /// Adds a commit of this tree and this name, where one more is within the limit, and gives its
+    /// Adds a commit of this tree and this name, where one more is within the limit, and returns its
     /// place. A commit whose name is there already stays at its place, at the limit too.
     fn add_named_commit(
         &mut self,

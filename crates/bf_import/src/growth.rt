@@ -1,5 +1,5 @@
 //! A history that grows by its commits and refs: its six parts, and the limits, which no history shows. A
-//! `History` is a `Growth` that grows no more. Where memory runs out between two parts, the name that was added
+//! `History` is a `Growth` that grows no more. Where memory ran out between two parts, the name that was added
 //! is taken back (`Names::truncate`), so that after an error all is as before.
 ghost use Rattle.std.specs.Prelude.{◌≡◌, ◌≤◌, ◌<◌, [], ◌∷◌, ◌++◌, if◌then◌else◌, length, is_none, All, IfOk, IfSome, IsTrue, OnOk, OnErr, IsErrOf};
 ghost use Rattle.std.specs.List.{slice_index_or};
@@ -168,7 +168,7 @@ impl Growth {
         self.limits.commits
     }
 
-    /// Adds a commit, whose place is the number of commits before, and tells whether its name was
+    /// Adds a commit, whose place is the number of commits before, and returns whether its name was
     /// new: one of a name that is there already changes nothing. After an error all is as before.
     pub(crate) fn add(
         &mut self,
@@ -221,7 +221,7 @@ impl Growth {
     }
 }
 
-/// Adds a commit's parents and its name, and tells whether the name was new: one that is there
+/// Adds a commit's parents and its name, and returns whether the name was new: one that is there
 /// already changes nothing. After an error both are as before.
 fn add_named(
     graph: &mut Graph,

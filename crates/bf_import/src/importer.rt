@@ -177,7 +177,7 @@ impl Importer {
         edits_of(self.alloc, &self.marks, contents, changes)
     }
 
-    /// Adds a commit with these parents and edits, and gives its place.
+    /// Adds a commit with these parents and edits, and returns its place.
     fn add_commit(
         &mut self,
         first: Option<u32>,

@@ -56,7 +56,8 @@ pub fn import_with_rest<S: Source>(
 ) -> Result<(History, Bytes), ImportFault>
     requires { IsWithin limits }
     ensures history { MayImport (S.left source.old) limits (history_of result) }
-    ensures rest { IfOk result (λ both. Leaves (S.left source.old) limits both.1 (S.left source.new)) }
+    ensures rest { IfOk result (λ both.
+        Leaves (S.left source.old) limits both.1 (S.left source.new)) }
     ensures cause { FailsOnlyAt (ImportFault.Stream StreamFault.Read)
         (S.faults source.old) (S.faults source.new) result }
     ensures own { IsErrOf result (ImportFault.Stream StreamFault.NoMemory) → ⊥ }
@@ -97,7 +98,8 @@ fn imported<S: Source, C: Contents + Drop>(
         MayLoad left limits (C.kept contents) (loaded_by C.kept result) }
     ensures furnished { let before = IsFurnishedBy (C.kept contents) (nothing_loaded limits) in
         IfOk result (λ all. before → IsFurnishedBy (C.kept all.1) all.0.loading) }
-    ensures rest { IfOk result (λ all. Leaves (S.left source.old) limits all.2 (S.left source.new)) }
+    ensures rest { IfOk result (λ all.
+        Leaves (S.left source.old) limits all.2 (S.left source.new)) }
     ensures cause { FailsOnlyAt (ImportFault.Stream StreamFault.Read)
         (S.faults source.old) (S.faults source.new) result }
     ensures known { IfErr result (IsFaultOf (C.kept contents)) }

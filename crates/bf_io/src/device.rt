@@ -19,7 +19,7 @@ pub enum SinkFault {
     /// The device failed. Its count of faults rose, and the bytes that it holds are as before.
     #[error("the device failed")]
     Failed,
-    /// There is no memory for the bytes. All is as before.
+    /// Memory ran out. All is as before.
     #[error("out of memory")]
     NoMemory,
 }
@@ -48,7 +48,7 @@ pub trait Source {
     // The count of faults, up to the last value of 64 bits.
     ghost faults: { Self → ℕ };
 
-    /// Reads bytes into the front of the buffer, and answers how many. 0 is the end, and comes exactly
+    /// Reads bytes into the front of the buffer, and returns how many. 0 is the end, and comes exactly
     /// where nothing is left. It fails only where the count of faults rose.
     fn read(&mut self, buf: &mut [u8]) -> Result<usize, Failed>
         requires { 0 < length buf.old }
@@ -65,7 +65,7 @@ pub trait Sink {
     // The count of faults, up to the last value of 64 bits.
     ghost faults: { Self → ℕ };
 
-    /// Takes bytes from the front of the piece, at least one, and answers how many. A device that takes
+    /// Takes bytes from the front of the piece, at least one, and returns how many. A device that takes
     /// nothing fails.
     fn write(&mut self, piece: &[u8]) -> Result<usize, SinkFault>
         requires { 0 < length piece.now }

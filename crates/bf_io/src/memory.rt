@@ -11,7 +11,7 @@ use std::alloc::Global;
 use std::marker::Model;
 
 // Copies bytes from the front of `from` to the front of `to`, as many as there are and fit, at most
-// `most`, and answers how many.
+// `most`, and returns how many.
 fn copy_front(from: &[u8], to: &mut [u8], most: usize) -> usize
     ensures count { result ≡ min most (min (length to.old) (length from.now)) }
     ensures copied { take result to.new ≡ take result from.now }

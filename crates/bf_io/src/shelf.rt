@@ -30,7 +30,7 @@ pub enum LoadFault {
     /// The shelf failed. Its count of faults rose.
     #[error("the file could not be read")]
     Failed,
-    /// There is no memory for the file. All is as before.
+    /// Memory ran out. All is as before.
     #[error("out of memory")]
     NoMemory,
 }

@@ -26,7 +26,7 @@ pub enum JournalFault {
     /// The disk has the journal of another run.
     #[error("journal of another run")]
     Mismatch { kept: Oid },
-    /// There is no memory.
+    /// Memory ran out.
     #[error("out of memory")]
     NoMemory,
 }

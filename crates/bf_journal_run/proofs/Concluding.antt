@@ -8,7 +8,7 @@ use Rattle.bf_answers.specs.Ready.{IsCausedTold, IsConcluded}
 use Rattle.bf_answers.specs.SoFar.{NeverRefuses}
 use Rattle.bf_answers.specs.Writes.{IsWritten}
 use Rattle.bf_commands.specs.Journal.{AreImages, AreImagesOf, Continues, DiskMet, IsJournalled, IsKeptIn, IsLeftAlone, IsOpenedAt, IsOpenedTold, IsRunKept, MayBePut, Opens, identity_of, journal_fault}
-use Rattle.bf_commands.specs.Journal.Opened.{Other, Failed}
+use Rattle.bf_commands.specs.Journal.OpenedJournal.{Other, Failed}
 use Rattle.bf_farm.proofs.Asked.{rose_since}
 use Rattle.bf_state.specs.Ends.{HasEnds}
 use Rattle.bf_history.specs.Meanings.{History}

@@ -2,7 +2,7 @@
 use Rattle.std.proofs.Common.{◌≡◌, ⊎_elim, ◌⊎◌, inl, inr, ℕ, ◌≤◌, List, length, Option, Some, None, IfSome, Result, Ok, Err, IfOk, refl, subst, sym}
 use Rattle.bf_answers.specs.declared.answer.Answer.{Answer}
 use Rattle.bf_answers.specs.declared.answer.Fault.{Fault}
-use Rattle.bf_answers.specs.declared.line.Line.{Line}
+use Rattle.bf_answers.specs.declared.line.RequestLine.{RequestLine}
 use Rattle.bf_answers.specs.declared.started.Ready.{Ready}
 use Rattle.bf_answers.specs.declared.started.Ready.TheVariants.{Told as ToldAnswer, Search}
 use Rattle.bf_answers.specs.declared.started.Started.{Started}
@@ -74,7 +74,7 @@ held_images disk identity history tested found table opened images = at disk.bef
 
 -- ---- what is ready
 
-begins_behind : (replay : Option ℕ) (line : Line) (files : Option (List ShelfFile)) (history : History) (started : Started)
+begins_behind : (replay : Option ℕ) (line : RequestLine) (files : Option (List ShelfFile)) (history : History) (started : Started)
     → IsBegunBehind replay line files history (Search started)
     → BeginsBehind replay line.request.now line.words.now files started.history (begun_of started.first)
 begins_behind None line files history started (begun, same) =
@@ -84,19 +84,19 @@ begins_behind (Some i) line (Some files) history started (file, at, (begun, same
     subst (λ (h : History). BeginsBehind (Some i) line.request.now line.words.now (Some files) h (begun_of started.first)) (sym same)
     (subst (λ (f : Result (List ℕ) LoadFault). begun_with_skips line.request.now line.words.now (Some f) history ≡ Ok (begun_of started.first)) at begun)
 
-begins_loaded : (line : Line) (files : Option (List ShelfFile)) (result : Result History ImportFault) (started : Started)
+begins_loaded : (line : RequestLine) (files : Option (List ShelfFile)) (result : Result History ImportFault) (started : Started)
     → IsBegunLoaded line files result (Search started)
     → BeginsBehind line.request.now.replay line.request.now line.words.now files started.history (begun_of started.first)
 begins_loaded line files (Ok history) started begun = begins_behind line.request.now.replay line files history started begun
 begins_loaded line files (Err fault) started begun = absurd begun
 
-begins : (line : Line) (files : Option (List ShelfFile)) (left : Option (List ℕ)) (started : Started) → IsBegunStream line files left (Search started)
+begins : (line : RequestLine) (files : Option (List ShelfFile)) (left : Option (List ℕ)) (started : Started) → IsBegunStream line files left (Search started)
     → IfSome left (λ _. BeginsBehind line.request.now.replay line.request.now line.words.now files started.history (begun_of started.first))
 begins line files None started begun = tt
 begins line files (Some bytes) started (result, loads, begun) = begins_loaded line files result started begun
 
 -- by the words, what is ready is held so
-pub held_ready : {J : Type 0} (by : Ghosts J) (old new : J) (line : Line) (files : Option (List ShelfFile)) (left : Option (List ℕ)) (ready : Result Ready Fault)
+pub held_ready : {J : Type 0} (by : Ghosts J) (old new : J) (line : RequestLine) (files : Option (List ShelfFile)) (left : Option (List ℕ)) (ready : Result Ready Fault)
     (answers : List Answered) → IfOk ready (IsBegunStream line files left) → IfOk ready (IsReadFrom left) → IsHeldReady by old new line ready answers
     → IsHeldBy by old new (Ok line.request.now) line.words.now left files answers
 held_ready by old new line files left (Ok (Search started)) answers begun read held =

@@ -6,7 +6,7 @@ use Rattle.bf_answers.specs.Answers.{Answers, IsBeforeSearch, IsUnread, IsUnload
 use Rattle.bf_answers.specs.declared.answer.Answer.{Answer}
 use Rattle.bf_answers.specs.declared.answer.Fault.{Fault}
 use Rattle.bf_answers.specs.declared.answer.Fault.TheVariants.{Read, Shelf, NoMemory}
-use Rattle.bf_answers.specs.declared.line.Line.{Line}
+use Rattle.bf_answers.specs.declared.line.RequestLine.{RequestLine}
 use Rattle.bf_answers.specs.declared.started.Ready.{Ready}
 use Rattle.bf_answers.specs.declared.started.Ready.TheVariants.{Told as ToldAnswer, Search}
 use Rattle.bf_answers.specs.Devices.{Met, HasFailed, SinkMet, TesterMet, given_in}
@@ -39,7 +39,7 @@ use Rattle.bf_begin.proofs.Opening.{ready_told}
 reads_run : (verb : Verb) → verb ≡ Run → IsTrue (reads_stream verb)
 reads_run verb run = subst (λ (v : Verb). IsTrue (reads_stream v)) (sym run) refl
 
-module _ (met : Met) (disk : DiskMet) (line : Line) (result : Status) (same : line.words.now ≡ met.words) (read : request_to_journal met.words ≡ Ok line.request.now)
+module _ (met : Met) (disk : DiskMet) (line : RequestLine) (result : Status) (same : line.words.now ≡ met.words) (read : request_to_journal met.words ≡ Ok line.request.now)
     (run : line.request.now.verb ≡ Run) where
   pub unread : HasFailed met.source.faults → IsUnread (to_journal met disk) met
   unread failed = (subst (λ (r : Result Request ℕ). IsTrue (reads r)) (sym read) (reads_run line.request.now.verb run), failed)
@@ -78,7 +78,7 @@ module _ (met : Met) (disk : DiskMet) (line : Line) (result : Status) (same : li
       (subst (λ (b : Bool). Concludes b (TellsReady disk line.request.now line.words.now met.tester.after) met.tester ready met.sink result) tests_run told)
 
 -- what the tester remembers is what the journal of the words kept
-pub recalled : (disk : DiskMet) (line : Line) (ready : Result Ready Fault) (left : Option (List ℕ)) (answers remembered : List Answered)
+pub recalled : (disk : DiskMet) (line : RequestLine) (ready : Result Ready Fault) (left : Option (List ℕ)) (answers remembered : List Answered)
     → IsRecalledReady disk line ready answers remembered → IfOk ready (IsReadFrom left)
     → IsRecalledBy disk (Ok line.request.now) line.words.now left answers remembered
 recalled disk line (Err fault) left answers remembered none read = λ some. absurd (some none)

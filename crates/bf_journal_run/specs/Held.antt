@@ -1,7 +1,7 @@
 -- What a crash leaves on the disk of a journal, with whatever status the call ends.
 use Rattle.std.specs.Prelude.{◌≡◌, ◌⊎◌, ℕ, List, length, Option, Some, None, IfSome, Result, Ok, Err}
 use Rattle.bf_answers.specs.declared.answer.Fault.{Fault}
-use Rattle.bf_answers.specs.declared.line.Line.{Line}
+use Rattle.bf_answers.specs.declared.line.RequestLine.{RequestLine}
 use Rattle.bf_answers.specs.declared.started.Ready.{Ready}
 use Rattle.bf_answers.specs.declared.started.Ready.TheVariants.{Told as ToldAnswer, Search}
 use Rattle.bf_commands.specs.Journal.{Continues, DiskMet, MayBePut, identity_of}
@@ -37,11 +37,11 @@ abbrev pub IsHeld : DiskMet → Request → List (List ℕ) → History → List
 IsHeld disk request words history answers =
     IfSome disk.before (AreHeld disk (identity_of history request words) (length history.names) (MayBePut history.names answers))
 
-abbrev pub IsHeldIn : DiskMet → Line → History → List Answered → Type 0
+abbrev pub IsHeldIn : DiskMet → RequestLine → History → List Answered → Type 0
 IsHeldIn disk line history answers = IsHeld disk line.request.now line.words.now history answers
 
 -- the disk is as it was, unless a search has begun
-abbrev pub IsHeldReady : {J : Type 0} → Ghosts J → J → J → Line → Result Ready Fault → List Answered → Type 0
+abbrev pub IsHeldReady : {J : Type 0} → Ghosts J → J → J → RequestLine → Result Ready Fault → List Answered → Type 0
 IsHeldReady by before after line (Ok (Search started)) answers = IsHeldIn (met_disk by before after) line started.history answers
 IsHeldReady by before after line (Ok (ToldAnswer answer)) answers = after ≡ before
 IsHeldReady by before after line (Err fault) answers = after ≡ before

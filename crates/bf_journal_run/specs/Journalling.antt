@@ -4,12 +4,12 @@ use Rattle.bf_answers.specs.Answers.{Command, asking}
 use Rattle.bf_answers.specs.Devices.{Met, SinkMet, TesterMet, given_in}
 use Rattle.bf_answers.specs.Ready.{Concludes}
 use Rattle.bf_answers.specs.declared.answer.Fault.{Fault}
-use Rattle.bf_answers.specs.declared.line.Line.{Line}
+use Rattle.bf_answers.specs.declared.line.RequestLine.{RequestLine}
 use Rattle.bf_answers.specs.declared.started.Ready.{Ready}
 use Rattle.bf_answers.specs.declared.started.Ready.TheVariants.{Told as ToldAnswer, Search}
 use Rattle.bf_begin.specs.Opening.{IsReadyTold}
 use Rattle.bf_commands.specs.Journal.{DiskMet, IsJournalOutput, IsJournalled, Opens, identity_of, request_to_journal}
-use Rattle.bf_commands.specs.Journal.Opened.{Kept}
+use Rattle.bf_commands.specs.Journal.OpenedJournal.{Kept}
 use Rattle.bf_grammar.specs.Limits.{standard_limits}
 use Rattle.bf_history.specs.Imports.{MayImport}
 use Rattle.bf_history.specs.Meanings.{History}
@@ -52,12 +52,12 @@ abbrev pub TellsReady : DiskMet → Request → List (List ℕ) → TesterShown 
 TellsReady disk request words tested ready told = IsReadyTold (IsJournalled disk request words tested) ready told
 
 -- What is ready was told, or a front of it; or the line of what stood in its way was written, and nothing was tested.
-abbrev pub ConcludesReady : DiskMet → Line → TesterMet → Result Ready Fault → SinkMet → Status → Type 0
+abbrev pub ConcludesReady : DiskMet → RequestLine → TesterMet → Result Ready Fault → SinkMet → Status → Type 0
 ConcludesReady disk line tester ready sink result =
     Concludes true (TellsReady disk line.request.now line.words.now tester.after) tester ready sink result
 
 -- where an answer was given, the tester remembers what the journal of the search kept
-abbrev pub IsRecalledReady : DiskMet → Line → Result Ready Fault → List Answered → List Answered → Type 0
+abbrev pub IsRecalledReady : DiskMet → RequestLine → Result Ready Fault → List Answered → List Answered → Type 0
 IsRecalledReady disk line (Ok (Search started)) answers remembered = IsRecalledIn disk line started.history answers remembered
 IsRecalledReady disk line (Ok (ToldAnswer answer)) answers remembered = answers ≡ []
 IsRecalledReady disk line (Err fault) answers remembered = answers ≡ []

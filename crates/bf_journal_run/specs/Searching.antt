@@ -2,14 +2,14 @@
 use Rattle.std.specs.Prelude.{◌≡◌, ◌≢◌, List, [], length, Option, true, Result, Ok, Err, codes}
 use Rattle.bf_answers.specs.Answers.{IsBeforeSearch}
 use Rattle.bf_answers.specs.declared.answer.Answer.{Answer}
-use Rattle.bf_answers.specs.declared.line.Line.{Line}
+use Rattle.bf_answers.specs.declared.line.RequestLine.{RequestLine}
 use Rattle.bf_answers.specs.declared.started.Started.{Started}
 use Rattle.bf_answers.specs.Devices.{SinkMet, TesterMet}
 use Rattle.bf_answers.specs.Ready.{IsCausedTold, IsConcluded}
 use Rattle.bf_answers.specs.Tellings.{begun_of}
 use Rattle.bf_answers.specs.Writes.{IsWritten}
 use Rattle.bf_commands.specs.Journal.{DiskMet, IsJournalled, Opens, identity_of}
-use Rattle.bf_commands.specs.Journal.Opened.{Kept}
+use Rattle.bf_commands.specs.Journal.OpenedJournal.{Kept}
 use Rattle.bf_history.specs.Meanings.{History}
 use Rattle.bf_io.specs.Told.{Keeps}
 use Rattle.bf_oid.specs.declared.object.Oid.{Oid}
@@ -29,19 +29,19 @@ SaysKept (Err Output) sink result = (result ≡ status.WriteFault) × Keeps sink
 SaysKept (Err NoMemory) sink result = (result ≡ status.NoMemory) × Keeps sink.before sink.after
 
 -- what the journal makes of the search of a line was written, or a front of it; or memory ran out before all
-abbrev pub ConcludesKept : DiskMet → Line → Started → TesterMet → SinkMet → Status → Type 0
+abbrev pub ConcludesKept : DiskMet → RequestLine → Started → TesterMet → SinkMet → Status → Type 0
 ConcludesKept disk line started tester sink result =
     IsConcluded
     (IsCausedTold true tester (IsJournalled disk line.request.now line.words.now tester.after started.history (begun_of started.first)))
     sink.before sink.after result
 
 -- where an answer was given, the tester remembers what the journal kept when it was opened
-pub record IsRecalledKept (disk : DiskMet) (line : Line) (history : History) (remembered : List Answered) : Type 0 where
+pub record IsRecalledKept (disk : DiskMet) (line : RequestLine) (history : History) (remembered : List Answered) : Type 0 where
   pub kept : List (Option Outcome)
   pub opened : Opens disk (identity_of history line.request.now line.words.now) (length history.names) (Kept kept)
   pub recalled : remembered ≡ answers_of history.names kept
 
-abbrev pub IsRecalledIn : DiskMet → Line → History → List Answered → List Answered → Type 0
+abbrev pub IsRecalledIn : DiskMet → RequestLine → History → List Answered → List Answered → Type 0
 IsRecalledIn disk line history answers remembered = answers ≢ [] → IsRecalledKept disk line history remembered
 
 -- ---- the statuses before a search

@@ -17,7 +17,7 @@ ghost use Rattle.bf_words.specs.declared.verb.Verb.TheVariants.{Run};
 
 use crate::search::search;
 use crate::words::read_line;
-use bf_answers::{Fault, Line, Means, Ready, say_answer, word_refusal};
+use bf_answers::{Fault, Means, Ready, RequestLine, say_answer, word_refusal};
 use bf_begin::open_search;
 use bf_io::{Shelf, Sink, Source, Word};
 use bf_journal::{Disk, Recall};
@@ -63,7 +63,8 @@ pub fn journal<R: Host, S: Source, F: Shelf, T: Tester, J: Disk, K: Sink>(
     ensures file { result ≡ Status.ShelfFault → Rose (F.faults shelf.old) (F.faults shelf.new) }
     ensures write { result ≡ Status.WriteFault → Rose (K.faults out.old) (K.faults out.new) }
     ensures disk { result ≡ Status.JournalFault
-        → IsTrue (reads (request_to_journal words.now)) × Rose (J.faults disk.old) (J.faults disk.new) }
+        → IsTrue (reads (request_to_journal words.now))
+        × Rose (J.faults disk.old) (J.faults disk.new) }
     ensures test { HasTestCause (tests (request_to_journal words.now))
         (met_tester ⟦<Recall<T> as Tester>⟧ tester.old tester.new) result }
     // How the tester is used, and what it remembers.
@@ -90,7 +91,7 @@ pub fn journal<R: Host, S: Source, F: Shelf, T: Tester, J: Disk, K: Sink>(
 {
     match read_line(alloc, words) {
         Ok(request) => {
-            let line = Line {
+            let line = RequestLine {
                 alloc,
                 request: &request,
                 words,
@@ -102,10 +103,10 @@ pub fn journal<R: Host, S: Source, F: Shelf, T: Tester, J: Disk, K: Sink>(
     }
 }
 
-/// Tests, keeps and writes what a line asks for, or writes the line of what stands in its way, and gives the status.
+/// Tests, keeps and writes what a line asks for, or writes the line of what stands in its way, and returns the status.
 fn conclude<R: Host, T: Tester, J: Disk, K: Sink>(
     rt: &R,
-    line: Line<'_>,
+    line: RequestLine<'_>,
     ready: Result<Ready, Fault>,
     tester: &mut Recall<T>,
     disk: &mut J,

@@ -6,7 +6,7 @@ ghost use Rattle.bf_answers.specs.Devices.{KeepsManner, met_sink, met_tester};
 ghost use Rattle.bf_answers.specs.Ready.{IsStarted};
 ghost use Rattle.bf_answers.specs.Tellings.{begun_of};
 ghost use Rattle.bf_commands.specs.Journal.{IsLeftAlone, Opens, identity_of};
-ghost use Rattle.bf_commands.specs.Journal.{Opened as opened};
+ghost use Rattle.bf_commands.specs.Journal.{OpenedJournal as opened};
 ghost use Rattle.bf_io.specs.Causes.{FailsOnlyAt, Rose};
 ghost use Rattle.bf_journal.specs.Disk.{LeavesOnly};
 ghost use Rattle.bf_journal.specs.Journal.{Fits, IsAsOpened};
@@ -21,7 +21,7 @@ ghost use Rattle.bf_journal.specs.Recalling.{remembering};
 use crate::cut::Cut;
 use crate::keep::kept_answers;
 use crate::legs::go_through;
-use bf_answers::{Answer, Line, Started, say};
+use bf_answers::{Answer, RequestLine, Started, say};
 use bf_import::History;
 use bf_io::Sink;
 use bf_journal::{Disk, Journal, JournalFault, Recall, run_identity};
@@ -32,7 +32,7 @@ use bf_tester::{Host, Tester};
 
 /// Opens the journal of a run, and makes it where there is none.
 fn open_journal<J: Disk>(
-    line: Line<'_>,
+    line: RequestLine<'_>,
     history: &History,
     disk: &mut J,
 ) -> Result<Journal, JournalFault>
@@ -71,7 +71,7 @@ fn open_journal<J: Disk>(
 /// Tests and keeps what a search asks for that has begun. The answer is what is left to write.
 fn run_kept<R: Host, T: Tester, J: Disk, K: Sink>(
     rt: &R,
-    line: Line<'_>,
+    line: RequestLine<'_>,
     started: Started,
     tester: &mut Recall<T>,
     journal: Journal,
@@ -118,7 +118,7 @@ fn run_kept<R: Host, T: Tester, J: Disk, K: Sink>(
 /// Tests and keeps what a search asks for: the tester first remembers what the journal kept, and takes the command.
 fn search_kept<R: Host, T: Tester, J: Disk, K: Sink>(
     rt: &R,
-    line: Line<'_>,
+    line: RequestLine<'_>,
     started: Started,
     tester: &mut Recall<T>,
     journal: Journal,
@@ -154,7 +154,7 @@ fn search_kept<R: Host, T: Tester, J: Disk, K: Sink>(
     run_kept(rt, line, started, tester, journal, disk, out)
 }
 
-/// Writes the answer of a kept run, or what cut it short, and gives the status.
+/// Writes the answer of a kept run, or what cut it short, and returns the status.
 fn say_kept<K: Sink>(out: &mut K, answer: Result<Answer, Cut>) -> Status
     requires whole { IfOk answer (λ a. a.status ≢ Status.WriteFault) }
     ensures told { SaysKept answer (met_sink K.Sink out.old out.new) result }
@@ -170,10 +170,10 @@ fn say_kept<K: Sink>(out: &mut K, answer: Result<Answer, Cut>) -> Status
     }
 }
 
-/// Opens the journal of a search, tests and keeps what it asks for, writes what it tells, and gives its status.
+/// Opens the journal of a search, tests and keeps what it asks for, writes what it tells, and returns its status.
 pub(crate) fn search<R: Host, T: Tester, J: Disk, K: Sink>(
     rt: &R,
-    line: Line<'_>,
+    line: RequestLine<'_>,
     started: Started,
     tester: &mut Recall<T>,
     disk: &mut J,

@@ -16,7 +16,7 @@ pub enum ServeFault {
     /// The sink failed.
     #[error("the sink failed")]
     Write,
-    /// There is no memory for a line or a reply; or there were more lines, or pieces of one, than can be counted.
+    /// Memory ran out; or there were more lines, or pieces of one, than can be counted.
     #[error("out of memory")]
     NoMemory,
 }

@@ -68,7 +68,7 @@ impl Lines {
         Ok(Lines { buf, start: 0, end })
     }
 
-    /// Reads the next line into `line`, without its LF, and tells whether it is short; of a long one `line` is left
+    /// Reads the next line into `line`, without its LF, and returns whether it is short; of a long one `line` is left
     /// empty. `None` comes where no LF is left: the bytes of a torn line are then dropped. Where a whole line is held,
     /// nothing is read of the source, and no read is waited for that the line does not need. After a fault at most a
     /// front of the line in front is lost.
@@ -83,7 +83,8 @@ impl Lines {
         ensures held { IsTrue (list_any is_end self.old) → source.new ≡ source.old }
         ensures lost { let all = told self.old (S.left source.old) in
             OnErr result (Loses all (told self.new (S.left source.new))) }
-        ensures cause { FailsOnlyAt ServeFault.Read (S.faults source.old) (S.faults source.new) result }
+        ensures cause { FailsOnlyAt ServeFault.Read
+            (S.faults source.old) (S.faults source.new) result }
         ensures no_write { IsErrOf result ServeFault.Write → ⊥ }
     {
         line.clear();
@@ -154,7 +155,7 @@ impl Lines {
         self.start += behind(size, held);
     }
 
-    /// Goes behind the line in front, however long it is, and tells whether it ended: where no LF is left, all is
+    /// Goes behind the line in front, however long it is, and returns whether it ended: where no LF is left, all is
     /// dropped. A line in more pieces than a number of 64 bits counts is taken for want of memory.
     fn pass_line<S: Source>(&mut self, source: &mut S) -> Result<bool, ServeFault>
         ensures passes { let all = told self.old (S.left source.old) in
@@ -162,7 +163,8 @@ impl Lines {
         ensures lost { let all = told self.old (S.left source.old) in
             OnErr result (Loses all (told self.new (S.left source.new))) }
         ensures held { IsTrue (list_any is_end self.old) → source.new ≡ source.old }
-        ensures cause { FailsOnlyAt ServeFault.Read (S.faults source.old) (S.faults source.new) result }
+        ensures cause { FailsOnlyAt ServeFault.Read
+            (S.faults source.old) (S.faults source.new) result }
         ensures no_write { IsErrOf result ServeFault.Write → ⊥ }
     {
         'pieces: for _ in 0..u64::MAX {
@@ -181,7 +183,7 @@ impl Lines {
         Err(ServeFault::NoMemory)
     }
 
-    /// Reads once from the source, behind the bytes that are held, and answers how many bytes came.
+    /// Reads once from the source, behind the bytes that are held, and returns how many bytes came.
     fn fill<S: Source>(&mut self, source: &mut S) -> Result<usize, Failed>
         requires { length self.old < 65536 }
         ensures bytes { Fills self.old self.new (S.left source.old) (S.left source.new) result }

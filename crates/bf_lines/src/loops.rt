@@ -35,7 +35,8 @@ pub fn serve_lines<S: Source, K: Sink, B, A: Answers<B>>(
     ensures front { let input = told held (S.left source.old) in
         OnErr result (ServesFront A.says input (answers.old, beside.old)
         (K.held sink.old) (K.held sink.new)) }
-    ensures source { FailsOnlyAt ServeFault.Read (S.faults source.old) (S.faults source.new) result }
+    ensures source { FailsOnlyAt ServeFault.Read
+        (S.faults source.old) (S.faults source.new) result }
     ensures sink { FailsOnlyAt ServeFault.Write (K.faults sink.old) (K.faults sink.new) result }
 {
     let mut lines = Lines::new(held)?;

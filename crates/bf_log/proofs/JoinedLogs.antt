@@ -23,12 +23,12 @@ use Rattle.bf_log.proofs.Replaying.{replay_retold}
 
 -- ---- lines
 
-record Begun (lines : List (List ℕ)) : Type 0 where
+record BegunLines (lines : List (List ℕ)) : Type 0 where
   first : List ℕ
   others : List (List ℕ)
   is : lines ≡ first ∷ others
 
-add_begun : (b : ℕ) (lines more : List (List ℕ)) → Begun lines → add_byte b (lines ++ more) ≡ add_byte b lines ++ more
+add_begun : (b : ℕ) (lines more : List (List ℕ)) → BegunLines lines → add_byte b (lines ++ more) ≡ add_byte b lines ++ more
 add_begun b lines more h =
     ap (λ (ls : List (List ℕ)). add_byte b (ls ++ more)) h.is
     ∙ by_end (b == 10)
@@ -39,15 +39,15 @@ add_begun b lines more h =
     by_end true = refl
     by_end false = refl
 
-begun_by : (b : ℕ) (lines : List (List ℕ)) → Begun (add_byte b lines)
+begun_by : (b : ℕ) (lines : List (List ℕ)) → BegunLines (add_byte b lines)
 begun_by b lines = by_end (b == 10) lines
   where
-    by_end : (e : Bool) (ls : List (List ℕ)) → Begun (cond e ([] ∷ ls) (begin_with b ls))
+    by_end : (e : Bool) (ls : List (List ℕ)) → BegunLines (cond e ([] ∷ ls) (begin_with b ls))
     by_end true ls = record { first = []; others = ls; is = refl }
     by_end false [] = record { first = b ∷ []; others = []; is = refl }
     by_end false (l ∷ ls) = record { first = b ∷ l; others = ls; is = refl }
 
-whole_begun : (x : List ℕ) → Begun (lines_of (x ++ 10 ∷ []))
+whole_begun : (x : List ℕ) → BegunLines (lines_of (x ++ 10 ∷ []))
 unfolding lines_of
 whole_begun [] = record { first = []; others = []; is = refl }
 whole_begun (b ∷ bs) = begun_by b (lines_of (bs ++ 10 ∷ []))

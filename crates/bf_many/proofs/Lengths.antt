@@ -9,7 +9,7 @@ use Rattle.bf_search.specs.declared.outcomes.Outcome.{Outcome}
 use Rattle.bf_search.specs.Farm.{Farm, Setting, step}
 use Rattle.bf_core.specs.Machine.{Machine}
 use Rattle.bf_many.specs.declared.answers.ManyEvent.{ManyEvent}
-use Rattle.bf_many.specs.declared.search.Search.{Search}
+use Rattle.bf_many.specs.declared.search.ReadySearch.{ReadySearch}
 use Rattle.bf_many.specs.Many.{FarmMachine, Leads}
 use Rattle.bf_many.specs.Cores.{CanStart, machines_of, starts_of}
 
@@ -42,7 +42,7 @@ leads_long (e ∷ events) old new leads =
     ∙ ap (λ (l : List FarmMachine). map long l) a.rest
     ∙ set_long old e.search a.own (record a.own { farm = a.farm }) a.at (step_long a.own.setting a.own.farm a.farm e.event a.legal)
 
-starts_long : (graph : List (List ℕ)) (searches : List Search) (n : ℕ) → All (CanStart n) searches → All (λ m. m ≡ n) (map long (starts_of graph searches))
+starts_long : (graph : List (List ℕ)) (searches : List ReadySearch) (n : ℕ) → All (CanStart n) searches → All (λ m. m ≡ n) (map long (starts_of graph searches))
 starts_long graph [] n each = λ k d l. absurd (omega (arith, l))
 starts_long graph (s ∷ searches) n each =
     let here = All-head (CanStart n) s searches each in
@@ -58,7 +58,7 @@ tables_long (core ∷ cores) n each =
     (tables_long cores n (All-tail (λ m. m ≡ n) (length core.table) (map long (machines_of cores)) each))
 
 -- so each table has an outcome or none for each place
-pub long_after : (graph : List (List ℕ)) (searches : List Search) (cores : List Machine) (tables : List (List (Option Outcome))) (events : List ManyEvent)
+pub long_after : (graph : List (List ℕ)) (searches : List ReadySearch) (cores : List Machine) (tables : List (List (Option Outcome))) (events : List ManyEvent)
     → All (CanStart (length graph)) searches → Leads (starts_of graph searches) events (machines_of cores)
     → tables ≡ map (λ (core : Machine). core.table) cores → All (λ t. length t ≡ length graph) tables
 long_after graph searches cores tables events each leads are =

@@ -14,7 +14,7 @@ use Rattle.bf_core.specs.Machine.{setting_of, farm_of}
 use Rattle.bf_many.specs.declared.answers.ManyEvent.{ManyEvent}
 use Rattle.bf_many.specs.declared.answers.ManyPick.{ManyPick}
 use Rattle.bf_many.specs.declared.answers.ManyPick.TheVariants.{Work, NotYet, Ended}
-use Rattle.bf_many.specs.declared.search.Search.{Search}
+use Rattle.bf_many.specs.declared.search.ReadySearch.{ReadySearch}
 use Rattle.bf_many.specs.Many.{FarmMachine, IsManyStep, has_place}
 
 -- the farm machine of a core
@@ -25,17 +25,17 @@ abbrev pub machines_of : List Machine → List FarmMachine
 machines_of cores = map machine_of cores
 
 -- a search at its start: without claims, and without legs
-abbrev pub start_of : List (List ℕ) → Search → FarmMachine
+abbrev pub start_of : List (List ℕ) → ReadySearch → FarmMachine
 start_of graph s = record {
   setting = record { graph = graph; start = s.state.search; leg = 0 };
   farm = record { table = s.table; claims = [] };
 }
 
-abbrev pub starts_of : List (List ℕ) → List Search → List FarmMachine
+abbrev pub starts_of : List (List ℕ) → List ReadySearch → List FarmMachine
 starts_of graph searches = map (start_of graph) searches
 
 -- what a search needs: its state and its table have so many places, and both of its ends are known
-pub record CanStart (places : ℕ) (s : Search) : Type 0 where
+pub record CanStart (places : ℕ) (s : ReadySearch) : Type 0 where
   pub state : places ≡ s.state.len
   pub table : length s.table ≡ s.state.len
   pub ends : HasEnds s.state.search

@@ -23,4 +23,4 @@ pub use answers::{Held, ManyEvent, ManyPick};
 pub use laws::{searches_run_alone, the_fewest_claims_go_before, workers_have_one_claim};
 pub use many::ManyCore;
 pub use run::{ManyCase, Shared, run_shared};
-pub use search::Search;
+pub use search::ReadySearch;

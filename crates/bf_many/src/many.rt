@@ -12,7 +12,7 @@ ghost use Rattle.bf_many.specs.Cores.{IsFreeIn, KeepsGuessesAt, LearnsAt, Picks,
 use crate::answers::{Held, ManyEvent, ManyPick};
 use crate::held::held_by;
 use crate::next::{apply, is_busy, pick};
-use crate::search::Search;
+use crate::search::ReadySearch;
 use crate::wanted::wanting;
 use bf_core::{Core, Withdrawn};
 use bf_reach::Reach;
@@ -49,7 +49,7 @@ impl<'r> ManyCore<'r> {
     pub fn start(
         alloc: Global,
         reach: &'r Reach,
-        searches: Vec<Search>,
+        searches: Vec<ReadySearch>,
     ) -> Result<ManyCore<'r>, AllocError>
         requires few { length searches.items ≤ 64 }
         requires each { All (CanStart (length reach.now)) searches.items }
@@ -59,7 +59,7 @@ impl<'r> ManyCore<'r> {
     {
         let mut cores = Vec::new(alloc);
         for search in searches {
-            let Search { state, table } = search;
+            let ReadySearch { state, table } = search;
             let core = Core::start(alloc, reach, state, table, 0)?;
             cores.push(core)?;
         }
@@ -68,7 +68,12 @@ impl<'r> ManyCore<'r> {
 
     /// Adds a search, which joins behind the others: its core has consumed its table. After an error all is as
     /// before.
-    pub fn add(&mut self, alloc: Global, reach: &'r Reach, search: Search) -> Result<(), AllocError>
+    pub fn add(
+        &mut self,
+        alloc: Global,
+        reach: &'r Reach,
+        search: ReadySearch,
+    ) -> Result<(), AllocError>
         requires few { length self.old < 64 }
         requires can { CanStart (length reach.now) search }
         ensures added { OnOk result
@@ -76,7 +81,7 @@ impl<'r> ManyCore<'r> {
         ensures consumed { OnOk result (All IsConsumed self.new) }
         ensures err { OnErr result (self.new ≡ self.old) }
     {
-        let Search { state, table } = search;
+        let ReadySearch { state, table } = search;
         let core = Core::start(alloc, reach, state, table, 0)?;
         self.cores.push(core)?;
         Ok(())

@@ -9,7 +9,7 @@ use crate::answers::ManyEvent;
 use crate::board::Board;
 use crate::many::ManyCore;
 use crate::replay::{MOST_SEARCHES, Replayed, replay};
-use crate::search::Search;
+use crate::search::ReadySearch;
 use crate::share::{lowered, run_workers, split_all};
 use crate::worker::Worker;
 use bf_oid::Oid;
@@ -26,7 +26,7 @@ pub struct ManyCase<'r> {
     /// The names of the commits, by place.
     pub names: &'r [Oid],
     /// The searches, of which there are at most 64.
-    pub searches: Vec<Search>,
+    pub searches: Vec<ReadySearch>,
 }
 
 /// What shared workers came to.
@@ -46,7 +46,7 @@ struct Team<T: Drop> {
 }
 
 /// Equal searches.
-fn copies_of(alloc: Global, searches: &[Search]) -> Result<Vec<Search>, AllocError>
+fn copies_of(alloc: Global, searches: &[ReadySearch]) -> Result<Vec<ReadySearch>, AllocError>
     ensures { IfOk result (λ copies. copies.items ≡ searches.now) }
 {
     let mut copies = Vec::new(alloc);

@@ -24,9 +24,9 @@ use Rattle.bf_tester.specs.declared.tester.Tester.{Ghosts}
 use Rattle.bf_terms.specs.Texts.{Known, answer_lines, log_from}
 use Rattle.bf_words.specs.declared.request.Request.{Request}
 use Rattle.bf_words.specs.Words.{request}
-use Rattle.bf_many_run.specs.declared.begun.Begun.{Begun}
-use Rattle.bf_many_run.specs.declared.begun.Slot.{Slot}
-use Rattle.bf_many_run.specs.declared.begun.Slot.TheVariants.{Refused, Begun as BegunSlot}
+use Rattle.bf_many_run.specs.declared.slots.BegunSearch.{BegunSearch}
+use Rattle.bf_many_run.specs.declared.slots.ListSlot.{ListSlot}
+use Rattle.bf_many_run.specs.declared.slots.ListSlot.TheVariants.{Refused, Begun as BegunSlot}
 use Rattle.bf_many_run.specs.declared.list.ListLine.{ListLine}
 use Rattle.bf_many_run.specs.Lists.{IsAskedBy, words_in}
 use Rattle.bf_many_run.specs.Groups.{AreBegun, AreSearchesOf, IsBegunAs, IsBegunBy, all_told, plan_in, told_from, told_over}
@@ -57,7 +57,7 @@ searched_begun history words r first asked begins =
     ap (told_of_asked history words) asked ∙ ap (told_begun_so history r words) begins
 
 -- the run behind the first lines of a log
-run_behind : (history : History) (first : Beginning) (begun : Begun) (run : Run) → IsBegunAs history first begun
+run_behind : (history : History) (first : Beginning) (begun : BegunSearch) (run : Run) → IsBegunAs history first begun
     → told_from history begun run ≡ ran history (begun_of first) run
 run_behind history first begun run is =
     let commits = commits_of history in
@@ -77,7 +77,7 @@ one_longer xs ys x y e = length-append xs (x ∷ []) ∙ ap (λ (n : ℕ). n + 1
 
 module _ {T : Type 0} (by : Ghosts T) where
   -- a search that has begun tells what its line asks for
-  pub tells_asked : (history : History) (words : List (List ℕ)) (r : Request) (first : Beginning) (begun : Begun) (tester : T) → request words ≡ Ok r
+  pub tells_asked : (history : History) (words : List (List ℕ)) (r : Request) (first : Beginning) (begun : BegunSearch) (tester : T) → request words ≡ Ok r
       → begun_with_skips r words None history ≡ Ok (begun_of first) → IsBegunAs history first begun → by.told tester ≡ Some (plan_of r words)
       → told_over history begun (plan_in by tester) ≡ searched history words
   tells_asked history words r first begun tester asked begins is told =
@@ -88,7 +88,7 @@ module _ {T : Type 0} (by : Ghosts T) where
       ∙ sym (searched_begun history words r (begun_of first) asked begins)
 
   -- it has begun
-  pub has_begun : (history : History) (words : List (List ℕ)) (r : Request) (first : Beginning) (begun : Begun) (tester : T)
+  pub has_begun : (history : History) (words : List (List ℕ)) (r : Request) (first : Beginning) (begun : BegunSearch) (tester : T)
       → IsBegunAs history first begun → first.state.len ≡ length history.parents → HasEnds first.state.search
       → by.told tester ≡ Some (plan_of r words) → by.answers tester ≡ [] → by.is_split tester ≡ false → IsBegunBy by history begun tester
   has_begun history words r first begun tester is len ends told fresh whole = record {
@@ -102,7 +102,7 @@ module _ {T : Type 0} (by : Ghosts T) where
 
   -- ---- one line more
 
-  begun_refused : (history : History) (slots : List Slot) (testers : List T) (answer : Answer) → AreBegun by history slots testers
+  begun_refused : (history : History) (slots : List ListSlot) (testers : List T) (answer : Answer) → AreBegun by history slots testers
       → IsWhole answer.status → AreBegun by history (slots ++ Refused answer ∷ []) testers
   begun_refused history [] [] answer are whole = (whole, tt)
   begun_refused history [] (t ∷ testers) answer are whole = absurd are
@@ -110,7 +110,7 @@ module _ {T : Type 0} (by : Ghosts T) where
   begun_refused history (BegunSlot b ∷ slots) [] answer are whole = absurd are
   begun_refused history (BegunSlot b ∷ slots) (t ∷ testers) answer are whole = (are.0, begun_refused history slots testers answer are.1 whole)
 
-  begun_more : (history : History) (slots : List Slot) (testers : List T) (begun : Begun) (tester : T) → AreBegun by history slots testers
+  begun_more : (history : History) (slots : List ListSlot) (testers : List T) (begun : BegunSearch) (tester : T) → AreBegun by history slots testers
       → IsBegunBy by history begun tester → AreBegun by history (slots ++ BegunSlot begun ∷ []) (testers ++ tester ∷ [])
   begun_more history [] [] begun tester are is = (is, tt)
   begun_more history [] (t ∷ testers) begun tester are is = absurd are
@@ -118,7 +118,7 @@ module _ {T : Type 0} (by : Ghosts T) where
   begun_more history (BegunSlot b ∷ slots) [] begun tester are is = absurd are
   begun_more history (BegunSlot b ∷ slots) (t ∷ testers) begun tester are is = (are.0, begun_more history slots testers begun tester are.1 is)
 
-  told_refused : (history : History) (slots : List Slot) (testers : List T) (answer : Answer) → AreBegun by history slots testers
+  told_refused : (history : History) (slots : List ListSlot) (testers : List T) (answer : Answer) → AreBegun by history slots testers
       → all_told by history (slots ++ Refused answer ∷ []) testers ≡ all_told by history slots testers ++ told_of answer ∷ []
   unfolding all_told
   told_refused history [] [] answer are = refl
@@ -129,7 +129,7 @@ module _ {T : Type 0} (by : Ghosts T) where
   told_refused history (BegunSlot b ∷ slots) (t ∷ testers) answer are =
       ap (λ (l : List Told). told_over history b (plan_in by t) ∷ l) (told_refused history slots testers answer are.1)
 
-  told_begun : (history : History) (slots : List Slot) (testers : List T) (begun : Begun) (tester : T) → AreBegun by history slots testers
+  told_begun : (history : History) (slots : List ListSlot) (testers : List T) (begun : BegunSearch) (tester : T) → AreBegun by history slots testers
       → all_told by history (slots ++ BegunSlot begun ∷ []) (testers ++ tester ∷ [])
       ≡ all_told by history slots testers ++ told_over history begun (plan_in by tester) ∷ []
   unfolding all_told
@@ -142,7 +142,7 @@ module _ {T : Type 0} (by : Ghosts T) where
       ap (λ (l : List Told). told_over history b (plan_in by t) ∷ l) (told_begun history slots testers begun tester are.1)
 
   -- no line is read yet
-  pub no_searches : (history : History) (slots : List Slot) (testers : List T) → slots ≡ [] → testers ≡ []
+  pub no_searches : (history : History) (slots : List ListSlot) (testers : List T) → slots ≡ [] → testers ≡ []
       → AreSearchesOf by history [] slots testers
   unfolding all_told
   no_searches history [] [] none nobody = record { begun = tt; told = refl; each = refl }
@@ -150,11 +150,11 @@ module _ {T : Type 0} (by : Ghosts T) where
   no_searches history (s ∷ slots) testers none nobody = cc none
 
   -- a line is refused
-  pub search_refused : (history : History) (lines : List (List (List ℕ))) (words : List (List ℕ)) (slots now : List Slot) (testers : List T)
+  pub search_refused : (history : History) (lines : List (List (List ℕ))) (words : List (List ℕ)) (slots now : List ListSlot) (testers : List T)
       (answer : Answer) → AreSearchesOf by history lines slots testers → now ≡ slots ++ Refused answer ∷ [] → IsWhole answer.status
       → told_of answer ≡ searched history words → AreSearchesOf by history (lines ++ words ∷ []) now testers
   search_refused history lines words slots now testers answer are pushed whole tells =
-      subst (λ (l : List Slot). AreSearchesOf by history (lines ++ words ∷ []) l testers) (sym pushed) (record {
+      subst (λ (l : List ListSlot). AreSearchesOf by history (lines ++ words ∷ []) l testers) (sym pushed) (record {
         begun = begun_refused history slots testers answer are.begun whole;
         told = told_refused history slots testers answer are.begun
             ∙ ap (λ (l : List Told). l ++ told_of answer ∷ []) are.told
@@ -164,12 +164,12 @@ module _ {T : Type 0} (by : Ghosts T) where
       })
 
   -- a search has begun
-  pub search_begun : (history : History) (lines : List (List (List ℕ))) (words : List (List ℕ)) (slots now : List Slot) (testers later : List T)
-      (begun : Begun) (tester : T) → AreSearchesOf by history lines slots testers → now ≡ slots ++ BegunSlot begun ∷ []
+  pub search_begun : (history : History) (lines : List (List (List ℕ))) (words : List (List ℕ)) (slots now : List ListSlot) (testers later : List T)
+      (begun : BegunSearch) (tester : T) → AreSearchesOf by history lines slots testers → now ≡ slots ++ BegunSlot begun ∷ []
       → later ≡ testers ++ tester ∷ [] → IsBegunBy by history begun tester
       → told_over history begun (plan_in by tester) ≡ searched history words → AreSearchesOf by history (lines ++ words ∷ []) now later
   search_begun history lines words slots now testers later begun tester are pushed joined is tells =
-      subst (λ (l : List Slot). AreSearchesOf by history (lines ++ words ∷ []) l later) (sym pushed)
+      subst (λ (l : List ListSlot). AreSearchesOf by history (lines ++ words ∷ []) l later) (sym pushed)
       (subst (λ (l : List T). AreSearchesOf by history (lines ++ words ∷ []) (slots ++ BegunSlot begun ∷ []) l) (sym joined) (record {
         begun = begun_more history slots testers begun tester are.begun is;
         told = told_begun history slots testers begun tester are.begun

@@ -10,8 +10,8 @@ use Rattle.bf_output.specs.declared.status.Status.TheVariants as status
 use Rattle.bf_output.specs.Told.{Told}
 use Rattle.bf_search.specs.declared.outcomes.Outcome.{Outcome}
 use Rattle.bf_tester.specs.declared.tester.Tester.{Ghosts}
-use Rattle.bf_many_run.specs.declared.begun.Slot.{Slot}
-use Rattle.bf_many_run.specs.declared.begun.Slot.TheVariants.{Refused, Begun as BegunSlot}
+use Rattle.bf_many_run.specs.declared.slots.ListSlot.{ListSlot}
+use Rattle.bf_many_run.specs.declared.slots.ListSlot.TheVariants.{Refused, Begun as BegunSlot}
 use Rattle.bf_many_run.specs.declared.text.Texts.{Texts}
 use Rattle.bf_many_run.specs.Groups.{AllCanTell, CanTellSlot, TellsSlot, all_told, behind}
 use Rattle.bf_many_run.specs.Texts.{AddsText, SaysTexts}
@@ -76,7 +76,7 @@ whole_of all texts answer is (same_status, same_text) = subst IsWhole (sym same_
 
 module _ {T : Type 0} (by : Ghosts T) (history : History) where
   -- the next slot may be told
-  pub next_slot : (slot : Slot) (slots : List Slot) (testers : List T) (tables : List (List (Option Outcome)))
+  pub next_slot : (slot : ListSlot) (slots : List ListSlot) (testers : List T) (tables : List (List (Option Outcome)))
       → AllCanTell by history (slot ∷ slots) testers tables → CanTellSlot by history slot testers tables
   next_slot (Refused a) slots testers tables can = can.0
   next_slot (BegunSlot b) slots [] tables can = absurd can
@@ -84,14 +84,14 @@ module _ {T : Type 0} (by : Ghosts T) (history : History) where
   next_slot (BegunSlot b) slots (t ∷ testers) (table ∷ tables) can = can.0
 
   -- and then those behind it
-  slots_behind : (slot : Slot) (slots : List Slot) (testers : List T) (tables : List (List (Option Outcome)))
+  slots_behind : (slot : ListSlot) (slots : List ListSlot) (testers : List T) (tables : List (List (Option Outcome)))
       → AllCanTell by history (slot ∷ slots) testers tables → AllCanTell by history slots (behind slot testers) (behind slot tables)
   slots_behind (Refused a) slots testers tables can = can.1
   slots_behind (BegunSlot b) slots [] tables can = absurd can
   slots_behind (BegunSlot b) slots (t ∷ testers) [] can = absurd can
   slots_behind (BegunSlot b) slots (t ∷ testers) (table ∷ tables) can = can.1
 
-  slot_told : (slot : Slot) (slots : List Slot) (testers : List T) (answer : Answer) → TellsSlot by history slot testers answer
+  slot_told : (slot : ListSlot) (slots : List ListSlot) (testers : List T) (answer : Answer) → TellsSlot by history slot testers answer
       → all_told by history (slot ∷ slots) testers ≡ told_of answer ∷ all_told by history slots (behind slot testers)
   unfolding all_told
   slot_told (Refused a) slots testers answer tells = ap (λ (t : Told). t ∷ all_told by history slots testers) (sym tells)
@@ -99,12 +99,12 @@ module _ {T : Type 0} (by : Ghosts T) (history : History) where
   slot_told (BegunSlot b) slots (t ∷ testers) answer tells = ap (λ (x : Told). x ∷ all_told by history slots testers) (sym tells)
 
   -- the slots so far are told, and the rest may be
-  pub record IsTelling (all : List Told) (texts : Texts) (slots : List Slot) (testers : List T) (tables : List (List (Option Outcome))) : Type 0 where
+  pub record IsTelling (all : List Told) (texts : Texts) (slots : List ListSlot) (testers : List T) (tables : List (List (Option Outcome))) : Type 0 where
     pub front : IsFrontOf all texts (all_told by history slots testers)
     pub ready : AllCanTell by history slots testers tables
     pub few : texts.count + length slots ≤ 64
 
-  pub telling_begun : (texts : Texts) (slots rest : List Slot) (testers left : List T) (tables found : List (List (Option Outcome)))
+  pub telling_begun : (texts : Texts) (slots rest : List ListSlot) (testers left : List T) (tables found : List (List (Option Outcome)))
       → texts.count ≡ 0 → texts.status ≡ status.Done → texts.text ≡ [] → rest ≡ slots → left ≡ testers → found ≡ tables
       → AllCanTell by history slots testers tables → length slots ≤ 64
       → IsTelling (all_told by history slots testers) texts rest left found
@@ -115,12 +115,12 @@ module _ {T : Type 0} (by : Ghosts T) (history : History) where
         few = omega arith;
       })
 
-  pub telling_more : (all : List Told) (old new : Texts) (rest : List Slot) (slot : Slot) (slots : List Slot) (testers left : List T)
+  pub telling_more : (all : List Told) (old new : Texts) (rest : List ListSlot) (slot : ListSlot) (slots : List ListSlot) (testers left : List T)
       (tables found : List (List (Option Outcome))) (answer : Answer) → IsTelling all old rest testers tables → rest ≡ slot ∷ slots
       → left ≡ behind slot testers → found ≡ behind slot tables → TellsSlot by history slot testers answer → IsWhole answer.status
       → AddsText old answer new → IsTelling all new slots left found
   telling_more all old new rest slot slots testers left tables found answer is at now then tells whole adds =
-      let here : IsTelling all old (slot ∷ slots) testers tables = subst (λ (l : List Slot). IsTelling all old l testers tables) at is in
+      let here : IsTelling all old (slot ∷ slots) testers tables = subst (λ (l : List ListSlot). IsTelling all old l testers tables) at is in
       subst (λ (l : List T). IsTelling all new slots l found) (sym now)
       (subst (λ (l : List (List (Option Outcome))). IsTelling all new slots (behind slot testers) l) (sym then) (record {
         front = told_more all (all_told by history slots (behind slot testers)) answer old new
@@ -130,22 +130,22 @@ module _ {T : Type 0} (by : Ghosts T) (history : History) where
       }))
 
   -- all are told
-  pub telling_over : (all : List Told) (texts : Texts) (rest : List Slot) (testers : List T) (tables : List (List (Option Outcome)))
+  pub telling_over : (all : List Told) (texts : Texts) (rest : List ListSlot) (testers : List T) (tables : List (List (Option Outcome)))
       → IsTelling all texts rest testers tables → length rest ≡ 0 → IsFrontOf all texts []
   unfolding all_told
   telling_over all texts [] testers tables is none = is.front
   telling_over all texts (s ∷ rest) testers tables is none = absurd (omega arith)
 
   -- there is room for the next one
-  pub room_for_next : (all : List Told) (texts : Texts) (rest : List Slot) (slot : Slot) (slots : List Slot) (testers : List T)
+  pub room_for_next : (all : List Told) (texts : Texts) (rest : List ListSlot) (slot : ListSlot) (slots : List ListSlot) (testers : List T)
       (tables : List (List (Option Outcome))) → IsTelling all texts rest testers tables → rest ≡ slot ∷ slots → texts.count < 64
   room_for_next all texts rest slot slots testers tables is at =
       let a = is.few in
-      let b = ap (λ (l : List Slot). length l) at in
+      let b = ap (λ (l : List ListSlot). length l) at in
       omega arith
 
-  pub next_ready : (all : List Told) (texts : Texts) (rest : List Slot) (slot : Slot) (slots : List Slot) (testers : List T)
+  pub next_ready : (all : List Told) (texts : Texts) (rest : List ListSlot) (slot : ListSlot) (slots : List ListSlot) (testers : List T)
       (tables : List (List (Option Outcome))) → IsTelling all texts rest testers tables → rest ≡ slot ∷ slots
       → CanTellSlot by history slot testers tables
   next_ready all texts rest slot slots testers tables is at =
-      next_slot slot slots testers tables (subst (λ (l : List Slot). AllCanTell by history l testers tables) at is.ready)
+      next_slot slot slots testers tables (subst (λ (l : List ListSlot). AllCanTell by history l testers tables) at is.ready)

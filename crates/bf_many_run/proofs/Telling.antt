@@ -27,7 +27,7 @@ use Rattle.bf_state.specs.Runs.{is_open}
 use Rattle.bf_state.specs.Session.{Session}
 use Rattle.bf_searches.specs.declared.telling.Telling.{Telling}
 use Rattle.bf_terms.specs.Texts.{Commits, Sides, answer_lines, log_from}
-use Rattle.bf_many_run.specs.declared.begun.Begun.{Begun}
+use Rattle.bf_many_run.specs.declared.slots.BegunSearch.{BegunSearch}
 use Rattle.bf_many_run.specs.Groups.{told_from, told_over}
 
 -- an end that no failed test made is told as that of a run over a plan
@@ -62,22 +62,22 @@ log_ended history telling told report commits sides (Ok answer) text trace same_
 }
 
 -- the report of a run that goes on from where a search stands
-pub record IsRunOn (history : History) (begun : Begun) (report : Report) (leg : ℕ) : Type 0 where
+pub record IsRunOn (history : History) (begun : BegunSearch) (report : Report) (leg : ℕ) : Type 0 where
   pub entries : report.entries.items ≡ (one_at_a_time history.parents begun.state.search (outcomes_of_table report.table) leg).entries
   pub terms : report.state.terms ≡ begun.state.terms
   pub ending : end_of report.ending ≡ (one_at_a_time history.parents begun.state.search (outcomes_of_table report.table) leg).end
 
-run_whole : (search : RunSettings) (begun : Begun) (report : Report) → search.leg ≡ 0
+run_whole : (search : RunSettings) (begun : BegunSearch) (report : Report) → search.leg ≡ 0
     → IsLegRun (course_from search begun.state.search) begun.state report → IsRunOn search.history.now begun report 0
 run_whole search begun report whole ran =
     subst (λ (n : ℕ). IsRunOn search.history.now begun report n) whole
     (record { entries = ran.entries; terms = ap (λ (s : Session). s.terms) ran.state; ending = ran.ending })
 
 -- the run that is told, as those that are known have it
-abbrev begun_as : Begun → BegunOf
+abbrev begun_as : BegunSearch → BegunOf
 begun_as begun = record { sides = begun.state.terms; known = begun.telling.known; search = begun.state.search; entries = [] }
 
-module _ (history : History) (begun : Begun) (report : Report) (plan : List Outcome) (answer : Answer)
+module _ (history : History) (begun : BegunSearch) (report : Report) (plan : List Outcome) (answer : Answer)
     (untraced : begun.telling.trace ≡ None)
     (ran : IsRunOn history begun report 0)
     (planned : TableFollows (Some plan) report.table)
@@ -133,7 +133,7 @@ module _ (history : History) (begun : Begun) (report : Report) (plan : List Outc
 never_failed : (before now : ℕ) (report : Report) → HasFault before now None report → (p : ℕ) → report.ending ≡ ending.TestFault p → ⊥
 never_failed before now report fault p e = cc ((fault p e).1)
 
-module _ {E : Type 0} (search : RunSettings) (begun : Begun) (report : Report) (told : Option (List Outcome)) (plan : List Outcome) (before now : ℕ)
+module _ {E : Type 0} (search : RunSettings) (begun : BegunSearch) (report : Report) (told : Option (List Outcome)) (plan : List Outcome) (before now : ℕ)
     (result : Result Answer E)
     (whole : search.leg ≡ 0)
     (untraced : begun.telling.trace ≡ None)

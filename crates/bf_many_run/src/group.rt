@@ -11,13 +11,13 @@ ghost use Rattle.bf_many_run.specs.Lists.{IsAskedBy, words_in};
 ghost use Rattle.bf_search.specs.Within.{IsEndingWithin, IsEntryWithin};
 ghost use Rattle.bf_searches.specs.Telling.{IsLogOf};
 
-use crate::begun::{Begun, Group, Slot, begin_all};
 use crate::list::ListLine;
+use crate::slots::{BegunSearch, Group, ListSlot, begin_all};
 use crate::text::Texts;
 use bf_answers::{Answer, Fault, commits_of, sides_of};
 use bf_farm::Report;
 use bf_import::History;
-use bf_many::{ManyCase, Search, run_shared};
+use bf_many::{ManyCase, ReadySearch, run_shared};
 use bf_reach::Reach;
 use bf_runs::{RunSettings, Standing, run_leg};
 use bf_searches::Telling;
@@ -29,23 +29,23 @@ use std::vec::IntoIter;
 /// Adds the search of a slot, where it has begun, to those that shared workers start from. No outcome is known.
 fn push_search(
     alloc: Global,
-    searches: &mut Vec<Search>,
+    searches: &mut Vec<ReadySearch>,
     len: u32,
-    slot: &Slot,
+    slot: &ListSlot,
 ) -> Result<(), AllocError>
     ensures { let more = searches_in len (slot.now ∷ []) in
         OnOk result (searches.new.items ≡ searches.old.items ++ more) }
 {
-    if let Slot::Begun(begun) = slot {
+    if let ListSlot::Begun(begun) = slot {
         let state = begun.state.try_clone()?;
         let table = Table::new(alloc, len)?;
-        searches.push(Search { state, table })?;
+        searches.push(ReadySearch { state, table })?;
     }
     Ok(())
 }
 
 /// What shared workers start from: the searches that have begun.
-fn searches_of(alloc: Global, len: u32, slots: &[Slot]) -> Result<Vec<Search>, AllocError>
+fn searches_of(alloc: Global, len: u32, slots: &[ListSlot]) -> Result<Vec<ReadySearch>, AllocError>
     ensures { IfOk result (λ searches. searches.items ≡ searches_in len slots.now) }
 {
     let mut searches = Vec::new(alloc);
@@ -72,7 +72,7 @@ fn finish(history: &History, telling: Telling, report: Report) -> Result<Answer,
 fn tell<R: Host>(
     rt: &R,
     search: RunSettings<'_>,
-    begun: Begun,
+    begun: BegunSearch,
     table: Table,
     tester: &mut PlanTester,
 ) -> Result<Answer, AllocError>
@@ -83,7 +83,7 @@ fn tell<R: Host>(
         IfOk result (Says (told_over search.entry.history.now begun plan)) }
     ensures whole { IfOk result IsWholeAnswer }
 {
-    let Begun { state, telling } = begun;
+    let BegunSearch { state, telling } = begun;
     let alloc = telling.text.allocator();
     let report = run_leg(rt, alloc, search, Standing { state, table }, tester)?;
     finish(search.history, telling, report)
@@ -93,7 +93,7 @@ fn tell<R: Host>(
 fn tell_slot<R: Host>(
     rt: &R,
     search: RunSettings<'_>,
-    slot: Slot,
+    slot: ListSlot,
     testers: &mut IntoIter<PlanTester>,
     tables: &mut IntoIter<Table>,
 ) -> Result<Answer, AllocError>
@@ -108,15 +108,15 @@ fn tell_slot<R: Host>(
     ensures tables { into_iter_items tables.new ≡ behind slot (into_iter_items tables.old) }
 {
     match slot {
-        Slot::Refused(answer) => Ok(answer),
-        Slot::Begun(begun) => match (testers.next(), tables.next()) {
+        ListSlot::Refused(answer) => Ok(answer),
+        ListSlot::Begun(begun) => match (testers.next(), tables.next()) {
             (Some(mut tester), Some(table)) => tell(rt, search, begun, table, &mut tester),
             _ => unreachable!(),
         },
     }
 }
 
-/// Lets so many workers as the search has share the searches, and gives what they find out of the commits of each.
+/// Lets so many workers as the search has share the searches, and returns what they find out of the commits of each.
 fn share<R: Host>(
     rt: &R,
     search: RunSettings<'_>,

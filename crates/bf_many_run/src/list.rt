@@ -3,7 +3,7 @@ ghost use Rattle.std.specs.Prelude.{◌≡◌, ◌<◌, ◌≤◌, [], ◌∷◌
 ghost use Rattle.bf_commands.specs.Many as many;
 ghost use Rattle.bf_many_run.specs.Lists.{IsAskedAt, IsFirstLine, IsFirstWord, IsLineFault, IsListOf, IsReadLine, RefusesList};
 
-use bf_answers::Line;
+use bf_answers::RequestLine;
 use bf_io::{Bytes, Word};
 use bf_words::{Choice, Request, Verb, WordFault, first_option, read_words};
 use memchr::memchr;
@@ -21,11 +21,11 @@ pub(crate) struct ListLine {
 
 impl ListLine {
     /// What the line asks for, lent.
-    pub(crate) fn line(&self, alloc: Global) -> Line<'_>
+    pub(crate) fn line(&self, alloc: Global) -> RequestLine<'_>
         ensures request { result.request.now ≡ self.now.request }
         ensures words { result.words.now ≡ self.now.words.items }
     {
-        Line {
+        RequestLine {
             alloc,
             request: &self.request,
             words: self.words.as_slice(),

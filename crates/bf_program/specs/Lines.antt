@@ -13,35 +13,35 @@ use Rattle.bf_io.specs.declared.shelf.ShelfFile.{ShelfFile}
 use Rattle.bf_begin.specs.Files.{file_given}
 use Rattle.bf_answers.specs.Ready.{AllTold}
 use Rattle.bf_begin.specs.declared.file.LogFile.{LogFile}
-use Rattle.bf_answers.specs.declared.line.Line.{Line}
+use Rattle.bf_answers.specs.declared.line.RequestLine.{RequestLine}
 use Rattle.bf_answers.specs.declared.started.Ready.{Ready}
 
 -- the answer of the line, from the stream on
-abbrev pub TellsOutput : Line → Option (List ShelfFile) → Option (List ℕ) → Ready → Type 0
+abbrev pub TellsOutput : RequestLine → Option (List ShelfFile) → Option (List ℕ) → Ready → Type 0
 TellsOutput line files left ready =
     AllTold line.request.now line.words.now ready (λ tested told.
     IsOutputOf line.request.now.verb line.request.now (given_to line.words.now files tested) left told)
 
 -- over the stream that a number gives
-abbrev pub TellsMade : Line → Option (List ShelfFile) → Ready → Type 0
+abbrev pub TellsMade : RequestLine → Option (List ShelfFile) → Ready → Type 0
 TellsMade line files ready =
     AllTold line.request.now line.words.now ready (λ tested told.
     IsStreamed (IsOver line.request.now (given_to line.words.now files tested)) (Some (made_stream line.request.now)) told)
 
 -- over a stream that is read
-abbrev pub TellsStream : Line → Option (List ShelfFile) → Option (List ℕ) → Ready → Type 0
+abbrev pub TellsStream : RequestLine → Option (List ShelfFile) → Option (List ℕ) → Ready → Type 0
 TellsStream line files left ready =
     AllTold line.request.now line.words.now ready (λ tested told.
     IsStreamed (IsOver line.request.now (given_to line.words.now files tested)) left told)
 
 -- over a history and the file that the words name
-abbrev pub TellsFile : Line → Option (Bor LogFile) → History → Ready → Type 0
+abbrev pub TellsFile : RequestLine → Option (Bor LogFile) → History → Ready → Type 0
 TellsFile line file history ready =
     AllTold line.request.now line.words.now ready (λ tested told.
     IsOverFile line.request.now.verb line.request.now line.words.now tested (file_given file) history told)
 
 -- what `next` tells
-abbrev pub next_of_line : Line → Option (Bor LogFile) → History → Result Told Told
+abbrev pub next_of_line : RequestLine → Option (Bor LogFile) → History → Result Told Told
 next_of_line line file history = next_told line.request.now line.words.now (file_given file) history
 
 -- what a search tells that has begun, and asks once

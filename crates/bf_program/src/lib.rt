@@ -6,7 +6,7 @@
 //! are the order of these parts, and the commands that leave the tester alone: `gen`, `next`, `replay` and `sample`.
 #![tactic(auto)]
 
-mod made;
+mod generate;
 mod next;
 mod prepare;
 mod replay;

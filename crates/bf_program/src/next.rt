@@ -7,7 +7,7 @@ ghost use Rattle.bf_program.specs.Lines.{asked_from, next_of_line};
 ghost use Rattle.bf_answers.specs.Tellings.{begun_of, told_of, AreWithin, Says};
 ghost use Rattle.bf_search.specs.Ends.{end_entries};
 
-use bf_answers::{Answer, Beginning, Line, Stop, commits_of, sides_of, status_of_ask};
+use bf_answers::{Answer, Beginning, RequestLine, Stop, commits_of, sides_of, status_of_ask};
 use bf_begin::{LogFile, begin};
 use bf_import::History;
 use bf_io::Bytes;
@@ -20,7 +20,7 @@ use std::alloc::{AllocError, Global};
 #[tactic(auto, unfolding(bf_output::specs::Next::next_told))]
 pub(crate) fn next(
     alloc: Global,
-    line: Line<'_>,
+    line: RequestLine<'_>,
     file: Option<&LogFile>,
     history: &History,
 ) -> Result<Answer, Stop>

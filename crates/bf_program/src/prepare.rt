@@ -6,11 +6,11 @@ ghost use Rattle.bf_answers.specs.Devices.{IsLeftUnless};
 ghost use Rattle.bf_program.specs.Lines.{TellsOutput, TellsFile, TellsMade, TellsStream};
 ghost use Rattle.bf_answers.specs.Ready.{IsSound};
 
-use crate::made::{generate, made_stream};
+use crate::generate::{generate, made_stream};
 use crate::next::next;
 use crate::replay::replay_log;
 use crate::sample::sample;
-use bf_answers::{Fault, Line, Means, Ready};
+use bf_answers::{Fault, Means, Ready, RequestLine};
 use bf_begin::{LogFile, Opened, lent, open, start, told};
 use bf_import::History;
 use bf_io::{PlainSource, Shelf, Source};
@@ -20,7 +20,7 @@ use bf_words::Verb;
 /// What a line is answered before any commit is tested, or the search that is to be tested.
 pub(crate) fn prepare<R: Host, S: Source, F: Shelf>(
     rt: &R,
-    line: Line<'_>,
+    line: RequestLine<'_>,
     stream: &mut S,
     shelf: &mut F,
 ) -> Result<Ready, Fault>
@@ -43,7 +43,11 @@ pub(crate) fn prepare<R: Host, S: Source, F: Shelf>(
 }
 
 /// The same over the stream that a number gives. It is read from memory, so no read fails.
-fn prepare_made<R: Host, F: Shelf>(rt: &R, line: Line<'_>, shelf: &mut F) -> Result<Ready, Fault>
+fn prepare_made<R: Host, F: Shelf>(
+    rt: &R,
+    line: RequestLine<'_>,
+    shelf: &mut F,
+) -> Result<Ready, Fault>
     ensures output { IfOk result (TellsMade line.entry (F.files shelf.old)) }
     ensures sound { IfOk result (IsSound line.entry.request.now) }
     ensures no_read { IsErrOf result Fault.Read → ⊥ }
@@ -58,7 +62,7 @@ fn prepare_made<R: Host, F: Shelf>(rt: &R, line: Line<'_>, shelf: &mut F) -> Res
 /// The same over the stream and the file that the words name.
 fn prepare_stream<R: Host, S: Source, F: Shelf>(
     rt: &R,
-    line: Line<'_>,
+    line: RequestLine<'_>,
     stream: &mut S,
     shelf: &mut F,
 ) -> Result<Ready, Fault>
@@ -79,7 +83,7 @@ fn prepare_stream<R: Host, S: Source, F: Shelf>(
 /// The same over a history and the file that the words name.
 fn prepare_command<R: Host>(
     rt: &R,
-    line: Line<'_>,
+    line: RequestLine<'_>,
     file: Option<&LogFile>,
     history: History,
 ) -> Result<Ready, Fault>

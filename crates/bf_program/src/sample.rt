@@ -168,7 +168,7 @@ fn summary(
     Ok(Answer { status, text })
 }
 
-/// Searches what has begun to its end, by tests that answer the plan of the sample, and gives the summary.
+/// Searches what has begun to its end, by tests that answer the plan of the sample, and returns the summary.
 fn search_whole<R: Host>(
     rt: &R,
     alloc: Global,

@@ -11,7 +11,7 @@ ghost use Rattle.bf_answers.specs.Ready.{IsSound, ConcludesLine};
 ghost use Rattle.bf_answers.specs.Steps.{HasPlan};
 
 use crate::prepare::prepare;
-use bf_answers::{Fault, Line, Ready, say_answer, word_refusal};
+use bf_answers::{Fault, Ready, RequestLine, say_answer, word_refusal};
 use bf_io::{Shelf, Sink, Source, Word};
 use bf_output::Status;
 use bf_searches::search;
@@ -65,7 +65,7 @@ pub fn bisect_main<R: Host, S: Source, F: Shelf, T: Tester, K: Sink>(
 {
     match read_words(alloc, words) {
         Ok(request) => {
-            let line = Line {
+            let line = RequestLine {
                 alloc,
                 request: &request,
                 words,
@@ -77,10 +77,10 @@ pub fn bisect_main<R: Host, S: Source, F: Shelf, T: Tester, K: Sink>(
     }
 }
 
-/// Tests and writes what a line asks for, or writes the line of what stands in its way, and gives the status.
+/// Tests and writes what a line asks for, or writes the line of what stands in its way, and returns the status.
 fn conclude<R: Host, T: Tester, K: Sink>(
     rt: &R,
-    line: Line<'_>,
+    line: RequestLine<'_>,
     ready: Result<Ready, Fault>,
     tester: &mut T,
     out: &mut K,

@@ -54,7 +54,7 @@ pub enum LogFault {
         /// The number of the line, from 1.
         line: u32,
     },
-    /// There is no memory for the command lines.
+    /// Memory ran out.
     #[error("out of memory")]
     NoMemory,
 }
@@ -72,7 +72,7 @@ impl From<AllocError> for LogFault {
 pub(crate) enum LineFault {
     /// The line is in no form.
     NoForm,
-    /// There is no memory for its words.
+    /// Memory ran out.
     NoMemory,
 }
 

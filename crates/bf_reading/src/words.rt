@@ -38,7 +38,7 @@ pub(crate) fn past_blanks(text: &[u8]) -> &[u8]
     rest
 }
 
-/// Adds the bytes of the word in front of a text, and gives what stands behind it: nothing, or a blank.
+/// Adds the bytes of the word in front of a text, and returns what stands behind it: nothing, or a blank.
 fn take_word<'a>(word: &mut Bytes, text: &'a [u8]) -> Result<&'a [u8], LineFault>
     requires { begins_word text.now ≡ true }
     ensures words { IfOk result (AreReadBehind (words_inside word.old text.now) word.new) }
@@ -69,7 +69,7 @@ fn take_part<'a>(word: &mut Bytes, text: &'a [u8]) -> Result<&'a [u8], LineFault
     }
 }
 
-/// Adds the bytes up to the next quote, and gives what stands behind it.
+/// Adds the bytes up to the next quote, and returns what stands behind it.
 fn take_quoted<'a>(word: &mut Bytes, text: &'a [u8]) -> Result<&'a [u8], LineFault>
     ensures words { IfOk result (AreReadOn (words_quoted word.old text.now) word.new) }
     ensures refused { Refuses result (words_quoted word.old text.now) }

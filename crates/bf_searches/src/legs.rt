@@ -16,7 +16,7 @@ ghost use Rattle.bf_answers.specs.Tellings.{AreWithin};
 ghost use Rattle.bf_search.specs.Within.{IsEndingWithin};
 
 use crate::telling::Telling;
-use bf_answers::{Answer, Beginning, Line, Started, commits_of, sides_of, write_and_flush};
+use bf_answers::{Answer, Beginning, RequestLine, Started, commits_of, sides_of, write_and_flush};
 use bf_farm::Report;
 use bf_import::History;
 use bf_io::{Sink, SinkFault};
@@ -43,7 +43,7 @@ pub enum Gone {
 
 /// A search of which no commit is tested yet. The entries of its beginning are about to be written.
 pub fn begin_running(
-    line: Line<'_>,
+    line: RequestLine<'_>,
     history: &History,
     first: Beginning,
 ) -> Result<Running, AllocError>
@@ -155,7 +155,7 @@ fn go_through<R: Host, T: Tester, K: Sink>(
 /// Tests what a search asks for that has begun. The answer is what is left to write.
 pub fn run_legs<R: Host, T: Tester, K: Sink>(
     rt: &R,
-    line: Line<'_>,
+    line: RequestLine<'_>,
     started: Started,
     tester: &mut T,
     out: &mut K,

@@ -13,13 +13,13 @@ ghost use Rattle.bf_words.specs.declared.verb.Verb.TheVariants as Verb;
 
 use crate::legs::run_legs;
 use crate::plan::tester_of;
-use bf_answers::{Answer, Line, Means, Started, say, status_of_fault};
+use bf_answers::{Answer, Means, RequestLine, Started, say, status_of_fault};
 use bf_io::{Sink, SinkFault, Word};
 use bf_output::Status;
 use bf_tester::{Host, Tester};
 
 /// The words of the command that tests.
-pub fn command_of<'a>(line: Line<'a>) -> &'a [Word]
+pub fn command_of<'a>(line: RequestLine<'a>) -> &'a [Word]
     ensures { result.now ≡ shown.command_of line.entry.request.now line.entry.words.now }
 {
     match line.request.tail {
@@ -28,10 +28,10 @@ pub fn command_of<'a>(line: Line<'a>) -> &'a [Word]
     }
 }
 
-/// Tests what a search asks for, writes what it tells, and gives its status.
+/// Tests what a search asks for, writes what it tells, and returns its status.
 pub fn search<R: Host, T: Tester, K: Sink>(
     rt: &R,
-    line: Line<'_>,
+    line: RequestLine<'_>,
     started: Started,
     tester: &mut T,
     out: &mut K,
@@ -61,7 +61,7 @@ pub fn search<R: Host, T: Tester, K: Sink>(
 /// Tests what a search asks for, by its means. The answer is what is left to write.
 fn search_by<R: Host, T: Tester, K: Sink>(
     rt: &R,
-    line: Line<'_>,
+    line: RequestLine<'_>,
     started: Started,
     tester: &mut T,
     out: &mut K,
@@ -92,7 +92,7 @@ fn search_by<R: Host, T: Tester, K: Sink>(
 /// Tests by the plan that the words write.
 pub fn search_by_plan<R: Host, K: Sink>(
     rt: &R,
-    line: Line<'_>,
+    line: RequestLine<'_>,
     started: Started,
     out: &mut K,
 ) -> Result<Answer, SinkFault>
@@ -112,7 +112,7 @@ pub fn search_by_plan<R: Host, K: Sink>(
 /// Tests by the command that the words name: the tester takes it first.
 pub fn search_by_command<R: Host, T: Tester, K: Sink>(
     rt: &R,
-    line: Line<'_>,
+    line: RequestLine<'_>,
     started: Started,
     tester: &mut T,
     out: &mut K,

@@ -11,7 +11,7 @@ use Rattle.bf_graph.specs.Graph.{IsGraph}
 use Rattle.bf_history.specs.Meanings.{History}
 use Rattle.bf_core.specs.Machine.{Machine, IsConsumed}
 use Rattle.bf_io.specs.declared.shelf.LoadFault.{LoadFault}
-use Rattle.bf_many.specs.declared.search.Search.{Search}
+use Rattle.bf_many.specs.declared.search.ReadySearch.{ReadySearch}
 use Rattle.bf_many.specs.Cores.{machine_of, machines_of, start_of}
 use Rattle.bf_many.specs.Many.{FarmMachine}
 use Rattle.bf_many.proofs.Lists.{get-map, get_last}
@@ -105,7 +105,7 @@ added_below s many m n is machines number =
     let e = is.each in
     omega (arith, longer, e, number)
 
-pub started_as : (graph parents : List (List ℕ)) (x : Search) (len : ℕ) → graph ≡ parents → x.table ≡ replicate len None → len ≡ length parents
+pub started_as : (graph parents : List (List ℕ)) (x : ReadySearch) (len : ℕ) → graph ≡ parents → x.table ≡ replicate len None → len ≡ length parents
     → start_of graph x ≡ machine_at_start parents x.state.search
 started_as graph parents x len same fresh long =
     ap (λ (g : List (List ℕ)). start_of g x) same
@@ -222,7 +222,7 @@ served_not_started s file words asks told before after is begins text =
 
 -- ---- what a search that is added leaves, as the calls have it
 
-pub added_is : (s : Session) (many : List Machine) (x : Search) (len : ℕ) → IsServing s → machines_of many ≡ machines_of s.many ++ start_of s.reach.now x ∷ []
+pub added_is : (s : Session) (many : List Machine) (x : ReadySearch) (len : ℕ) → IsServing s → machines_of many ≡ machines_of s.many ++ start_of s.reach.now x ∷ []
     → x.table ≡ replicate len None → len ≡ length s.history.now.parents
     → machines_of many ≡ machines_of s.many ++ machine_at_start s.history.now.parents x.state.search ∷ []
 added_is s many x len is added fresh long =

@@ -4,7 +4,7 @@ use Rattle.std.specs.List.Sorted.{IsStrictlyIncreasing}
 use Rattle.std.specs.Option.{unwrap_or}
 use Rattle.bf_answers.specs.declared.answer.Stop.{Stop}
 use Rattle.bf_answers.specs.declared.answer.Stop.TheVariants as stop
-use Rattle.bf_answers.specs.declared.line.Line.{Line}
+use Rattle.bf_answers.specs.declared.line.RequestLine.{RequestLine}
 use Rattle.bf_answers.specs.declared.started.Beginning.{Beginning}
 use Rattle.bf_answers.specs.Tellings.{begun_of, told_of}
 use Rattle.bf_core.specs.Machine.{IsConsumed}
@@ -185,7 +185,7 @@ pub record BeginsBy (files : Option (List ShelfFile)) (before now : ℕ) (histor
   pub step : Begins result (begins_by history file words asks)
 
 -- a session served a line that begins a search by these words, with what the shelf gave for the file that they name
-pub record OpensBy (files : Option (List ShelfFile)) (before now : ℕ) (line : Line) (old new : Session) (text after : List ℕ) : Type 0 where
+pub record OpensBy (files : Option (List ShelfFile)) (before now : ℕ) (line : RequestLine) (old new : Session) (text after : List ℕ) : Type 0 where
   pub file : Result (List ℕ) LoadFault
   pub from : IsFileAt files before now line.words.now (unwrap_or line.request.now.replay 0) file
   pub serves : Serves (begun_as old.history.now file (searches_in old) line.words.now (Ok line.request.now)) old new text after

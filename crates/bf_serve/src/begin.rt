@@ -10,10 +10,10 @@ use crate::opening::Opening;
 use crate::reading::{read_search, words_to_begin};
 use crate::session::Session;
 use crate::starting::begin_by;
-use bf_answers::{Beginning, Line, Stop, usage};
+use bf_answers::{Beginning, RequestLine, Stop, usage};
 use bf_graph::Places;
 use bf_io::{Bytes, Shelf, Word};
-use bf_many::Search;
+use bf_many::ReadySearch;
 use bf_protocol::{Refusal, put_refusal, put_refused_line, put_started};
 use bf_spec::Table;
 use bf_words::WordFault;
@@ -42,7 +42,7 @@ impl<'r> Session<'r> {
         let words = words_to_begin(self.alloc, self.pending.as_slice(), words)?;
         match read_search(self.alloc, words.as_slice()) {
             Ok(request) => {
-                let line = Line {
+                let line = RequestLine {
                     alloc: self.alloc,
                     request: &request,
                     words: words.as_slice(),
@@ -60,7 +60,7 @@ impl<'r> Session<'r> {
     /// A search is begun by a line of words.
     fn search_by<F: Shelf>(
         &mut self,
-        line: Line<'_>,
+        line: RequestLine<'_>,
         shelf: &mut F,
         out: &mut Bytes,
     ) -> Result<(), AllocError>
@@ -101,7 +101,7 @@ impl<'r> Session<'r> {
         };
         let table = Table::new(self.alloc, self.history.len())?;
         self.many
-            .add(self.alloc, self.reach, Search { state, table })?;
+            .add(self.alloc, self.reach, ReadySearch { state, table })?;
         let subject = Subject {
             history: self.history,
             reach: self.reach,

@@ -16,7 +16,7 @@ use bf_protocol::{put_answer, put_end};
 use bf_search::{Ask, Ending};
 use std::alloc::AllocError;
 
-/// Adds the lines of the answer of a search that has come to its end, and gives its status.
+/// Adds the lines of the answer of a search that has come to its end, and returns its status.
 #[tactic(auto, unfolding(bf_terms::specs::Texts::answer_lines))]
 fn write_answer(
     commits: Commits<'_>,
@@ -48,7 +48,7 @@ fn write_answer(
     }
 }
 
-/// Adds the lines of an ask that ends a search, and gives the status.
+/// Adds the lines of an ask that ends a search, and returns the status.
 fn write_told(
     commits: Commits<'_>,
     sides: Sides<'_>,

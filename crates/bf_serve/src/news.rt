@@ -122,7 +122,7 @@ fn remaining_behind(
     }
 }
 
-/// Adds what is told of the run of a search, which stood so before, and gives what is left of it.
+/// Adds what is told of the run of a search, which stood so before, and returns what is left of it.
 pub(crate) fn put_news(
     subject: Subject<'_>,
     opening: &mut Opening,
@@ -152,7 +152,7 @@ pub(crate) fn put_news(
     Ok(remaining)
 }
 
-/// Adds what is told of a search as it begins, where its log begins with these entries, and gives what is left of it.
+/// Adds what is told of a search as it begins, where its log begins with these entries, and returns what is left of it.
 pub(crate) fn put_first_news(
     subject: Subject<'_>,
     opening: &mut Opening,

@@ -5,7 +5,7 @@ ghost use Rattle.bf_output.specs.Refusals as refusals;
 ghost use Rattle.bf_state.specs.Ends.{HasEnds};
 ghost use Rattle.bf_serve.specs.Steps.{BeginsBy};
 
-use bf_answers::{Answer, Beginning, Fault, Line, Status, Stop};
+use bf_answers::{Answer, Beginning, Fault, RequestLine, Status, Stop};
 use bf_begin::{begin, lent, load_file};
 use bf_import::History;
 use bf_io::{Bytes, Shelf};
@@ -14,7 +14,7 @@ use std::alloc::{AllocError, Global};
 
 /// The search that a line of words begins, or its refusal.
 pub(crate) fn begin_by<F: Shelf>(
-    line: Line<'_>,
+    line: RequestLine<'_>,
     history: &History,
     reach: &Reach,
     shelf: &mut F,

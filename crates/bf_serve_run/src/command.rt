@@ -155,7 +155,8 @@ fn serve_requests<S: Source, F: Shelf, K: Sink>(
     ensures front { let input = told held (S.left source.old) in
         OnErr result (WritesFront history.now (met_shelf F.Shelf shelf.old shelf.new) input
         (K.held sink.old) (K.held sink.new)) }
-    ensures source { FailsOnlyAt ServeFault.Read (S.faults source.old) (S.faults source.new) result }
+    ensures source { FailsOnlyAt ServeFault.Read
+        (S.faults source.old) (S.faults source.new) result }
     ensures sink { FailsOnlyAt ServeFault.Write (K.faults sink.old) (K.faults sink.new) result }
 {
     let reach = Reach::build(alloc, history.graph())?;

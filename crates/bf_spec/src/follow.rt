@@ -129,7 +129,8 @@ fn follow(
     requires entries { entries.old.items ≡ [] }
     requires root { (d : NodeValue) → nodes_.path_of (slice_index_or nodes.old.items start d) ≡ [] }
     ensures extends { nodes_.Extends reach.now nodes.old.items nodes.new.items }
-    ensures halts { IfOk result (λ halt. (d : NodeValue) → HaltsAt nodes.new.items entries.new.items halt
+    ensures halts { IfOk result (λ halt. (d : NodeValue) →
+        HaltsAt nodes.new.items entries.new.items halt
         (run_at reach.now table.now left nodes.old.items start d)) }
 {
     let mut index = start;

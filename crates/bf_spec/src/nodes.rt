@@ -128,7 +128,7 @@ impl Nodes {
         self.links[parent].at(mark)
     }
 
-    /// Adds a node that follows another by a mark, and gives its number. After an error the list is as before.
+    /// Adds a node that follows another by a mark, and returns its number. After an error the list is as before.
     pub(crate) fn add(&mut self, parent: usize, mark: Mark, node: Node) -> Result<usize, AllocError>
         requires parent { parent < length self.old.items }
         requires path { (d : NodeValue) → nodes_.path_of node

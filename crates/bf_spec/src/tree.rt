@@ -86,7 +86,7 @@ impl<'r> SpecTree<'r> {
         has_path(self.nodes.as_slice(), path)
     }
 
-    /// The place of the best open path. No node is lost, also where memory runs out.
+    /// The place of the best open path. No node is lost, even after want of memory.
     pub fn best_open(&mut self, table: &Table, claims: &[Claim]) -> Result<Option<u32>, AllocError>
         ensures best { IfOk result (λ place. place ≡ best_place self.old table.now claims.now) }
         ensures answer { IfOk result
@@ -116,7 +116,7 @@ impl<'r> SpecTree<'r> {
     }
 
     /// The run over the outcomes of a table from the root on, with so many marks left in its leg, if it has legs. Each
-    /// of its marks has a node afterwards, also the last one of a leg. No node is lost, also where memory runs out.
+    /// of its marks has a node afterwards, also the last one of a leg. No node is lost, even after want of memory.
     pub fn run(&mut self, table: &Table, left: Option<u32>) -> Result<Walked, AllocError>
         ensures entries { IfOk result (HasEntries (run_of self.old table.now left)) }
         ensures ending { IfOk result (HasEnding (run_of self.old table.now left)) }
@@ -137,7 +137,7 @@ impl<'r> SpecTree<'r> {
         run_in(self.alloc, self.reach, &mut self.nodes, table, left)
     }
 
-    /// Whether some path over the outcomes of a table asks for a place. No node is lost, also where memory runs out.
+    /// Whether some path over the outcomes of a table asks for a place. No node is lost, even after want of memory.
     pub fn is_asked(&mut self, table: &Table, place: u32) -> Result<bool, AllocError>
         requires { place < length self.old.graph }
         ensures asked { IfOk result (λ asked. IsTrue asked ↔ IsAskedIn self.old table.now place) }

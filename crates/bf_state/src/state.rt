@@ -238,7 +238,7 @@ impl State {
     }
 
     /// Asks what comes next over a ranking of the candidates, of which so many of the first are skipped:
-    /// no candidate before them is looked at, and none after the place that is asked. It also gives how
+    /// no candidate before them is looked at, and none after the place that is asked. It also returns how
     /// many are skipped then. After an error the state is as before.
     pub fn advance_ranked(
         &mut self,
@@ -277,7 +277,7 @@ impl State {
         Ok(())
     }
 
-    /// Asks what comes next and then marks a place, whatever was asked. It gives the skipped merge bases
+    /// Asks what comes next and then marks a place, whatever was asked. It returns the skipped merge bases
     /// to warn of, by place. After an error the state is as before.
     pub fn take(&mut self, reach: &Reach, mark: Mark, place: u32) -> Result<Vec<u32>, AllocError>
         requires len { length reach.now ≡ self.old.len }

@@ -23,7 +23,7 @@ impl<'a, S: Source> Cursor<'a, S> {
         Ok(bytes)
     }
 
-    /// Takes what is held of so many bytes, at least one, and answers how many are left.
+    /// Takes what is held of so many bytes, at least one, and returns how many are left.
     fn take_piece(&mut self, line: u64, left: u64, bytes: &mut Bytes) -> Result<u64, StreamFault>
         requires { 0 < left }
         ensures piece { TakesPiece S.left line left self.old self.new bytes.old bytes.new result }
@@ -101,7 +101,7 @@ impl<'a, S: Source> Cursor<'a, S> {
         }
     }
 
-    /// Takes what is held of the line in front, at least a byte, and tells whether its LF was taken.
+    /// Takes what is held of the line in front, at least a byte, and returns whether its LF was taken.
     fn take_content_piece(&mut self, line: u64, content: &mut Bytes) -> Result<bool, StreamFault>
         requires { length content.old ≤ (limits_of self.old).part }
         ensures piece { TakesContent S.left line self.old self.new content.old content.new result }

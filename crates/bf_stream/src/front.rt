@@ -103,7 +103,7 @@ impl<'a, S: Source> Cursor<'a, S> {
         }
     }
 
-    /// Goes behind the line in front where it is passed over. Else answers what stands there.
+    /// Goes behind the line in front where it is passed over. Else returns what stands there.
     fn pass_line(&mut self, empty_too: bool) -> Result<Option<Ahead>, StreamFault>
         ensures step { PassesLine empty_too S.left self.old self.new result }
         ensures advances { Advances S.faults self.old self.new result }

@@ -11,7 +11,7 @@ use bf_grammar::StreamFault;
 use bf_io::Source;
 
 impl<'a, S: Source> Cursor<'a, S> {
-    /// Goes past comments and empty lines, and tells whether a line is in front then. So a command is looked
+    /// Goes past comments and empty lines, and returns whether a line is in front then. So a command is looked
     /// for.
     pub fn at_command(&mut self) -> Result<bool, StreamFault>
         ensures reads { Reads S.left S.faults self.old self.new result lines.at_command }
@@ -35,7 +35,7 @@ impl<'a, S: Source> Cursor<'a, S> {
         tell_line(ahead)
     }
 
-    /// Goes past comments, and tells whether the line that is in front then begins with this word. A line
+    /// Goes past comments, and returns whether the line that is in front then begins with this word. A line
     /// that was found before is not searched again.
     #[inline(always)]
     pub fn at_word(&mut self, word: &[u8]) -> Result<bool, StreamFault>

@@ -77,7 +77,7 @@ impl<'a, S: Source> Reader<'a, S> {
         self.cursor.rest()
     }
 
-    /// Ends the reading and gives the source back.
+    /// Ends the reading and returns the source.
     pub fn close(self) -> &'a mut S
         ensures value { result.now ≡ standing.source_at self.entry }
         ensures same { result.ghost_name ≡ standing.source_of self.entry }

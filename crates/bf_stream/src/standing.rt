@@ -47,7 +47,7 @@ impl<'a, S: Source> Cursor<'a, S> {
         }
     }
 
-    /// Ends the reading and gives the source back.
+    /// Ends the reading and returns the source.
     pub fn close(self) -> &'a mut S
         ensures value { result.now ≡ self.entry.source.now }
         ensures same { result.ghost_name ≡ self.entry.source.ghost_name }

@@ -61,7 +61,7 @@ impl Names {
         Some(place as u32)
     }
 
-    /// Adds a name at the next place, and tells whether it was new: one that is there already stays
+    /// Adds a name at the next place, and returns whether it was new: one that is there already stays
     /// at its place. After an error all is as before.
     pub fn push(&mut self, name: Oid) -> Result<bool, AllocError>
         requires room { length self.old < 4294967295 }

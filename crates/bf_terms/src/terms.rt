@@ -22,7 +22,7 @@ pub enum TermFault {
     /// Both may be used, and they are the same.
     #[error("the terms are the same")]
     Same,
-    /// There is no memory for the terms, which may be used.
+    /// Memory ran out.
     #[error("out of memory")]
     NoMemory,
 }

@@ -43,6 +43,6 @@ pub enum TestReply {
     Dropped,
     /// The test could not be made. The tester's count of faults rose.
     Failed,
-    /// There is no memory for the test or for its answer.
+    /// Memory ran out.
     NoMemory,
 }

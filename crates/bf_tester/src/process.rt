@@ -29,7 +29,7 @@ pub(crate) enum RunFault {
     /// It could not be started or waited for. Where the system would not start it, this is the number of its
     /// reason.
     Failed(Option<i32>),
-    /// There is no memory for its words.
+    /// Memory ran out.
     NoMemory,
 }
 

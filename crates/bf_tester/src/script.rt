@@ -66,7 +66,7 @@ impl Gate {
         }
     }
 
-    /// Begins a test, and answers whether it may end. The first of all waits until a second one has begun,
+    /// Begins a test, and returns whether it may end. The first of all waits until a second one has begun,
     /// for at most 20,000,000 turns, each of which yields the thread.
     fn passes(&self) -> bool {
         if self.calls.fetch_add(1, Ordering::SeqCst) > 0 {

@@ -56,7 +56,7 @@ impl<'f> StopView<'f> {
         self.flag.is_none()
     }
 
-    /// Looks at the flag once, and answers whether it is raised. No flag is never raised.
+    /// Looks at the flag once, and returns whether it is raised. No flag is never raised.
     pub fn raised(&mut self) -> bool
         ensures seen { self.new.seen ≡ (self.old.seen || result) }
         ensures looks { self.new.looks ≡ raised self.old.looks }

@@ -41,7 +41,7 @@ impl Pauses {
         thread::sleep(rt, Duration::from_millis(length));
     }
 
-    /// Looks at the flag once, and answers whether it is raised. Where it is not, one pause goes by.
+    /// Looks at the flag once, and returns whether it is raised. Where it is not, one pause goes by.
     #[tactic(auto, using(crate::proofs::Looking::looks_once))]
     fn look<R: Clock>(&mut self, rt: &R, stop: &mut StopView<'_>) -> bool
         ensures once { stop.new.looks ≡ raised stop.old.looks }

@@ -64,7 +64,7 @@ pub enum WordFault {
         /// The index of the word, from 0.
         word: u32,
     },
-    /// There is no memory for the request.
+    /// Memory ran out.
     #[error("out of memory")]
     NoMemory,
 }

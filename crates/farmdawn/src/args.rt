@@ -16,12 +16,12 @@ pub(crate) struct CommandLine {
 
 /// The arguments of a process, with the index of the one that was asked for last.
 #[derive(Drop)]
-struct Asked<'a, R> {
+struct CountedArgs<'a, R> {
     rt: &'a R,
     last: &'a Cell<usize>,
 }
 
-impl<R: Env> Env for Asked<'_, R> {
+impl<R: Env> Env for CountedArgs<'_, R> {
     fn arg(&self, i: usize, buf: &mut [u8]) -> Result<usize, FillError> {
         self.last.set(i);
         self.rt.arg(i, buf)
@@ -41,7 +41,7 @@ pub(crate) fn read<R: Env + Alloc<A = Global>>(rt: &R) -> Result<CommandLine, Al
     let alloc = rt.alloc();
     let last = Cell::new(0);
     let mut words = Vec::new(alloc);
-    match env::args(&(Asked { rt, last: &last }, alloc)) {
+    match env::args(&(CountedArgs { rt, last: &last }, alloc)) {
         Ok(args) => {
             for arg in args.skip(1) {
                 words.push(Bytes::from_slice(alloc, arg.as_str().as_bytes())?)?;

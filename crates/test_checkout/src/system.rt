@@ -7,7 +7,7 @@ use std::fs;
 use std::process::Abort;
 use std::test::Fail;
 
-/// Puts a file, and tells whether it then stands under the same path below the first folder, with its
+/// Puts a file, and returns whether it then stands under the same path below the first folder, with its
 /// bytes.
 fn stands<R>(rt: &R, folder: &mut DirFolder<R>, path: &[u8], bytes: &[u8]) -> Result<bool, Fail>
 where

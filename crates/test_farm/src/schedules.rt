@@ -92,7 +92,7 @@ fn follow(path: &mut Path, mark: Mark, place: u32) -> Result<(), AllocError>
     path.state.mark(mark, place)
 }
 
-/// Goes on as the outcomes that are known force it, and gives the first place without one.
+/// Goes on as the outcomes that are known force it, and returns the first place without one.
 fn settle(reach: &Reach, table: &Table, path: &mut Path) -> Result<Option<u32>, AllocError>
     requires reach { length reach.now ≡ path.old.state.len }
     requires table { length table.now ≡ path.old.state.len }

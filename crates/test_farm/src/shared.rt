@@ -7,7 +7,7 @@ ghost use Rattle.test_farm.specs.Searches.{AreFresh, IsFresh, IsOfEight};
 use crate::late::{Late, Watch};
 use bf_core::Core;
 use bf_graph::Graph;
-use bf_many::{ManyCase, ManyCore, ManyEvent, ManyPick, Search, Shared, run_shared};
+use bf_many::{ManyCase, ManyCore, ManyEvent, ManyPick, ReadySearch, Shared, run_shared};
 use bf_oid::Oid;
 use bf_reach::Reach;
 use bf_search::{Ending, Event, Outcome};
@@ -55,16 +55,16 @@ fn state(alloc: Global) -> Result<State, AllocError>
 }
 
 /// That search, of which no outcome is known.
-fn search(alloc: Global) -> Result<Search, AllocError>
+fn search(alloc: Global) -> Result<ReadySearch, AllocError>
     ensures { IfOk result IsFresh }
 {
     let state = state(alloc)?;
     let table = Table::new(alloc, 8)?;
-    Ok(Search { state, table })
+    Ok(ReadySearch { state, table })
 }
 
 /// Two such searches.
-fn two(alloc: Global) -> Result<Vec<Search>, AllocError>
+fn two(alloc: Global) -> Result<Vec<ReadySearch>, AllocError>
     ensures { IfOk result (λ searches. AreFresh searches.items) }
 {
     let first = search(alloc)?;

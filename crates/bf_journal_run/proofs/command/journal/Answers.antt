@@ -2,7 +2,7 @@ use Rattle.std.proofs.Common.{ℕ, Result, refl, ap, sym, subst, ◌∙◌}
 use Rattle.bf_answers.proofs.Answering.{read_cause, shelf_cause}
 use Rattle.bf_answers.proofs.Complete.{complete}
 use Rattle.bf_answers.specs.Answers.{HasTestCause}
-use Rattle.bf_answers.specs.declared.line.Line.{Line}
+use Rattle.bf_answers.specs.declared.line.RequestLine.{RequestLine}
 use Rattle.bf_answers.specs.Devices.{Met, met, met_shelf, met_sink, met_source, met_tester}
 use Rattle.bf_commands.specs.Journal.{DiskMet, request_to_journal}
 use Rattle.bf_journal_run.specs.Held.{IsHeldBy}
@@ -19,7 +19,7 @@ use Rattle.bf_journal_run.proofs.command.journal.Given.{Over}
 use Rattle.bf_journal_run.proofs.command.journal.Goals as goal
 
 -- the line of the words
-abbrev line_in : (g : Over) → goal.Joined-request g → Line
+abbrev line_in : (g : Over) → goal.Joined-request g → RequestLine
 line_in g c = record { alloc = c.args.alloc; request = record { ref_ptr = (c.request-in-Ok-1.given, 0); now = c.in-Ok.request }; words = c.args.words }
 
 -- what the call met, where the words ask for something

@@ -1,6 +1,6 @@
 use Rattle.std.proofs.Common.{ℕ, sym, ap, length, ◌∙◌, IfOk, IfSome}
 use Rattle.bf_commands.specs.Journal.{Opens}
-use Rattle.bf_commands.specs.Journal.Opened.{Kept, Other}
+use Rattle.bf_commands.specs.Journal.OpenedJournal.{Kept, Other}
 use Rattle.bf_journal_run.specs.Legs.{met_disk}
 use Rattle.bf_journal.specs.Disk.{LeavesOnly}
 use Rattle.bf_journal.specs.Journal.{IsAsOpened}

@@ -4,7 +4,7 @@ use Rattle.bf_answers.specs.Devices.{met_sink, met_tester}
 use Rattle.bf_answers.specs.Ready.{IsCausedTold, IsConcluded}
 use Rattle.bf_answers.specs.Tellings.{begun_of}
 use Rattle.bf_commands.specs.Journal.{IsJournalled, IsRunKept, MayBePut, identity_of}
-use Rattle.bf_commands.specs.Journal.Opened.{Kept}
+use Rattle.bf_commands.specs.Journal.OpenedJournal.{Kept}
 use Rattle.bf_farm.proofs.Asked.{rose_since}
 use Rattle.bf_journal_run.specs.declared.cut.Cut.TheVariants.{Output}
 use Rattle.bf_journal_run.specs.Kept.{AreLasting}

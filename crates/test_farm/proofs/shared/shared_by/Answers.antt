@@ -1,12 +1,12 @@
 use Rattle.std.proofs.Common.{◌≡◌, List, replicate, None, arith}
 use Rattle.std.proofs.lemmas.List.Elements.{All-weaker}
-use Rattle.bf_many.specs.declared.search.Search.{Search}
+use Rattle.bf_many.specs.declared.search.ReadySearch.{ReadySearch}
 use Rattle.bf_many.proofs.Fresh.{AreUntold, untold_testers}
 use Rattle.test_farm.specs.Searches.{AreFresh, IsFresh}
 use Rattle.test_farm.proofs.shared.shared_by.Goals as goal
 
-untold : (searches : List Search) → AreFresh searches → AreUntold 8 searches
-untold searches fresh = All-weaker IsFresh (λ (s : Search). s.table ≡ replicate 8 None) (λ s is. is.table) searches fresh.each
+untold : (searches : List ReadySearch) → AreFresh searches → AreUntold 8 searches
+untold searches fresh = All-weaker IsFresh (λ (s : ReadySearch). s.table ≡ replicate 8 None) (λ s is. is.table) searches fresh.each
 
 pub run_shared-requires-clause-testers : goal.run_shared-requires-clause-testers
 run_shared-requires-clause-testers g c κs within =

@@ -1,16 +1,16 @@
 use Rattle.std.proofs.Common.{◌≡◌, List, [], ◌∷◌, ◌++◌, refl, sym, subst}
 use Rattle.std.proofs.lemmas.List.Elements.{All-nil, All-cons}
-use Rattle.bf_many.specs.declared.search.Search.{Search}
+use Rattle.bf_many.specs.declared.search.ReadySearch.{ReadySearch}
 use Rattle.test_farm.specs.Searches.{AreFresh, IsFresh}
 use Rattle.test_farm.proofs.shared.two.Goals as goal
 
-pushed : (a b : Search) (none one two : List Search) → none ≡ [] → one ≡ none ++ a ∷ [] → two ≡ one ++ b ∷ [] → two ≡ a ∷ b ∷ []
+pushed : (a b : ReadySearch) (none one two : List ReadySearch) → none ≡ [] → one ≡ none ++ a ∷ [] → two ≡ one ++ b ∷ [] → two ≡ a ∷ b ∷ []
 pushed a b none one two e f g = cc
 
-pair : (a b : Search) (searches : List Search) → IsFresh a → IsFresh b → searches ≡ a ∷ b ∷ [] → AreFresh searches
+pair : (a b : ReadySearch) (searches : List ReadySearch) → IsFresh a → IsFresh b → searches ≡ a ∷ b ∷ [] → AreFresh searches
 pair a b searches first second is =
     let each = All-cons IsFresh a (b ∷ []) first (All-cons IsFresh b [] second (All-nil IsFresh)) in
-    subst (λ (l : List Search). AreFresh l) (sym is) (record { two = refl; each = each })
+    subst (λ (l : List ReadySearch). AreFresh l) (sym is) (record { two = refl; each = each })
 
 pub returns : goal.returns
 returns c = pair c.in_ok-first.first c.in_ok-second.second _ c.in_ok-first.ensures c.in_ok-second.ensures

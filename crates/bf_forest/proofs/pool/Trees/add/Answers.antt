@@ -4,7 +4,7 @@ use Rattle.std.specs.Ordering.{nat_cmp}
 use Rattle.std.specs.Cmp.Lexicographic.{slice_cmp}
 use Rattle.std.specs.BTreeMap.{get}
 use Rattle.bf_forest.specs.declared.nodes.Entry.{Entry}
-use Rattle.bf_forest.specs.declared.pool.Kept.{Kept}
+use Rattle.bf_forest.specs.declared.pool.KeptTree.{KeptTree}
 use Rattle.bf_forest.specs.Files.{Files}
 use Rattle.bf_forest.specs.Index.{IsIndexed}
 use Rattle.bf_forest.specs.Nodes.{World, Node, AreNodes, nodes_of, stood, files_in, trees_from, directory_files, IsPosition, are_within, are_kept_within}
@@ -33,7 +33,7 @@ invariant_of-self-2 c =
     let entries = stood now.table numbers in
     let files = files_in trees entries in
     let next = c.push.new.self.items in
-    let tree : Kept = record { numbers = numbers; name = c.in_ok-name.name } in
+    let tree : KeptTree = record { numbers = numbers; name = c.in_ok-name.name } in
     let node : Node = node_in now numbers c.in_ok-name.name in
     let same : table ≡ now.table = ap (λ (w : World). w.table) c.self.view_is in
     let view : trees_from [] nodes ≡ trees = ap (λ (w : World). w.trees) c.self.view_is in
@@ -55,7 +55,7 @@ invariant_of-self-2 c =
     let still = IsIndexed-insert c.self.inside.index index trees c.in_ok-name.name.0 c.len-number.result c.in_ok-insert.ensures.updates
     (subst Indexed view c.self.invariant.1) in
     let P : List Files → Type 0 = IsIndexed index in
-    let Q : List Kept → Type 0 = λ v. are_kept_within (length table) v ≡ true in
+    let Q : List KeptTree → Type 0 = λ v. are_kept_within (length table) v ≡ true in
     let R : List Entry → Type 0 = λ v. are_within (length v) numbers ≡ true in (
       sum,
       subst P (sym list) (IsIndexed-push index trees files still (subst Holds (sym key) here)),
@@ -70,7 +70,7 @@ invariant_of-self-in_err-push c =
     let index = c.insert.new.self in
     let trees = trees_from [] (nodes_of table c.self.inside.nodes.items) in
     let still = IsIndexed-insert c.self.inside.index index trees c.in_ok-name.name.0 c.len-number.result c.in_ok-insert.ensures.updates c.self.invariant.1 in
-    let P : List Kept → Type 0 = λ v. (c.self.inside.entries ≡ entries_of (trees_from [] (nodes_of table v))) × IsIndexed index
+    let P : List KeptTree → Type 0 = λ v. (c.self.inside.entries ≡ entries_of (trees_from [] (nodes_of table v))) × IsIndexed index
     (trees_from [] (nodes_of table v))
     × AreNodes [] (nodes_of table v) × (are_kept_within (length table) v ≡ true) in
     subst P (sym c.in_err-push.ensures.items) (c.self.invariant.0, still, c.self.invariant.2, c.self.invariant.3)

@@ -1,7 +1,7 @@
 use Rattle.std.proofs.Common.{◌≡◌, ℕ, ◌<◌, List, [], length, Option, Some, sym, ap, ◌∙◌, subst, arith}
 use Rattle.std.proofs.lemmas.List.{nil_from_length}
 use Rattle.bf_forest.specs.declared.edits.Edit.{Edit}
-use Rattle.bf_forest.specs.declared.opened.Opened.{Opened}
+use Rattle.bf_forest.specs.declared.opened.OpenDirectory.{OpenDirectory}
 use Rattle.bf_forest.specs.Files.{edited}
 use Rattle.bf_forest.specs.Opened.{IsOpened, inner_weight, HasSome, heft, weight}
 use Rattle.bf_forest.specs.Rests.{slots_in}
@@ -17,7 +17,7 @@ pub loop-top-init : goal.loop-top-init
 loop-top-init c =
     let start = c.args.self.now in
     let files = edited_tree start.trees c.args.tree c.args.edits.now in
-    let P : List Opened → Type 0 = λ v. IsStacked start files v start c.in_ok-top.top in
+    let P : List OpenDirectory → Type 0 = λ v. IsStacked start files v start c.in_ok-top.top in
     subst P (sym c.new-below.ensures.items) (stacked_start start files c.in_ok-top.top
     (c.in_ok-top.ensures.opened, c.in_ok-top.ensures.base, c.in_ok-top.ensures.empty))
 
@@ -101,7 +101,7 @@ loop-top-preserved-in-Some c =
     let base = c.in-Some.base in
     let pending = c.in-Some.pending in
     let Q : List Edit → Type 0 = λ v. IsOpened next.trees (edited (base_files next.trees base) v) (slots_in next.table inner.rest) in
-    let R : List Opened → Type 0 = λ v. IsStacked start files v next inner in
+    let R : List OpenDirectory → Type 0 = λ v. IsStacked start files v next inner in
     subst R (sym c.in_ok-push-in-Some.ensures.items)
     (stacked_push start files below now next old top inner base pending h go
     (subst Q c.as_slice.ensures c.in_ok-inner-in-Some.ensures.opened, c.in_ok-inner-in-Some.ensures.base, c.in_ok-inner-in-Some.ensures.empty))

@@ -1,6 +1,6 @@
 use Rattle.std.proofs.Common.{◌==◌, Some, None, length, ap, ◌∙◌, refl, arith}
 use Rattle.std.proofs.lemmas.Bool.{and_parts}
-use Rattle.bf_forest.specs.declared.slots.Slot.TheVariants.{File, Directory}
+use Rattle.bf_forest.specs.declared.slots.EntrySlot.TheVariants.{File, Directory}
 use Rattle.bf_forest.specs.Nodes.{stood}
 use Rattle.bf_forest.specs.Rests.{slots_in}
 use Rattle.bf_forest.specs.Slots.{is_base}

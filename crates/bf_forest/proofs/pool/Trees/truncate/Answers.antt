@@ -1,5 +1,5 @@
 use Rattle.std.proofs.Common.{◌≡◌, List, [], length, take, true, sym, ap, ◌∙◌, subst}
-use Rattle.bf_forest.specs.declared.pool.Kept.{Kept}
+use Rattle.bf_forest.specs.declared.pool.KeptTree.{KeptTree}
 use Rattle.bf_forest.specs.Files.{Files}
 use Rattle.bf_forest.specs.Index.{IsIndexed}
 use Rattle.bf_forest.specs.Nodes.{World, Node, nodes_of, trees_from, AreNodes, are_kept_within}
@@ -20,7 +20,7 @@ invariant_of-self c =
     ap (trees_from []) front ∙ sym (trees-take nodes count) in
     let P : List Files → Type 0 = λ trees. IsIndexed c.self.inside.index trees in
     let Q : List Node → Type 0 = λ list. AreNodes [] list in
-    let R : List Kept → Type 0 = λ list. are_kept_within (length table) list ≡ true in (
+    let R : List KeptTree → Type 0 = λ list. are_kept_within (length table) list ≡ true in (
       c.requires ∙ ap (λ (w : World). entries_of (take count w.trees)) (sym c.self.view_is) ∙ ap entries_of (sym left),
       subst P (sym left) (IsIndexed-take c.self.inside.index (trees_from [] nodes) count c.self.invariant.1),
       subst Q (sym front) (nodes-take [] nodes count c.self.invariant.2),

@@ -1,6 +1,6 @@
 use Rattle.std.proofs.Common.{refl, ◌∙◌}
 use Rattle.bf_searches.proofs.Going.{known_begun, text_begun}
-use Rattle.bf_many_run.proofs.begun.begun_of.Goals as goal
+use Rattle.bf_many_run.proofs.slots.begun_of.Goals as goal
 
 pub returns : goal.returns
 returns c = record {

@@ -1,7 +1,7 @@
 use Rattle.bf_searches.proofs.Planning.{plan_read}
 use Rattle.bf_tester.specs.contracts.plan_tester.PlanTesterTester.TheImpl.{ghosts as by_plan}
 use Rattle.bf_many_run.proofs.Grouping.{has_begun, search_begun, search_refused, searched_refused, tells_asked}
-use Rattle.bf_many_run.proofs.begun.Group.add.Goals as goal
+use Rattle.bf_many_run.proofs.slots.Group.add.Goals as goal
 
 pub tester_of-requires : goal.tester_of-requires
 tester_of-requires c = record { plan = plan_read c.args.line.words.now c.args.line.request.now c.requires.asked }

@@ -6,7 +6,7 @@ ghost use Rattle.bf_many_run.specs.Lists.{IsAskedBy, words_in};
 ghost use Rattle.bf_words.specs.Words.{request};
 
 use crate::list::ListLine;
-use bf_answers::{Answer, Beginning, Fault, Line, Stop};
+use bf_answers::{Answer, Beginning, Fault, RequestLine, Stop};
 use bf_begin::begin;
 use bf_import::History;
 use bf_reach::Reach;
@@ -17,30 +17,30 @@ use std::alloc::{AllocError, Global};
 
 /// A search that has begun: where it stands, and its log so far.
 #[derive(Drop)]
-pub(crate) struct Begun {
+pub(crate) struct BegunSearch {
     pub state: State,
     pub telling: Telling,
 }
 
 /// What a line of a list comes to before its commits are tested.
 #[derive(Drop)]
-pub(crate) enum Slot {
+pub(crate) enum ListSlot {
     /// Its search is refused, with this answer.
     Refused(Answer),
     /// Its search has begun.
-    Begun(Begun),
+    Begun(BegunSearch),
 }
 
 /// The searches of a list, line by line, with a tester for each that has begun.
 #[derive(Drop)]
 pub(crate) struct Group {
     pub alloc: Global,
-    pub slots: Vec<Slot>,
+    pub slots: Vec<ListSlot>,
     pub testers: Vec<PlanTester>,
 }
 
 /// A search of which no commit is tested yet, with the first lines of its log.
-fn begun_of(alloc: Global, history: &History, first: Beginning) -> Result<Begun, AllocError>
+fn begun_of(alloc: Global, history: &History, first: Beginning) -> Result<BegunSearch, AllocError>
     requires len { first.state.len ≡ length history.now.parents }
     requires places { AreWithin first }
     ensures { IfOk result (IsBegunAs history.now first) }
@@ -54,12 +54,12 @@ fn begun_of(alloc: Global, history: &History, first: Beginning) -> Result<Begun,
     } = first;
     let mut telling = Telling::new(alloc, known, false);
     telling.add_entries(history, &state, entries.as_slice())?;
-    Ok(Begun { state, telling })
+    Ok(BegunSearch { state, telling })
 }
 
 impl Group {
     /// Adds the search of a line, or its refusal.
-    fn add(&mut self, line: Line<'_>, history: &History, reach: &Reach) -> Result<(), Fault>
+    fn add(&mut self, line: RequestLine<'_>, history: &History, reach: &Reach) -> Result<(), Fault>
         requires asked { request line.words.now ≡ Ok line.request.now }
         requires reach { reach.now ≡ history.now.parents }
         ensures added { (lines : List (List (List ℕ))) →
@@ -74,12 +74,12 @@ impl Group {
             Ok(first) => {
                 let begun = begun_of(line.alloc, history, first)?;
                 let tester = tester_of(line.alloc, line)?;
-                self.slots.push(Slot::Begun(begun))?;
+                self.slots.push(ListSlot::Begun(begun))?;
                 self.testers.push(tester)?;
                 Ok(())
             }
             Err(Stop::Refused(answer)) => {
-                self.slots.push(Slot::Refused(answer))?;
+                self.slots.push(ListSlot::Refused(answer))?;
                 Ok(())
             }
             Err(Stop::NoMemory) => Err(Fault::NoMemory),

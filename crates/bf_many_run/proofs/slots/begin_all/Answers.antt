@@ -3,7 +3,7 @@ use Rattle.bf_tester.specs.contracts.plan_tester.PlanTesterTester.TheImpl.{ghost
 use Rattle.bf_many_run.proofs.Grouping.{asked_next, lines_more, no_searches}
 use Rattle.bf_many_run.specs.Groups.{AreSearchesOf}
 use Rattle.bf_many_run.specs.Lists.{words_in}
-use Rattle.bf_many_run.proofs.begun.begin_all.Goals as goal
+use Rattle.bf_many_run.proofs.slots.begin_all.Goals as goal
 
 pub loop-line-init : goal.loop-line-init
 loop-line-init c = no_searches by_plan c.args.history.now _ _ c.new.ensures.items c.new-2.ensures.items
