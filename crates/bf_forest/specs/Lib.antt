@@ -3,7 +3,7 @@ pub mod Files
 pub mod Index
 pub mod Listing
 pub mod Nodes
-pub mod OpenDirectory
+pub mod Opened
 pub mod Overlays
 pub mod Rests
 pub mod Slots

@@ -5,8 +5,8 @@ use Rattle.bf_grammar.specs.declared.command.Head.{Head}
 use Rattle.bf_grammar.specs.declared.command.Head.TheVariants as head
 use Rattle.bf_grammar.specs.declared.fault.StreamFault.{StreamFault}
 use Rattle.bf_grammar.specs.Forms.{head_of, named_head, name_after, feature_of}
-use Rattle.bf_forms.specs.declared.first_line.FirstLine.{FirstLine}
-use Rattle.bf_forms.specs.declared.first_line.FirstLine.TheVariants as first
+use Rattle.bf_forms.specs.declared.first_lines.FirstLine.{FirstLine}
+use Rattle.bf_forms.specs.declared.first_lines.FirstLine.TheVariants as first
 
 -- what a line begins, without its name
 abbrev pub head_in : FirstLine → Head

@@ -3,7 +3,7 @@ use Rattle.bf_stream.proofs.Chains.{reads_pure, reads_handed_on}
 use Rattle.std.proofs.Common.{codes, ◌∙◌, ap, subst, Ok, Err}
 use Rattle.bf_grammar.specs.declared.command.Head.TheVariants as head
 use Rattle.bf_grammar.specs.Forms.{head_of, name_after}
-use Rattle.bf_forms.specs.declared.first_line.FirstLine.{FirstLine}
+use Rattle.bf_forms.specs.declared.first_lines.FirstLine.{FirstLine}
 use Rattle.bf_forms.specs.FirstLines.{head_in, NameIs}
 use Rattle.bf_stream.specs.Parts.{commit_from, tag_from, reset_from}
 use Rattle.bf_grammar.specs.declared.command.Command.TheVariants.{Feature}

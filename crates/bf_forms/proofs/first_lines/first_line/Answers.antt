@@ -4,7 +4,7 @@ use Rattle.bf_grammar.specs.Lines.{is_text, has_word}
 use Rattle.bf_grammar.specs.Forms.{head_of, named_head}
 use Rattle.bf_forms.specs.FirstLines.{Begins}
 use Rattle.bf_forms.proofs.Refusals.{refused}
-use Rattle.bf_forms.proofs.first_line.first_line.Goals as goal
+use Rattle.bf_forms.proofs.first_lines.first_line.Goals as goal
 
 named_commit : (line : ℕ) (text : List ℕ) → is_text (codes "done") text ≡ false → is_text (codes "blob") text ≡ false → has_word (codes "commit") text ≡ true
     → head_of line text ≡ named_head line (codes "commit") head.Commit text

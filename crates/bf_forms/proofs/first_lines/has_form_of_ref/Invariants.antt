@@ -1,7 +1,7 @@
 use Rattle.std.proofs.Common.{◌≡◌, ◌&&◌, not, length}
 use Rattle.std.specs.List.{list_all}
 use Rattle.bf_grammar.specs.Forms.{has_two_dots, is_ref_byte}
-use Rattle.bf_forms.proofs.first_line.has_form_of_ref.Given as goal
+use Rattle.bf_forms.proofs.first_lines.has_form_of_ref.Given as goal
 
 abbrev pub invariant-loop-rest : goal.invariant-loop-rest
 invariant-loop-rest l =
