@@ -51,7 +51,7 @@ ROWS = [
             eol=lf && [ $n -lt 7 ] || eol=crlf
             echo "*.txt text eol=$eol" >.gitattributes && echo $n >number && git add -A && git commit -q -m $n && git tag -f c$n >/dev/null
         done 2>/dev/null''', sh('! grep -q "$(printf "\\r")" t.txt')),
-    Row('a test changes a file, and tells git not to look at it', 'echo same >settings && git add settings && git commit -q -m settings && git tag -f c1 && '
+    Row('a test changes a file, and tells git not to look at it', 'echo same >settings && echo 1 >number && git add -A && git commit -q -m settings && git tag -f c1 && '
         'for n in 2 3 4 5 6 7 8 9 10 11 12; do echo $n >number && git commit -q -a -m $n && git tag -f c$n; done',
         sh('[ "$(cat settings)" = same ] || exit 1; echo mine >settings; git update-index --skip-worktree settings; ' + BAD_FROM_7)),
     Row('core.worktree is for each worktree', 'git config core.worktree "$PWD" && git config extensions.worktreeConfig true && echo mine >number',
@@ -62,7 +62,7 @@ ROWS = [
         git sparse-checkout set --cone a && git worktree add -q ../linked c12 && cd ../linked && git sparse-checkout disable''',
         sh('[ $(cat b/n) -lt 7 ]'), folder='../linked'),
     Row('the work tree is sparse', '''
-        mkdir a b && echo 1 >a/n && echo 1 >b/n && git add -A && git commit -q -m more && git tag -f c1 >/dev/null
+        mkdir a b && echo 1 >a/n && echo 1 >b/n && echo 1 >number && git add -A && git commit -q -m more && git tag -f c1 >/dev/null
         for n in 2 3 4 5 6 7 8 9 10 11 12; do echo $n >number && git add -A && git commit -q -m $n && git tag -f c$n; done >/dev/null
         git sparse-checkout set --cone a''', sh('[ -e a/n ] && [ ! -e b/n ] || exit 1; ' + BAD_FROM_7)),
     Row('a test is ended in the middle of its build', 'echo built >.git/info/exclude',
