@@ -5,7 +5,7 @@
 # make uninstall PREFIX=FOLDER: removes what was installed
 # make dist: packs the program that make install or make test built, PROGRAM, into DIST, for machines without the kit
 # make deb: the same as a package of Debian; packaging/Containerfile makes an image of that
-# make test: every proof, must-fail edit, test and program of this checkout
+# make test: the merge gate (docs/GATE.md): every proof, must-fail edit, test and program of this checkout, and make check
 # make check: the tests of git farmdawn, of the scripts and of the pages
 # make check-model: those of git farmdawn, over a model of what it asks the program (docs/DRIVER.md)
 # make bench: what the programs cost, at small sizes (benches/bench.py has the others)
