@@ -23,7 +23,7 @@ TERM_OPTIONS = {b'--term-new': 0, b'--term-bad': 0, b'--term-old': 1, b'--term-g
 def waiting_line(terms: Terms, has_bad: bool, goods: int) -> bytes:
     """What is wanted before a search can begin."""
     if not has_bad and goods == 0:
-        return b'waiting for both %s and %s commits' % terms
+        return b'waiting for both %s and %s commits' % (terms[1], terms[0])
     if not has_bad:
         return b'waiting for %s commit, %d %s known' % (terms[0], goods, terms[1])
     return b'waiting for %s commits, %s commit known' % (terms[1], terms[0])
