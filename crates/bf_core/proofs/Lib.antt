@@ -5,3 +5,4 @@ pub mod Joining
 pub mod Beside
 pub mod Standing
 pub mod Calls
+pub mod Sending

@@ -23,6 +23,7 @@ use bf_spec::{SpecTree, Table};
 use bf_state::State;
 use std::alloc::{AllocError, Global};
 use std::marker::Model;
+use std::snapshot::Snapshot;
 
 /// A search whose commits several workers test.
 ///
@@ -33,8 +34,8 @@ use std::marker::Model;
 #[derive(Drop)]
 pub struct Core<'r> {
     alloc: Global,
-    /// The search that it started with.
-    first: State,
+    /// The search that it started with, which clauses alone read.
+    first: Snapshot<State>,
     /// The marks of a leg, or 0.
     leg: u32,
     /// The outcomes by place, where they are known.
@@ -53,9 +54,9 @@ impl<'r> Model for Core<'r> {
     ghost use Rattle.bf_core.specs.Consuming.{IsCore};
     ghost use Rattle.bf_core.specs.Machine.{seen};
 
-    ghost view = { λ c. seen c.first c.leg c.table c.claims.items c.run };
+    ghost view = { λ c. seen c.first.value c.leg c.table c.claims.items c.run };
 
-    ghost invariant = { λ c. IsCore c.first c.leg c.table c.claims.items c.run };
+    ghost invariant = { λ c. IsCore c.first.value c.leg c.table c.claims.items c.run };
 }
 
 impl<'r> Core<'r> {
@@ -75,7 +76,7 @@ impl<'r> Core<'r> {
         ensures consumed { IfOk result IsConsumed }
     {
         prove!(reach.len() == state.len());
-        let first = state.try_clone()?;
+        let first = Snapshot::of(&state);
         let tree = SpecTree::new(alloc, reach, state)?;
         let run = Consumed::begin(alloc, tree, &table, leg)?;
         Ok(Core {

@@ -11,6 +11,7 @@ pub mod Promised
 pub mod Reporting
 pub mod Rests
 pub mod Seen
+pub mod Sending
 pub mod Soundness
 pub mod Teams
 pub mod Telling

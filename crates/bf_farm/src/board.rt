@@ -17,6 +17,7 @@ use bf_spec::Table;
 use bf_state::State;
 use std::alloc::{AllocError, Global};
 use std::marker::Model;
+use std::snapshot::Snapshot;
 
 /// What workers share: a core, and each event that led to it. Contracts see the core, the table that it
 /// began with, the events and the room for more of them.
@@ -27,7 +28,8 @@ use std::marker::Model;
 pub struct Board<'r> {
     alloc: Global,
     core: Core<'r>,
-    first: Table,
+    /// The table that it began with, which clauses alone read.
+    first: Snapshot<Table>,
     events: Vec<Event>,
 }
 
@@ -40,12 +42,12 @@ impl<'r> Model for Board<'r> {
 
     ghost view = { λ b. record {
       core = view_of b.core;
-      first = b.first;
+      first = b.first.value;
       events = b.events.items;
       spare = vec_capacity b.events - vec_len b.events;
     } };
 
-    ghost invariant = { λ b. LeadsToCore b.first b.events.items b.core
+    ghost invariant = { λ b. LeadsToCore b.first.value b.events.items b.core
         × (vec_len b.events + length b.core.claims ≤ vec_capacity b.events) };
 }
 
@@ -68,7 +70,7 @@ impl<'r> Board<'r> {
         ensures first { IfOk result (λ board. board.first ≡ table) }
         ensures events { IfOk result (λ board. board.events ≡ []) }
     {
-        let first = table.try_clone()?;
+        let first = Snapshot::of(&table);
         let core = Core::start(alloc, reach, state, table, leg)?;
         Ok(Board {
             alloc,

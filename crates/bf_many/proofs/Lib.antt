@@ -13,3 +13,4 @@ pub mod Lengths
 pub mod Fresh
 pub mod Adding
 pub mod Wanting
+pub mod Sending

@@ -11,10 +11,10 @@ returns-clause-ending c = c.as_ref.ensures.value ∙ ap (λ (m : Machine). m.end
 pub returns-clause-none : goal.returns-clause-none
 returns-clause-none c =
     subst (λ (m : Machine). (m.ending ≡ None) ↔ (is_open (run_of m).end ≡ true)) c.self.view_is
-    (waits (seen c.self.inside.first c.self.inside.leg c.self.inside.table c.self.inside.claims.items c.self.inside.run)
-    (consumed_of c.self.inside.first c.self.inside.leg c.self.inside.table c.self.inside.claims.items c.self.inside.run c.self.invariant))
+    (waits (seen c.self.inside.first.value c.self.inside.leg c.self.inside.table c.self.inside.claims.items c.self.inside.run)
+    (consumed_of c.self.inside.first.value c.self.inside.leg c.self.inside.table c.self.inside.claims.items c.self.inside.run c.self.invariant))
 
 pub returns-clause-leg : goal.returns-clause-leg
 returns-clause-leg c =
     subst (λ (m : Machine). (m.ending ≡ Some endings.Leg) ↔ IsLegOver m) c.self.view_is
-    (leg_over c.self.inside.first c.self.inside.leg c.self.inside.table c.self.inside.claims.items c.self.inside.run c.self.invariant)
+    (leg_over c.self.inside.first.value c.self.inside.leg c.self.inside.table c.self.inside.claims.items c.self.inside.run c.self.invariant)

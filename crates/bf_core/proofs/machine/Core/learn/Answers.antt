@@ -14,10 +14,10 @@ use Rattle.bf_core.proofs.machine.Core.learn.Goals as goal
 free : (c : goal.In_ok-workers) → IsFree (length c.self.inside.table) (outcomes_of_table c.self.inside.table) c.self.inside.claims.items c.args.place
 free c = subst (λ (m : Machine). IsFree (length m.table) (outcomes_of_table m.table) m.claims c.args.place) (sym c.self.view_is) c.requires
 
-it : (c : goal.In_ok-workers) → IsPut c.self.inside.first c.self.inside.leg c.self.inside.table c.self.inside.claims.items c.self.inside.run
+it : (c : goal.In_ok-workers) → IsPut c.self.inside.first.value c.self.inside.leg c.self.inside.table c.self.inside.claims.items c.self.inside.run
     c.args.place c.args.outcome c.learn.new.table c.self.inside.claims.items c.learn.new.self
 it c =
-    puts c.self.inside.first c.self.inside.leg c.self.inside.table c.self.inside.claims.items c.self.inside.run c.args.place c.args.outcome
+    puts c.self.inside.first.value c.self.inside.leg c.self.inside.table c.self.inside.claims.items c.self.inside.run c.args.place c.args.outcome
     c.learn.new.table c.self.inside.claims.items c.learn.new.self c.self.invariant (free c).unknown
     (claims_beside c.self.inside.table c.self.inside.claims.items c.args.place c.args.outcome c.self.invariant.standing (free c).unclaimed)
     c.in_ok-workers.ensures.table c.in_ok-workers.ensures.run
@@ -28,20 +28,20 @@ invariant_of-self-2 c = (it c).core
 pub returns-clause-learnt : goal.returns-clause-learnt
 returns-clause-learnt c =
     subst (λ (m : Machine). IsLearnt m c.args.place c.args.outcome
-    (seen c.self.inside.first c.self.inside.leg c.learn.new.table c.self.inside.claims.items c.learn.new.self)) c.self.view_is
-    (learns c.self.inside.first c.self.inside.leg c.self.inside.table c.self.inside.claims.items c.self.inside.run c.args.place c.args.outcome
+    (seen c.self.inside.first.value c.self.inside.leg c.learn.new.table c.self.inside.claims.items c.learn.new.self)) c.self.view_is
+    (learns c.self.inside.first.value c.self.inside.leg c.self.inside.table c.self.inside.claims.items c.self.inside.run c.args.place c.args.outcome
     c.learn.new.table c.learn.new.self c.in_ok-workers.ensures.table (it c))
 
 pub returns-clause-consumed : goal.returns-clause-consumed
-returns-clause-consumed c = consumed_of c.self.inside.first c.self.inside.leg c.learn.new.table c.self.inside.claims.items c.learn.new.self (it c).core
+returns-clause-consumed c = consumed_of c.self.inside.first.value c.self.inside.leg c.learn.new.table c.self.inside.claims.items c.learn.new.self (it c).core
 
 pub returns-clause-beside : goal.returns-clause-beside
 returns-clause-beside c =
     subst (λ (m : Machine). (run_of m).end ≢ Open c.args.place
-    → IsUnmoved m (seen c.self.inside.first c.self.inside.leg c.learn.new.table c.self.inside.claims.items c.learn.new.self)) c.self.view_is (it c).beside
+    → IsUnmoved m (seen c.self.inside.first.value c.self.inside.leg c.learn.new.table c.self.inside.claims.items c.learn.new.self)) c.self.view_is (it c).beside
 
 pub returns-clause-withdrawn : goal.returns-clause-withdrawn
 returns-clause-withdrawn c = λ v.
     iff_trans (subst (λ (cs : List Claim). Contains c.in_ok-workers.workers.items v ↔ IsUnwanted c.learn.new.self c.learn.new.table cs v)
     c.as_slice-claims.ensures.value (c.in_ok-workers.ensures.unwanted v))
-    (withdraws c.self.inside.first c.self.inside.leg c.learn.new.table c.self.inside.claims.items c.learn.new.self v)
+    (withdraws c.self.inside.first.value c.self.inside.leg c.learn.new.table c.self.inside.claims.items c.learn.new.self v)

@@ -33,12 +33,12 @@ learn-requires-clause-claims c =
 left_is : (c : goal.After-drop-self-inside) → c.in_ok-others.others.items ≡ without c.self.inside.claims.items c.args.worker
 left_is c = c.in_ok-others.ensures ∙ ap (λ (cs : List Claim). without cs c.args.worker) c.as_slice.ensures.value
 
-it : (c : goal.After-drop-self-inside) → IsPut c.self.inside.first c.self.inside.leg c.self.inside.table c.self.inside.claims.items c.self.inside.run
+it : (c : goal.After-drop-self-inside) → IsPut c.self.inside.first.value c.self.inside.leg c.self.inside.table c.self.inside.claims.items c.self.inside.run
     c.args.place c.args.outcome c.learn.new.table c.in_ok-others.others.items c.learn.new.self
 it c =
     let stood : stands c.self.inside.claims.items c.args.worker c.args.place ≡ true
     = subst (λ (m : Machine). stands m.claims c.args.worker c.args.place ≡ true) (sym c.self.view_is) c.requires in
-    puts c.self.inside.first c.self.inside.leg c.self.inside.table c.self.inside.claims.items c.self.inside.run c.args.place c.args.outcome
+    puts c.self.inside.first.value c.self.inside.leg c.self.inside.table c.self.inside.claims.items c.self.inside.run c.args.place c.args.outcome
     c.learn.new.table c.in_ok-others.others.items c.learn.new.self c.self.invariant
     (standing_place c.self.inside.table c.self.inside.claims.items c.args.worker c.args.place c.self.invariant.standing stood).1
     (claims_left c.self.inside.table c.self.inside.claims.items c.in_ok-others.others.items c.args.worker c.args.place c.args.outcome
@@ -51,23 +51,23 @@ invariant_of-self-2 c = (it c).core
 pub returns-clause-event : goal.returns-clause-event
 returns-clause-event c =
     subst (λ (m : Machine). IsStep m (Posted c.args.worker c.args.place c.args.outcome)
-    (seen c.self.inside.first c.self.inside.leg c.learn.new.table c.in_ok-others.others.items c.learn.new.self)) c.self.view_is
-    (posts c.self.inside.first c.self.inside.leg c.self.inside.table c.self.inside.claims.items c.self.inside.run c.args.worker c.args.place
+    (seen c.self.inside.first.value c.self.inside.leg c.learn.new.table c.in_ok-others.others.items c.learn.new.self)) c.self.view_is
+    (posts c.self.inside.first.value c.self.inside.leg c.self.inside.table c.self.inside.claims.items c.self.inside.run c.args.worker c.args.place
     c.args.outcome c.learn.new.table c.in_ok-others.others.items c.learn.new.self
     (subst (λ (m : Machine). stands m.claims c.args.worker c.args.place ≡ true) (sym c.self.view_is) c.requires)
     c.in_ok-workers.ensures.table (left_is c) (it c))
 
 pub returns-clause-consumed : goal.returns-clause-consumed
-returns-clause-consumed c = consumed_of c.self.inside.first c.self.inside.leg c.learn.new.table c.in_ok-others.others.items c.learn.new.self (it c).core
+returns-clause-consumed c = consumed_of c.self.inside.first.value c.self.inside.leg c.learn.new.table c.in_ok-others.others.items c.learn.new.self (it c).core
 
 pub returns-clause-beside : goal.returns-clause-beside
 returns-clause-beside c =
     subst (λ (m : Machine). (run_of m).end ≢ Open c.args.place
-    → IsUnmoved m (seen c.self.inside.first c.self.inside.leg c.learn.new.table c.in_ok-others.others.items c.learn.new.self)) c.self.view_is (it c).beside
+    → IsUnmoved m (seen c.self.inside.first.value c.self.inside.leg c.learn.new.table c.in_ok-others.others.items c.learn.new.self)) c.self.view_is (it c).beside
 
 pub returns-clause-withdrawn : goal.returns-clause-withdrawn
 returns-clause-withdrawn c = λ asks v.
     iff_trans (subst (λ (cs : List Claim). Contains c.in_ok-workers.workers.items v ↔ IsUnwanted c.learn.new.self c.learn.new.table cs v)
     (c.asked_of-asked.ensures ∙ ap (λ (b : Bool). cond b c.as_slice-2.result.now []) asks ∙ c.as_slice-2.ensures.value)
     (c.in_ok-workers.ensures.unwanted v))
-    (withdraws c.self.inside.first c.self.inside.leg c.learn.new.table c.in_ok-others.others.items c.learn.new.self v)
+    (withdraws c.self.inside.first.value c.self.inside.leg c.learn.new.table c.in_ok-others.others.items c.learn.new.self v)

@@ -14,11 +14,11 @@ it c =
 
 pub invariant_of-result : goal.invariant_of-result
 invariant_of-result c =
-    subst (λ (cs : List Claim). IsCore c.in_ok-first.first c.args.leg c.args.table cs c.in_ok-run.run') (sym c.new-2.ensures.items)
-    (subst (λ (s : Session). IsCore s c.args.leg c.args.table [] c.in_ok-run.run') (sym c.in_ok-first.ensures) (it c).0)
+    subst (λ (cs : List Claim). IsCore c.of-first.result.value c.args.leg c.args.table cs c.in_ok-run.run') (sym c.new-2.ensures.items)
+    (subst (λ (s : Session). IsCore s c.args.leg c.args.table [] c.in_ok-run.run') (sym c.of-first.ensures) (it c).0)
 
 pub returns-clause-started : goal.returns-clause-started
-returns-clause-started c = record { on_graph = (it c).1; from = c.in_ok-first.ensures; on_table = refl; in_legs = refl; no_claims = c.new-2.ensures.items }
+returns-clause-started c = record { on_graph = (it c).1; from = c.of-first.ensures; on_table = refl; in_legs = refl; no_claims = c.new-2.ensures.items }
 
 pub returns-clause-consumed : goal.returns-clause-consumed
-returns-clause-consumed c = consumed_of c.in_ok-first.first c.args.leg c.args.table c.new-2.result.items c.in_ok-run.run' (invariant_of-result c)
+returns-clause-consumed c = consumed_of c.of-first.result.value c.args.leg c.args.table c.new-2.result.items c.in_ok-run.run' (invariant_of-result c)

@@ -14,7 +14,7 @@ returns-then-place-len-clause-wanted c = (
   λ t. cc t,
   λ wants.
       let within : c.args.place < length c.self.inside.table
-      = wants_within c.self.inside.first c.self.inside.leg c.self.inside.table c.self.inside.claims.items c.self.inside.run c.args.place
+      = wants_within c.self.inside.first.value c.self.inside.leg c.self.inside.table c.self.inside.claims.items c.self.inside.run c.args.place
       c.self.invariant (subst (λ (m : Machine). WantsOutcome m c.args.place) (sym c.self.view_is) wants) in
       elim c.then-place-len.branch [
         | then-place-len-via-then-place-len w ↦ absurd (omega (arith, within, c.len.ensures, w.if-place-len.true))
@@ -29,7 +29,7 @@ returns-clause-wanted c =
     c.asks.result
     (λ asks h. subst (λ (m : Machine). IsTrue asks ↔ WantsOutcome m c.args.place) c.self.view_is
     (iff_trans h
-    (wants_asks c.self.inside.first c.self.inside.leg c.self.inside.table c.self.inside.claims.items c.self.inside.run c.args.place
+    (wants_asks c.self.inside.first.value c.self.inside.leg c.self.inside.table c.self.inside.claims.items c.self.inside.run c.args.place
     (none_of (outcomes_of_table c.self.inside.table c.args.place)
     (subst (λ (m : Machine). is_some (outcomes_of_table m.table c.args.place) ≡ false) (sym c.self.view_is)
     (sym c.has_outcome.ensures ∙ c.if-has_outcome.false))))))

@@ -1,0 +1,13 @@
+-- What workers share may be seen by several threads: a board may go from thread to thread.
+use denote.Ref.{NamedLft}
+use denote.Param.Send.{IsSend, IsSync, sendable}
+use Rattle.std.proofs.Crossing.{crosses}
+use Rattle.bf_core.proofs.Sending.{core_send}
+use Rattle.bf_farm.specs.contracts.board.Board as Board
+use Rattle.bf_farm.specs.contracts.worker.Shared as Shared
+
+board_send : (l : NamedLft) → IsSend (Board.the_row l)
+board_send l = search (sendable, crosses, core_send) depth 60 fits 20000
+
+pub shared_sync : (l m : NamedLft) → IsSync (Shared.the_row l m)
+shared_sync l m = search (sendable, crosses, board_send) depth 60 fits 20000
