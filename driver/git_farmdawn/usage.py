@@ -11,7 +11,7 @@ USAGE = """usage: git farmdawn [OPTION..] BAD GOOD.. -- COMMAND [WORD..]
 
 Finds the first bad commit between BAD and GOOD, or GOOD..BAD. COMMAND is run in a checkout of each commit that is
 tested, and says by its status: 0 good, 1 to 124 bad, 125 skip; 126 and above stop the search. Names of commits are
-git's own. Options may be shortened as far as they are clear, and take their value in the next word or behind =.
+git's own. You may shorten options as long as they stay clear. Their value is the next word, or follows =.
 
   -j, --workers N    tests at once (as many as there are processors)
   --first-parent     follows first parents alone
