@@ -81,7 +81,7 @@ def places_of_driver():
 
 def places_of_script(name):
     text = read("tools", name)
-    cases = re.findall(rf"^ *(-[a-z-]+(?: \| -[a-z-]+)*)\)", text, re.M)
+    cases = re.findall(r"^ *(-[a-z-]+(?: \| -[a-z-]+)*)\)", text, re.M)
     return {
         "its reading": {option for case in cases for option in re.findall(LONG, case)} - ASKED,
         "its help": in_help(cut(text, "<<'TEXT'\n", "\nTEXT\n")),

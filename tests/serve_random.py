@@ -174,11 +174,16 @@ class Dialogue:
         return words + self.ends()
 
     def log_file(self):
-        """A file with the log of a search so far, or a part of it."""
+        """A file with the log of a search so far, or a part of it; or one that lacks an end."""
         name = os.path.join(self.folder, "log.%d" % len(self.lines))
         told = self.choice.choice(self.told)
+        log = b"".join(line.split(b" ", 2)[2] + b"\n" for line in told if line.startswith(b"log "))[:self.choice.choice([None, None, -1, 40])]
+        if self.choice.random() < 0.1:
+            bad, good = self.choice.choice([(b"bad", b"good"), (b"slow", b"fast")])
+            log = b"git bisect start" + (b" '--term-new' 'slow' '--term-old' 'fast'" if bad == b"slow" else b"") + b"\n"
+            log += self.choice.choice([b"", b"git bisect " + bad + b" " + self.name() + b"\n", b"git bisect " + good + b" " + self.name() + b"\n"])
         with open(name, "wb") as file:
-            file.write(b"".join(line.split(b" ", 2)[2] + b"\n" for line in told if line.startswith(b"log "))[:self.choice.choice([None, None, -1, 40])])
+            file.write(log)
         return name.encode()
 
     def outcome(self, number, place):
