@@ -164,7 +164,7 @@ class Dialogue:
         return [b"c%d" % (count - 1)] + [b"c%d" % self.choice.randrange(max(1, count // 3)) for _ in range(self.choice.choice([1, 1, 2]))]
 
     def search_words(self):
-        if self.told and self.choice.random() < 0.15:
+        if self.choice.random() < 0.15:
             return [b"--replay", self.log_file()] + ([b"--skip", self.name()] if self.choice.random() < 0.2 else [])
         words = [b"--first-parent"] if self.choice.random() < 0.2 else []
         words += [b"--lenient-exit"] if self.choice.random() < 0.2 else []
@@ -176,9 +176,10 @@ class Dialogue:
     def log_file(self):
         """A file with the log of a search so far, or a part of it; or one that lacks an end."""
         name = os.path.join(self.folder, "log.%d" % len(self.lines))
-        told = self.choice.choice(self.told)
-        log = b"".join(line.split(b" ", 2)[2] + b"\n" for line in told if line.startswith(b"log "))[:self.choice.choice([None, None, -1, 40])]
-        if self.choice.random() < 0.1:
+        if self.told and self.choice.random() < 0.8:
+            told = self.choice.choice(self.told)
+            log = b"".join(line.split(b" ", 2)[2] + b"\n" for line in told if line.startswith(b"log "))[:self.choice.choice([None, None, -1, 40])]
+        else:
             bad, good = self.choice.choice([(b"bad", b"good"), (b"slow", b"fast")])
             log = b"git bisect start" + (b" '--term-new' 'slow' '--term-old' 'fast'" if bad == b"slow" else b"") + b"\n"
             log += self.choice.choice([b"", b"git bisect " + bad + b" " + self.name() + b"\n", b"git bisect " + good + b" " + self.name() + b"\n"])
