@@ -12,7 +12,7 @@ sys.path.insert(0, os.path.dirname(os.path.dirname(os.path.abspath(__file__))))
 from browser import CHROMIUM, Browser                            # noqa: E402
 from git_farmdawn.facts import Row                              # noqa: E402
 from git_farmdawn.report import Report                          # noqa: E402
-from test_page import Room, make_search, make_several           # noqa: E402
+from made_search import Room, make_search, make_several         # noqa: E402
 
 SUBJECTS = ['修复解析器在空文件上的崩溃，并且为此添加一个测试', 'إصلاح خطأ في قراءة الملفات الطويلة (issue 17)',
             'תיקון באג בקריאת קבצים', 'x',
