@@ -9,16 +9,17 @@ use Rattle.bf_answers.specs.declared.line.RequestLine.{RequestLine}
 use Rattle.bf_answers.specs.declared.started.Ready.{Ready}
 use Rattle.bf_answers.specs.declared.started.Ready.TheVariants.{Told as ToldAnswer, Search}
 use Rattle.bf_answers.specs.Tellings.{begun_of, told_of}
-use Rattle.bf_answers.proofs.Streamed.{imported, refused}
+use Rattle.bf_answers.proofs.Streamed.{imported, not_imported}
 use Rattle.bf_begin.specs.declared.file.LogFile.{LogFile}
 use Rattle.bf_begin.specs.Files.{file_given, given_of, IsFileAt, IsFileOf}
+use Rattle.bf_grammar.specs.declared.fault.Limits.{Limits}
 use Rattle.bf_grammar.specs.Limits.{standard_limits}
 use Rattle.bf_history.specs.declared.fault.ImportFault.{ImportFault}
 use Rattle.bf_history.specs.Imports.{MayImport}
 use Rattle.bf_import.specs.Faults.{IsImportFault}
 use Rattle.bf_history.specs.Meanings.{History}
 use Rattle.bf_output.specs.Beginning.{Begun, begun_with_skips}
-use Rattle.bf_output.specs.Inputs.{IsFiledIf, IsImported, IsStreamed, IsTextTold, IsToldFrom, IsToldOr, file_of}
+use Rattle.bf_output.specs.Inputs.{IsFiledIf, IsImported, IsReadUnder, IsStreamed, IsTextTold, IsToldFrom, IsToldOr, file_of}
 use Rattle.bf_output.specs.Logs.{file_or_refusal}
 use Rattle.bf_output.specs.Output.{IsSearchOver}
 use Rattle.bf_output.specs.Refusals.{refusal}
@@ -98,24 +99,25 @@ module _ (IsTold : History → Begun → Told → Type 0) (line : RequestLine) (
 
 -- ---- the text of a file
 
-module _ (tell : History → List ℕ → Told) (left : Option (List ℕ)) (files : Option (List ShelfFile)) (words : List (List ℕ)) (i : ℕ) where
+module _ (limits : Limits) (tell : History → List ℕ → Told) (left : Option (List ℕ)) (files : Option (List ShelfFile)) (words : List (List ℕ)) (i : ℕ) where
   -- what is told of a file that the shelf gave is told by the words
-  pub text_over : (history : History) (file : LogFile) (told : Told) → MayImport left standard_limits (Ok history) → IsFileAt files words i file
-      → IsToldFrom (λ bytes t. t ≡ tell history bytes) (file_or_refusal (given_of file)) told → IsStreamed (IsTextTold tell words i files) left told
-  text_over history file told may is tells = (Ok history, imported left standard_limits history may, (given_of file, at files is, tells))
+  pub text_over : (history : History) (file : LogFile) (told : Told) → MayImport left limits (Ok history) → IsFileAt files words i file
+      → IsToldFrom (λ bytes t. t ≡ tell history bytes) (file_or_refusal (given_of file)) told
+      → IsReadUnder limits (IsTextTold tell words i files) left told
+  text_over history file told may is tells = (Ok history, imported left limits history may, (given_of file, at files is, tells))
     where
       at : (given : Option (List ShelfFile)) → IsFileAt given words i file → IfSome given (λ all. given_of file ≡ file_of words i all)
       at None is = tt
       at (Some all) is = is
 
   -- and so is the refusal of the stream
-  pub text_refused : (fault : ImportFault) (answer : Answer) → MayImport left standard_limits (Err fault) → IsImportFault fault
-      → IsWhole answer.status → told_of answer ≡ refusal fault → IsStreamed (IsTextTold tell words i files) left (told_of answer)
-  text_refused fault answer may known whole is = refused (IsTextTold tell words i files) left fault (Ok answer) may known whole is
+  pub text_refused : (fault : ImportFault) (answer : Answer) → MayImport left limits (Err fault) → IsImportFault fault
+      → IsWhole answer.status → told_of answer ≡ refusal fault → IsReadUnder limits (IsTextTold tell words i files) left (told_of answer)
+  text_refused fault answer may known whole is = (Err fault, not_imported left limits fault (told_of answer) may known whole is, is)
 
   -- so is what is answered to the text
   pub text_told : {E : Type 0} (history : History) (text : List ℕ) (result : Result Answer E)
-      → IsStreamed (IsTextTold tell words i files) left (tell history text) → IfOk result (λ a. told_of a ≡ tell history text)
-      → IfOk result (λ a. IsStreamed (IsTextTold tell words i files) left (told_of a))
+      → IsReadUnder limits (IsTextTold tell words i files) left (tell history text) → IfOk result (λ a. told_of a ≡ tell history text)
+      → IfOk result (λ a. IsReadUnder limits (IsTextTold tell words i files) left (told_of a))
   text_told history text (Err e) is said = tt
-  text_told history text (Ok a) is said = subst (λ (t : Told). IsStreamed (IsTextTold tell words i files) left t) (sym said) is
+  text_told history text (Ok a) is said = subst (λ (t : Told). IsReadUnder limits (IsTextTold tell words i files) left t) (sym said) is

@@ -8,6 +8,7 @@ use Rattle.bf_answers.specs.declared.started.Ready.TheVariants.{Told as ToldAnsw
 use Rattle.bf_answers.specs.Answers.{IsWhole}
 use Rattle.bf_answers.specs.Tellings.{begun_of, told_of}
 use Rattle.bf_begin.specs.declared.file.LogFile.{LogFile}
+use Rattle.bf_begin.specs.declared.door.FileLine.{FileLine}
 use Rattle.bf_begin.specs.declared.door.Opened.{Opened}
 use Rattle.bf_begin.specs.declared.door.Opened.TheVariants.{Over, Refused}
 use Rattle.bf_begin.specs.declared.door.OpenedText.{OpenedText}
@@ -19,7 +20,7 @@ use Rattle.bf_history.specs.declared.fault.ImportFault.{ImportFault}
 use Rattle.bf_history.specs.Imports.{MayImport}
 use Rattle.bf_history.specs.Meanings.{History}
 use Rattle.bf_output.specs.Beginning.{Begun, begun_with_skips}
-use Rattle.bf_output.specs.Inputs.{IsImported, IsStreamed, IsTextTold, file_of}
+use Rattle.bf_output.specs.Inputs.{IsImported, IsReadUnder, IsTextTold, file_of}
 use Rattle.bf_output.specs.Refusals.{refusal}
 use Rattle.bf_output.specs.Told.{Told}
 use Rattle.bf_io.specs.declared.shelf.LoadFault.{LoadFault}
@@ -39,12 +40,16 @@ IsOpened left files words replay (Refused answer) = IsStreamRefused left answer
 
 -- ---- a stream and the text of a file
 
--- what is told of the text over the history is told by the words, whatever it is; and so is the refusal
-abbrev pub IsTextOpened : Option (List ℕ) → Option (List ShelfFile) → List (List ℕ) → ℕ → OpenedText → Type 0
-IsTextOpened left files words i (TextOver history text) =
-    (tell : History → List ℕ → Told) → IsStreamed (IsTextTold tell words i files) left (tell history text)
-IsTextOpened left files words i (TextRefused answer) =
-    (tell : History → List ℕ → Told) → IsStreamed (IsTextTold tell words i files) left (told_of answer)
+-- this is told of the file that the line names, over the stream
+abbrev pub IsLineTold : Option (List ℕ) → Option (List ShelfFile) → FileLine → (History → List ℕ → Told) → Told → Type 0
+IsLineTold left files line tell told = IsReadUnder line.limits (IsTextTold tell line.words.now line.index files) left told
+
+-- what is told of the text over the history is told by the line, whatever it is; and so is the refusal
+abbrev pub IsTextOpened : Option (List ℕ) → Option (List ShelfFile) → FileLine → OpenedText → Type 0
+IsTextOpened left files line (TextOver history text) =
+    (tell : History → List ℕ → Told) → IsLineTold left files line tell (tell history text)
+IsTextOpened left files line (TextRefused answer) =
+    (tell : History → List ℕ → Told) → IsLineTold left files line tell (told_of answer)
 
 abbrev pub IsWholeText : OpenedText → Type 0
 IsWholeText (TextOver history text) = Unit {0}

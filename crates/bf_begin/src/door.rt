@@ -4,6 +4,7 @@ ghost use Rattle.bf_io.specs.Causes.{FailsOnlyAt};
 ghost use Rattle.bf_answers.specs.Devices.{IsLeftUnless};
 ghost use Rattle.bf_answers.specs.Ready.{IsSound, verb_of};
 ghost use Rattle.bf_begin.specs.Opening.{IsBegunStream, IsOpened, IsReadFrom, IsTextOpened, IsWholeText};
+ghost use Rattle.bf_grammar.specs.Limits.{IsWithin};
 
 use crate::file::{LogFile, LogText, lent, load_file, load_word};
 use crate::ready::start;
@@ -85,29 +86,41 @@ pub enum OpenedText {
     Refused(Answer),
 }
 
-/// Reads the stream to its end, and then loads the text of the file that a word names.
+/// A line of which one word names the file whose text is wanted.
+#[derive(Clone, Copy)]
+pub struct FileLine<'a> {
+    /// Where the answer has its memory.
+    pub alloc: Global,
+    /// The words of the line.
+    pub words: &'a [Word],
+    /// The index of the word that names the file; where no word stands there, the file is missing.
+    pub index: u32,
+    /// The limits on the stream, and how its commits are named.
+    pub limits: Limits,
+}
+
+/// Reads the stream to its end, and then loads the text of the file that a word of the line names.
 ///
 /// # Errors
 /// As [`open`].
 pub fn open_text<S: Source, F: Shelf>(
-    alloc: Global,
-    words: &[Word],
-    index: u32,
+    line: FileLine<'_>,
     stream: &mut S,
     shelf: &mut F,
 ) -> Result<OpenedText, Fault>
+    requires { IsWithin line.limits }
     ensures opened { IfOk result
-        (IsTextOpened (S.left stream.old) (F.files shelf.old) words.now index) }
+        (IsTextOpened (S.left stream.old) (F.files shelf.old) line.entry) }
     ensures whole { IfOk result IsWholeText }
     ensures read { FailsOnlyAt Fault.Read (S.faults stream.old) (S.faults stream.new) result }
     ensures file { FailsOnlyAt Fault.Shelf (F.faults shelf.old) (F.faults shelf.new) result }
 {
-    match import(alloc, stream, Limits::standard()) {
-        Ok(history) => match load_word(words, index, shelf)? {
+    match import(line.alloc, stream, line.limits) {
+        Ok(history) => match load_word(line.words, line.index, shelf)? {
             LogFile::Text(text) => Ok(OpenedText::Over(history, text)),
-            LogFile::Missing => Ok(OpenedText::Refused(no_file(alloc)?)),
-            LogFile::TooLong => Ok(OpenedText::Refused(too_large(alloc, Limit::Log)?)),
+            LogFile::Missing => Ok(OpenedText::Refused(no_file(line.alloc)?)),
+            LogFile::TooLong => Ok(OpenedText::Refused(too_large(line.alloc, Limit::Log)?)),
         },
-        Err(fault) => Ok(OpenedText::Refused(refusal(alloc, fault)?)),
+        Err(fault) => Ok(OpenedText::Refused(refusal(line.alloc, fault)?)),
     }
 }

@@ -13,6 +13,6 @@ mod ready;
 mod skips;
 
 pub use beginning::{begin, between_ends};
-pub use door::{Opened, OpenedText, open, open_search, open_text};
+pub use door::{FileLine, Opened, OpenedText, open, open_search, open_text};
 pub use file::{LogFile, LogText, lent, load_file, replay_file};
 pub use ready::{start, told};

@@ -6,26 +6,25 @@ ghost use Rattle.bf_answers.specs.Answers.{Answers, IsComplete, IsWholeAnswer};
 ghost use Rattle.bf_answers.specs.Devices.{IsLeftUnless, met_shelf, met_sink, met_source, met_untested};
 ghost use Rattle.bf_answers.specs.Tellings.{Says};
 ghost use Rattle.bf_commands.specs.Check as checks;
-ghost use Rattle.bf_commands.specs.Orders as orders;
+ghost use Rattle.bf_certify.specs.Checking as checking;
 ghost use Rattle.bf_certify.specs.Checking.{checks_file, to_check};
 ghost use Rattle.bf_certify.specs.TellsChecked.{TellsOutput, TellsStreamed, TellsText};
 
 use bf_answers::{Answer, Fault, say_answer, usage};
-use bf_begin::{OpenedText, open_text};
+use bf_begin::{FileLine, OpenedText, open_text};
 use bf_cert::CertFault;
 use bf_claims::read_file;
+use bf_commands::{asks_original_names, limits_asked};
 use bf_import::History;
 use bf_io::{Bytes, Shelf, Sink, Source, Word, put_decimal};
 use bf_oid::oid_hex;
 use bf_output::Status;
 use std::alloc::{AllocError, Global};
 
-/// The number of words that a line of `check` has: the command and its file.
-const WORDS: usize = 2;
-
-/// Checks the certificate in the file that word 1 names, over the history of the stream, and returns whether it
+/// Checks the certificate in the file that the last word names, over the history of the stream, and returns whether it
 /// holds. Where the first line is that of an answer, it checks the whole answer.
 ///
+/// With the word `--original-names` before it each commit has the name that it had before it was exported.
 /// The stream is read to its end before the file is asked for. The status is `ReadFault` only where the count of
 /// faults of the stream rose, `ShelfFault` only where that of the shelf did, and `WriteFault` only where that of
 /// the sink did.
@@ -59,17 +58,26 @@ pub fn check<S: Source, F: Shelf, K: Sink>(
     say_answer(out, answer)
 }
 
-/// The index of the word that is missing, or of the first further one, where there must be so many.
-fn wrong_count(words: &[Word]) -> Option<u32>
-    ensures { result ≡ orders.wrong_count 2 words.now }
+/// The index of the word that names the file: it stands behind the one option.
+fn file_index(words: &[Word]) -> u32
+    ensures { result ≡ checking.file_index words.now }
 {
-    if words.len() < WORDS {
-        Some(words.len() as u32)
-    } else if words.len() > WORDS {
-        Some(WORDS as u32)
-    } else {
-        None
+    if asks_original_names(words) { 2 } else { 1 }
+}
+
+/// The index of the word that is missing, or of the first further one.
+fn wrong_word(words: &[Word]) -> Option<u32>
+    ensures { result ≡ checking.wrong_word words.now }
+{
+    let count = file_index(words) as usize + 1;
+    let given = words.len();
+    if given < count {
+        return Some(given as u32);
     }
+    if count < given {
+        return Some(count as u32);
+    }
+    None
 }
 
 /// What is answered, or why there is no answer.
@@ -88,13 +96,13 @@ fn answer<S: Source, F: Shelf>(
     ensures unread { IsLeftUnless (checks_file words.now) stream.old stream.new }
     ensures unloaded { IsLeftUnless (checks_file words.now) shelf.old shelf.new }
 {
-    match wrong_count(words) {
+    match wrong_word(words) {
         Some(word) => Ok(usage(alloc, word)?),
         None => check_file(alloc, words, stream, shelf),
     }
 }
 
-/// What is answered to the file that word 1 names, over the stream.
+/// What is answered to the file that the words name, over the stream.
 fn check_file<S: Source, F: Shelf>(
     alloc: Global,
     words: &[Word],
@@ -106,7 +114,13 @@ fn check_file<S: Source, F: Shelf>(
     ensures cause { FailsOnlyAt Fault.Read (S.faults stream.old) (S.faults stream.new) result }
     ensures file { FailsOnlyAt Fault.Shelf (F.faults shelf.old) (F.faults shelf.new) result }
 {
-    let opened = open_text(alloc, words, 1, stream, shelf)?;
+    let line = FileLine {
+        alloc,
+        words,
+        index: file_index(words),
+        limits: limits_asked(words),
+    };
+    let opened = open_text(line, stream, shelf)?;
     match opened {
         OpenedText::Over(history, text) => check_text(alloc, &history, text.as_slice()),
         OpenedText::Refused(answer) => Ok(answer),

@@ -6,9 +6,12 @@ use std::io::{self, ErrorKind};
 /// Removes the folder of a name, where it is there. The folder `aside`, which is for this alone, is gone afterwards, too.
 pub(crate) fn remove_folder<R: SystemFiles>(rt: &R, name: &str, aside: &str) -> io::Result<()> {
     match remove_flat(rt, name, aside) {
+        Ok(()) => Ok(()),
+        // a process writes there: the system's own call would go on for as long as it does
+        Err(error) if error.kind() == ErrorKind::DirectoryNotEmpty => Err(error),
         Err(error) if error.kind() == ErrorKind::OutOfMemory => Err(error),
-        // what it could not do (a name that is not UTF-8, a process that still writes) is done level by level
-        _ => {
+        // what it could not do (a name that is not UTF-8) is done level by level
+        Err(_) => {
             remove_if_there(rt, name)?;
             remove_if_there(rt, aside)
         }

@@ -1,7 +1,7 @@
 //! Folders that commits are tested in.
 ghost use Rattle.std.specs.Prelude.{◌≡◌, ℕ, ◌++◌, List, Option, IfOk, OnOk, OnErr};
 ghost use Rattle.std.specs.Option.{is_some};
-ghost use Rattle.bf_io.specs.Causes.{FailsOnlyAt};
+ghost use Rattle.bf_io.specs.Causes.{FailsOnlyAt, raised};
 ghost use Rattle.bf_tester.specs.Grounds.{File};
 ghost use Rattle.bf_history.specs.Meanings.{is_module};
 ghost use Rattle.bf_checkout.specs.Checkouts.{checkout};
@@ -46,11 +46,22 @@ pub trait Folder: Send + Drop + Sized {
     // Its name, where the folder tells it.
     ghost called: { Self → Option (List ℕ) };
 
+    // How often it went on in another folder, up to the last value of 64 bits.
+    ghost moves: { Self → ℕ };
+
+    /// Goes on in a folder of its own in which nobody has tested. Its files may be any, until it was emptied.
+    fn renew(&mut self)
+        ensures told { is_some (files self.new) ≡ is_some (files self.old) }
+        ensures called { is_some (called self.new) ≡ is_some (called self.old) }
+        ensures moves { moves self.new ≡ raised (moves self.old) }
+        ensures faults { faults self.new ≡ faults self.old };
+
     /// Removes all files.
     fn empty(&mut self) -> Result<(), FolderFault>
         ensures emptied { OnOk result (files self.new ≡ emptied (files self.old)) }
         ensures told { is_some (files self.new) ≡ is_some (files self.old) }
         ensures called { called self.new ≡ called self.old }
+        ensures moves { moves self.new ≡ moves self.old }
         ensures cause { FailsOnlyAt FolderFault.Failed (faults self.old) (faults self.new) result };
 
     /// Adds a file.
@@ -60,6 +71,7 @@ pub trait Folder: Send + Drop + Sized {
             (files self.new ≡ with_file (files self.old) path.now bytes.now) }
         ensures told { is_some (files self.new) ≡ is_some (files self.old) }
         ensures called { called self.new ≡ called self.old }
+        ensures moves { moves self.new ≡ moves self.old }
         ensures cause { FailsOnlyAt FolderFault.Failed (faults self.old) (faults self.new) result };
 
     /// Appends the folder's name.
@@ -80,6 +92,7 @@ pub trait Folder: Send + Drop + Sized {
         ensures holds { OnOk result (Holds (files self.new) (checkout content.now place)) }
         ensures told { is_some (files self.new) ≡ is_some (files self.old) }
         ensures called { called self.new ≡ called self.old }
+        ensures moves { moves self.new ≡ moves self.old }
         ensures cause { FailsOnlyAt FolderFault.Failed (faults self.old) (faults self.new) result }
     {
         self.empty()?;

@@ -7,6 +7,7 @@ mod look;
 mod memory;
 mod process;
 mod real;
+mod remains;
 mod tester;
 mod trees;
 mod workshop;

@@ -5,7 +5,7 @@ ghost use Rattle.bf_io.specs.Causes.{FailsOnlyAt, raised};
 ghost use Rattle.bf_io.specs.Scripted.{is_among};
 ghost use Rattle.bf_tester.specs.Grounds.{File};
 ghost use Rattle.bf_checkout.specs.Folders.{HasRoomAt};
-ghost use Rattle.bf_checkout.specs.Stored.{new_folder, fails_next, after_fault, after_call, after_put, is_same_path, bytes_at};
+ghost use Rattle.bf_checkout.specs.Stored.{new_folder, renewed, fails_next, after_fault, after_call, after_put, is_same_path, bytes_at};
 
 use crate::folder::{Folder, FolderFault};
 use bf_io::Bytes;
@@ -67,6 +67,7 @@ pub struct MemFolder {
     fails: Vec<u64>,
     calls: u64,
     faults: u64,
+    moves: u64,
 }
 
 impl Model for MemFolder {
@@ -79,6 +80,7 @@ impl Model for MemFolder {
       fails = f.fails.items;
       calls = f.calls;
       faults = f.faults;
+      moves = f.moves;
     } };
 }
 
@@ -94,6 +96,7 @@ impl MemFolder {
             fails,
             calls: 0,
             faults: 0,
+            moves: 0,
         }
     }
 
@@ -121,6 +124,16 @@ impl Folder for MemFolder {
     ghost faults = { λ f. f.faults };
 
     ghost called = { λ _. Some (codes "mem") };
+
+    ghost moves = { λ f. f.moves };
+
+    /// Forgets its files. Nobody but its owner has it.
+    fn renew(&mut self)
+        ensures { self.new ≡ renewed self.old }
+    {
+        self.files.clear();
+        self.moves = self.moves.saturating_add(1);
+    }
 
     fn empty(&mut self) -> Result<(), FolderFault>
         ensures fails { IsErr result ↔ IsTrue (fails_next self.old) }

@@ -1,4 +1,5 @@
 //! The folder `bisect-trees`: one run at a time works in it.
+use crate::remains::{remove_earlier, remove_marked};
 use once_cell::race::OnceBox;
 use std::alloc::{AllocError, Global};
 use std::fs::{self, File, OpenOptions, TryLockError};
@@ -64,6 +65,15 @@ impl Trees {
         })
     }
 
+    /// Removes what tests have left in the folders that are marked, where the claim is held, and returns the numbers of
+    /// those that could not be removed.
+    pub(crate) fn remove_remains<R: SystemFiles>(&self, rt: &R) -> io::Result<Vec<u64>> {
+        match self.claim.get() {
+            Some(TreesClaim::Held(_)) => remove_marked(rt),
+            _ => Ok(Vec::new(rt.alloc())),
+        }
+    }
+
     /// Why the claim was refused, where it was.
     pub(crate) fn refusal(&self) -> Option<TreesRefusal> {
         match self.claim.get() {
@@ -73,9 +83,14 @@ impl Trees {
     }
 }
 
+/// Claims the folder, and removes what earlier runs left there. What cannot be removed is no hindrance: no test comes
+/// into it.
 fn claim_of<R: SystemFiles>(rt: &R) -> TreesClaim {
     match open_locked(rt) {
-        Ok(file) => TreesClaim::Held(file),
+        Ok(file) => {
+            let _ = remove_earlier(rt);
+            TreesClaim::Held(file)
+        }
         Err(refusal) => TreesClaim::Refused(refusal),
     }
 }
@@ -106,14 +121,18 @@ fn open_locked<R: SystemFiles>(rt: &R) -> Result<File, TreesRefusal> {
     }
 }
 
-/// Whether a run made what stands there: a folder, and no link, which has the file that runs lock, or nothing yet.
+/// Whether a run made what stands there: a folder, and no link, which has nothing yet, or the file that runs lock. That
+/// file is looked for last: a run that makes the folder meanwhile puts it there before all else.
 fn is_ours<R: SystemFiles>(rt: &R) -> io::Result<bool> {
     if !fs::symlink_metadata(rt, TREES)?.is_dir() {
         return Ok(false);
     }
+    if is_empty(rt)? {
+        return Ok(true);
+    }
     match fs::symlink_metadata(rt, LOCK) {
         Ok(found) => Ok(found.is_file()),
-        Err(error) if error.kind() == ErrorKind::NotFound => is_empty(rt),
+        Err(error) if error.kind() == ErrorKind::NotFound => Ok(false),
         Err(error) => Err(error),
     }
 }

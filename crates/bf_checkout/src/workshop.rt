@@ -1,7 +1,7 @@
 //! A tester that tests each commit in a folder with exactly its files.
 ghost use Rattle.std.specs.Prelude.{◌≡◌, ℕ, ◌≤◌, Bool, true, false, ◌||◌, List, [], ◌++◌, Option, Some, None, IfOk, OnOk, OnErr, IfErr};
 ghost use Rattle.std.specs.List.{slice_get};
-ghost use Rattle.bf_io.specs.Causes.{Rose};
+ghost use Rattle.bf_io.specs.Causes.{Rose, raised};
 ghost use Rattle.bf_search.specs.declared.outcomes.Outcome.{Outcome};
 ghost use Rattle.bf_tester.specs.declared.answer.Answer.{Answer};
 ghost use Rattle.bf_tester.specs.Grounds.{Ground};
@@ -121,7 +121,8 @@ impl<T: FolderTester<D>, D: Folder> Tester for Workshop<T, D> {
         self.tester.prepare(words, lenient)
     }
 
-    /// Makes the folder hold exactly the files of the commit, and tests in it.
+    /// Goes on in a folder in which nobody has tested, makes it hold exactly the files of the commit, and tests in it.
+    /// What an earlier test had started may run on, and write by the name of its own folder.
     fn test<R: Host>(&mut self, rt: &R, place: u32, name: Oid, stop: &mut StopView<'_>) -> TestReply
         ensures answers { T.answers self.new.tester
             ≡ answers_after result (T.answers self.old.tester) place name }
@@ -139,7 +140,9 @@ impl<T: FolderTester<D>, D: Folder> Tester for Workshop<T, D> {
         ensures failed { self.new.failed ≡ failed_after result self.old.failed place }
         ensures manner { KeepsManner T.Tester self.old.tester self.new.tester }
         ensures content { self.new.content ≡ self.old.content }
+        ensures moved { D.moves self.new.folder ≡ raised (D.moves self.old.folder) }
     {
+        self.folder.renew();
         match self.folder.check_out(&self.content, place) {
             Ok(()) => {}
             Err(FolderFault::Failed) => {

@@ -16,11 +16,10 @@ use Rattle.bf_claims.specs.Reading.{beside, read_behind, read_either, read_file,
 use Rattle.bf_claims.specs.Sums.{is_sum}
 use Rattle.bf_search.specs.Candidates.{is_in}
 
-lines_hold : (names : List Oid) (graph : List (List ℕ)) (texts : List (List ℕ)) (cert : Cert) → read_version names graph texts ≡ Ok cert → Holds graph cert
-lines_hold names graph texts cert is =
-    let told : IsTold names graph texts cert = subst (λ (read : Result Cert ℕ). Tells names graph texts read) (sym (read_started names graph texts) ∙ is)
-    (reading_tells names graph [] texts 1 Start (record { lines = []; said = refl; is_read = refl; taken = refl }) refl) in
-    told.holds
+pub lines_told : (names : List Oid) (graph : List (List ℕ)) (texts : List (List ℕ)) (cert : Cert) → read_version names graph texts ≡ Ok cert → IsTold names graph texts cert
+lines_told names graph texts cert is =
+    subst (λ (read : Result Cert ℕ). Tells names graph texts read) (sym (read_started names graph texts) ∙ is)
+    (reading_tells names graph [] texts 1 Start (record { lines = []; said = refl; is_read = refl; taken = refl }) refl)
 
 by_goods : (is_bad : Bool) (goods : Option ℕ) (before : ℕ) (cert found : Cert)
     → cond is_bad (judged_goods before cert goods) (Err (before + 2)) ≡ Ok found → cert ≡ found
@@ -28,7 +27,7 @@ by_goods false goods before cert found h = cc
 by_goods true None before cert found h = cc
 by_goods true (Some index) before cert found h = cc
 
-by_judge : (head : Head) (before : ℕ) (cert found : Cert) → judged head before cert ≡ Ok found → cert ≡ found
+pub by_judge : (head : Head) (before : ℕ) (cert found : Cert) → judged head before cert ≡ Ok found → cert ≡ found
 unfolding judged
 by_judge head before cert found h = by_goods (is_in head.bad cert.bad) (strange head.good 0 cert.goods) before cert found h
 
@@ -42,7 +41,7 @@ behind_holds : (names : List Oid) (graph : List (List ℕ)) (before : ℕ) (head
     → read_behind names graph before head lines ≡ Ok cert → Holds graph cert
 unfolding read_behind
 behind_holds names graph before head lines cert h =
-    lines_hold names graph lines cert (by_reading (is_last head.rank) head before (read_version names graph lines) cert h)
+    (lines_told names graph lines cert (by_reading (is_last head.rank) head before (read_version names graph lines) cert h)).holds
 
 by_line : (starts : Bool) (taken : Option Head) (names : List Oid) (graph : List (List ℕ)) (before : ℕ) (head : Head) (line : List ℕ)
     (lines : List (List ℕ)) (cert : Cert)

@@ -1,24 +1,32 @@
 -- What the lines that stand before the certificate claim of commits.
-use Rattle.std.specs.Prelude.{ℕ, ◌<◌, ◌==◌, nat_lt, if◌then◌else◌, List, length, Option, Some, None}
-use Rattle.std.specs.List.{list_all}
+use Rattle.std.specs.Prelude.{ℕ, ◌<◌, ◌==◌, nat_lt, Bool, true, false, ◌&&◌, if◌then◌else◌, List, length, codes, Option, Some, None}
 use Rattle.std.specs.Option.{option_map}
 use Rattle.bf_oid.specs.declared.object.Oid.{Oid}
+use Rattle.bf_reading.specs.Reading.{behind}
 use Rattle.bf_cert.specs.Lines.{◌>>=◌, name_in_front}
 use Rattle.bf_claims.specs.declared.claim.Claim.{Claim}
-use Rattle.bf_claims.specs.declared.claim.Claim.TheVariants.{Nothing, Bad, Good, Skipped}
+use Rattle.bf_claims.specs.declared.claim.Claim.TheVariants.{Nothing, Bad, Good, Skipped, StillBad, StillGood}
 use Rattle.bf_claims.specs.declared.kind.Kind.{Kind}
 use Rattle.bf_claims.specs.declared.kind.Kind.TheVariants.{CalledBad, CalledGood, Outcome, Against, Confirmed}
-use Rattle.bf_claims.specs.Lines.{is_printable, status_in}
+use Rattle.bf_claims.specs.Forms.{has_form, tally_in}
+use Rattle.bf_claims.specs.Lines.{status_in}
 
--- a text of printable letters claims nothing
-unfoldable pub no_claim : List ℕ → Option Claim
-no_claim text = if list_all is_printable text then Some Nothing else None
+-- a line that names no commit claims nothing, where it has its form
+unfoldable pub no_claim : Kind → List ℕ → Option Claim
+no_claim kind text = if has_form kind text then Some Nothing else None
 
--- the place of a commit that was called bad or good; the status of its test may stand behind it
-unfoldable pub called : List Oid → List ℕ → Option ℕ
-called names text =
+-- whether the test of a commit that was called bad, or good, may have ended with this status
+abbrev pub is_as_called : Bool → ℕ → Bool
+is_as_called true status = nat_lt 0 status && nat_lt status 125
+is_as_called false status = status == 0
+
+-- the place of a commit that was called bad, or good; the status of its test may stand behind it, and says the same
+unfoldable pub called : List Oid → Bool → List ℕ → Option ℕ
+called names is_bad text =
     name_in_front names text
-    >>= λ name. if length name.1 == 0 then Some name.0 else option_map (λ status. name.0) (status_in name.1)
+    >>= λ name.
+    if length name.1 == 0 then Some name.0
+    else status_in name.1 >>= λ status. if is_as_called is_bad status then Some name.0 else None
 
 -- what a test that ended with this status claims of its commit
 abbrev pub claim_by : ℕ → ℕ → Option Claim
@@ -31,14 +39,29 @@ claim_by p status =
 unfoldable pub outcome : List Oid → List ℕ → Option Claim
 outcome names text = name_in_front names text >>= λ name. status_in name.1 >>= λ status. claim_by name.0 status
 
+-- the outcome of a test that contradicts the answer was good or bad
+unfoldable pub against : List Oid → List ℕ → Option Claim
+against names text =
+    name_in_front names text >>= λ name. status_in name.1 >>= λ status. if nat_lt status 125 then Some Nothing else None
+
+-- what is claimed of a commit that was tested again, by what stands behind ` bad ` or ` good `
+abbrev pub tested_again : ℕ → Option (List ℕ) → Option (List ℕ) → Option Claim
+tested_again p (Some tally) good = option_map (λ runs. StillBad p) (tally_in tally)
+tested_again p None (Some tally) = option_map (λ runs. StillGood p) (tally_in tally)
+tested_again p None None = None
+
+unfoldable pub confirmed : List Oid → List ℕ → Option Claim
+confirmed names text =
+    name_in_front names text >>= λ name. tested_again name.0 (behind (codes " bad ") name.1) (behind (codes " good ") name.1)
+
 -- what a line of this kind claims by what stands behind its first word
 unfoldable pub claim_of : List Oid → Kind → List ℕ → Option Claim
-claim_of names CalledBad text = option_map Bad (called names text)
-claim_of names CalledGood text = option_map Good (called names text)
+claim_of names CalledBad text = option_map Bad (called names true text)
+claim_of names CalledGood text = option_map Good (called names false text)
 claim_of names Outcome text = outcome names text
-claim_of names Against text = name_in_front names text >>= λ name. no_claim name.1
-claim_of names Confirmed text = name_in_front names text >>= λ name. no_claim name.1
-claim_of names other text = no_claim text
+claim_of names Against text = against names text
+claim_of names Confirmed text = confirmed names text
+claim_of names other text = no_claim other text
 
 -- the place of a claim is a commit, of so many
 abbrev pub IsClaimWithin : ℕ → Claim → Type 0
@@ -46,3 +69,5 @@ IsClaimWithin len Nothing = Unit {0}
 IsClaimWithin len (Bad p) = p < len
 IsClaimWithin len (Good p) = p < len
 IsClaimWithin len (Skipped p) = p < len
+IsClaimWithin len (StillBad p) = p < len
+IsClaimWithin len (StillGood p) = p < len

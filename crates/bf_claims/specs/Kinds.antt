@@ -3,7 +3,7 @@ use Rattle.std.specs.Prelude.{ℕ, ◌==◌, Bool, true, false, ◌&&◌, nat_lt
 use Rattle.std.specs.Option.{option_or}
 use Rattle.std.specs.Cmp.Lexicographic.{pointwise}
 use Rattle.bf_claims.specs.declared.kind.Kind.{Kind}
-use Rattle.bf_claims.specs.declared.kind.Kind.TheVariants.{Word, Folder, TermNew, TermOld, Build, Retry, Repeat, Made, Machine, CalledBad, CalledGood, Outcome, Against, Confirmed}
+use Rattle.bf_claims.specs.declared.kind.Kind.TheVariants.{Word, Folder, TermNew, TermOld, Build, Retry, Repeat, Made, Machine, Choice, CalledBad, CalledGood, Outcome, Against, Confirmed}
 
 -- a text is this one
 abbrev pub is_text : List ℕ → List ℕ → Bool
@@ -26,6 +26,7 @@ manner_kind word =
     else if is_text (codes "repeat") word then Some Repeat
     else if is_text (codes "made") word then Some Made
     else if is_text (codes "machine") word then Some Machine
+    else if is_text (codes "option") word then Some Choice
     else None
 
 -- of those that name a commit
@@ -52,15 +53,17 @@ rank_of Retry = 6
 rank_of Repeat = 7
 rank_of Made = 8
 rank_of Machine = 9
-rank_of CalledBad = 10
-rank_of CalledGood = 11
-rank_of Outcome = 12
-rank_of Against = 13
-rank_of Confirmed = 14
+rank_of Choice = 10
+rank_of CalledBad = 11
+rank_of CalledGood = 12
+rank_of Outcome = 13
+rank_of Against = 14
+rank_of Confirmed = 15
 
 -- there may be several lines of these
 abbrev pub is_repeated : Kind → Bool
 is_repeated Word = true
+is_repeated Choice = true
 is_repeated CalledGood = true
 is_repeated Outcome = true
 is_repeated Against = true
@@ -71,9 +74,9 @@ is_repeated other = false
 abbrev pub needed_behind : ℕ → ℕ
 needed_behind last =
     if nat_lt last 1 then 1
-    else if nat_lt last 10 then 10
     else if nat_lt last 11 then 11
-    else 14
+    else if nat_lt last 12 then 12
+    else 15
 
 -- whether a line may stand behind one of this rank
 unfoldable pub may_follow : ℕ → Kind → Bool
@@ -83,4 +86,4 @@ may_follow last kind =
 
 -- whether the certificate may stand behind a line of this rank
 abbrev pub is_last : ℕ → Bool
-is_last last = nat_le 11 last
+is_last last = nat_le 12 last

@@ -1,7 +1,9 @@
 pub mod Claims
+pub mod Forms
 pub mod Goods
 pub mod Heads
 pub mod Kinds
 pub mod Lines
 pub mod Reading
+pub mod Standing
 pub mod Sums

@@ -1,7 +1,7 @@
 -- The parts of a line that stands before the certificate.
-use Rattle.std.specs.Prelude.{◌≡◌, ℕ, ◌+◌, ◌-◌, ◌==◌, nat_le, Bool, ◌&&◌, if◌then◌else◌, List, length, take, drop, codes, Option, Some, None, option_and_then}
+use Rattle.std.specs.Prelude.{◌≡◌, ℕ, ◌+◌, ◌-◌, ◌==◌, nat_lt, nat_le, Bool, ◌&&◌, if◌then◌else◌, List, length, take, drop, codes, Option, Some, None, option_and_then}
 use Rattle.std.specs.Borrow.{Bor}
-use Rattle.std.specs.List.{position}
+use Rattle.std.specs.List.{position, starts_with}
 use Rattle.bf_reading.specs.Reading.{behind}
 use Rattle.bf_io.specs.Decimal.{decimal_value}
 use Rattle.bf_claims.specs.declared.kind.Kind.{Kind}
@@ -31,6 +31,14 @@ IsSplit found (Some split) = found ≡ Some (split.0, split.1.now)
 abbrev pub is_printable : ℕ → Bool
 is_printable byte = nat_le 32 byte && nat_le byte 126
 
+-- whether a zero stands before other digits
+abbrev pub is_padded : List ℕ → Bool
+is_padded text = starts_with ◌==◌ text (codes "0") && nat_lt 1 (length text)
+
+-- the number that a text writes, without zeros before it
+unfoldable pub number : List ℕ → Option ℕ
+number text = if is_padded text then None else decimal_value text
+
 -- the status behind a name
 unfoldable pub status_in : List ℕ → Option ℕ
-status_in text = option_and_then decimal_value (behind (codes " ") text)
+status_in text = option_and_then number (behind (codes " ") text)

@@ -7,8 +7,9 @@ ghost use Rattle.bf_cert.specs.Lines.{IsFound};
 ghost use Rattle.bf_claims.specs.Claims as claims;
 ghost use Rattle.bf_claims.specs.Claims.{IsClaimWithin};
 
+use crate::form::{has_form, tally_in};
 use crate::kind::Kind;
-use crate::line::{is_printable, status_in};
+use crate::line::{behind, status_in};
 use bf_import::History;
 use bf_oid::oid_from_hex;
 
@@ -26,6 +27,10 @@ pub(crate) enum Claim {
     Good(u32),
     /// Its test was skipped.
     Skipped(u32),
+    /// It was tested again, and was bad.
+    StillBad(u32),
+    /// It was tested again, and was good.
+    StillGood(u32),
 }
 
 /// What a line of this kind claims by what stands behind its first word; none where it is in no form or
@@ -36,41 +41,51 @@ pub(crate) fn claim_of(history: &History, kind: Kind, text: &[u8]) -> Option<Cla
     ensures within { IfSome result (IsClaimWithin (length history.now.parents)) }
 {
     match kind {
-        Kind::CalledBad => Some(Claim::Bad(called(history, text)?)),
-        Kind::CalledGood => Some(Claim::Good(called(history, text)?)),
+        Kind::CalledBad => Some(Claim::Bad(called(history, true, text)?)),
+        Kind::CalledGood => Some(Claim::Good(called(history, false, text)?)),
         Kind::Outcome => outcome(history, text),
-        Kind::Against | Kind::Confirmed => {
-            let (_, rest) = name_in_front(history, text)?;
-            no_claim(rest)
-        }
-        _ => no_claim(text),
+        Kind::Against => against(history, text),
+        Kind::Confirmed => confirmed(history, text),
+        _ => no_claim(kind, text),
     }
 }
 
-/// A text of printable letters claims nothing.
+/// A line that names no commit claims nothing, where it has its form.
 #[tactic(auto, unfolding(crate::specs::Claims::no_claim))]
-fn no_claim(text: &[u8]) -> Option<Claim>
-    ensures value { result ≡ claims.no_claim text.now }
+fn no_claim(kind: Kind, text: &[u8]) -> Option<Claim>
+    ensures value { result ≡ claims.no_claim kind text.now }
     ensures within { IfSome result (IsClaimWithin 0) }
 {
-    if is_printable(text) {
+    if has_form(kind, text) {
         Some(Claim::Nothing)
     } else {
         None
     }
 }
 
-/// The place of a commit that was called bad or good; the status of its test may stand behind it.
+/// Whether the test of a commit that was called bad, or good, may have ended with this status.
+fn is_as_called(is_bad: bool, status: u64) -> bool
+    ensures { result ≡ claims.is_as_called is_bad status }
+{
+    if is_bad {
+        0 < status && status < 125
+    } else {
+        status == 0
+    }
+}
+
+/// The place of a commit that was called bad, or good; the status of its test may stand behind it, and says the same.
 #[tactic(auto, unfolding(crate::specs::Claims::called))]
-fn called(history: &History, text: &[u8]) -> Option<u32>
-    ensures value { result ≡ claims.called history.now.names text.now }
+fn called(history: &History, is_bad: bool, text: &[u8]) -> Option<u32>
+    ensures value { result ≡ claims.called history.now.names is_bad text.now }
     ensures within { IfSome result (λ place. place < length history.now.parents) }
 {
     let (place, rest) = name_in_front(history, text)?;
-    if !rest.is_empty() {
-        status_in(rest)?;
+    if rest.is_empty() || is_as_called(is_bad, status_in(rest)?) {
+        Some(place)
+    } else {
+        None
     }
-    Some(place)
 }
 
 /// What the outcome of a test claims.
@@ -81,6 +96,36 @@ fn outcome(history: &History, text: &[u8]) -> Option<Claim>
 {
     let (place, rest) = name_in_front(history, text)?;
     claim_by(place, status_in(rest)?)
+}
+
+/// The outcome of a test that contradicts the answer was good or bad.
+#[tactic(auto, unfolding(crate::specs::Claims::against))]
+fn against(history: &History, text: &[u8]) -> Option<Claim>
+    ensures value { result ≡ claims.against history.now.names text.now }
+    ensures within { IfSome result (IsClaimWithin 0) }
+{
+    let (_, rest) = name_in_front(history, text)?;
+    if status_in(rest)? < 125 {
+        Some(Claim::Nothing)
+    } else {
+        None
+    }
+}
+
+/// What is claimed of a commit that was tested again.
+#[tactic(auto, unfolding(crate::specs::Claims::confirmed))]
+fn confirmed(history: &History, text: &[u8]) -> Option<Claim>
+    ensures value { result ≡ claims.confirmed history.now.names text.now }
+    ensures within { IfSome result (IsClaimWithin (length history.now.parents)) }
+{
+    let (place, rest) = name_in_front(history, text)?;
+    if let Some(tally) = behind(b" bad ", rest) {
+        tally_in(tally)?;
+        Some(Claim::StillBad(place))
+    } else {
+        tally_in(behind(b" good ", rest)?)?;
+        Some(Claim::StillGood(place))
+    }
 }
 
 /// What a test that ended with this status claims of its commit.

@@ -24,6 +24,8 @@ pub(crate) struct Head {
     pub(crate) bad: Row,
     /// By place, whether it was good.
     pub(crate) good: Row,
+    /// By place, whether it was tested again.
+    pub(crate) again: Row,
 }
 
 impl Head {
@@ -36,6 +38,7 @@ impl Head {
             named: Row::new(alloc, len)?,
             bad: Row::new(alloc, len)?,
             good: Row::new(alloc, len)?,
+            again: Row::new(alloc, len)?,
         })
     }
 
@@ -81,6 +84,9 @@ impl Head {
                 Some(head)
             }
             Claim::Skipped(place) => self.name(place),
+            Claim::StillBad(place) if self.bad.get(place) => self.test_again(place),
+            Claim::StillGood(place) if !self.bad.get(place) => self.test_again(place),
+            Claim::StillBad(_) | Claim::StillGood(_) => None,
         }
     }
 
@@ -95,6 +101,20 @@ impl Head {
             return None;
         }
         self.named.set(place, true);
+        Some(self)
+    }
+
+    /// With a commit that was tested again; none where it was told before.
+    fn test_again(mut self, place: u32) -> Option<Head>
+        requires rows { IsHead (length self.named) self }
+        requires place { place < length self.named }
+        ensures value { result ≡ heads.with_again place self }
+        ensures rows { IfSome result (IsHead (length self.named)) }
+    {
+        if self.again.get(place) {
+            return None;
+        }
+        self.again.set(place, true);
         Some(self)
     }
 

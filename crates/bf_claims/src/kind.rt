@@ -23,6 +23,8 @@ pub(crate) enum Kind {
     Made,
     /// On what machine it was found.
     Machine,
+    /// An option of the search.
+    Choice,
     /// The commit that was called bad.
     CalledBad,
     /// A commit that was called good.
@@ -70,6 +72,7 @@ fn manner_kind(word: &[u8]) -> Option<Kind>
         b"repeat" => Some(Kind::Repeat),
         b"made" => Some(Kind::Made),
         b"machine" => Some(Kind::Machine),
+        b"option" => Some(Kind::Choice),
         _ => None,
     }
 }
@@ -104,11 +107,12 @@ impl Kind {
             Kind::Repeat => 7,
             Kind::Made => 8,
             Kind::Machine => 9,
-            Kind::CalledBad => 10,
-            Kind::CalledGood => 11,
-            Kind::Outcome => 12,
-            Kind::Against => 13,
-            Kind::Confirmed => 14,
+            Kind::Choice => 10,
+            Kind::CalledBad => 11,
+            Kind::CalledGood => 12,
+            Kind::Outcome => 13,
+            Kind::Against => 14,
+            Kind::Confirmed => 15,
         }
     }
 
@@ -118,7 +122,12 @@ impl Kind {
     {
         matches!(
             self,
-            Kind::Word | Kind::CalledGood | Kind::Outcome | Kind::Against | Kind::Confirmed
+            Kind::Word
+                | Kind::Choice
+                | Kind::CalledGood
+                | Kind::Outcome
+                | Kind::Against
+                | Kind::Confirmed
         )
     }
 
@@ -143,12 +152,12 @@ fn needed_behind(last: u8) -> u8
 {
     if last < 1 {
         1
-    } else if last < 10 {
-        10
     } else if last < 11 {
         11
+    } else if last < 12 {
+        12
     } else {
-        14
+        15
     }
 }
 
@@ -157,5 +166,5 @@ fn needed_behind(last: u8) -> u8
 pub(crate) fn is_last(rank: u8) -> bool
     ensures { result ≡ kinds.is_last rank }
 {
-    rank >= 11
+    rank >= 12
 }

@@ -2,6 +2,7 @@
 #![tactic(auto)]
 
 mod claim;
+mod form;
 mod goods;
 mod head;
 mod kind;

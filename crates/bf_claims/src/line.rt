@@ -28,7 +28,7 @@ pub(crate) fn kind_in(text: &[u8]) -> Option<(Kind, &[u8])>
 }
 
 /// The index of the first blank.
-fn first_blank(text: &[u8]) -> Option<usize>
+pub(crate) fn first_blank(text: &[u8]) -> Option<usize>
     ensures value { result ≡ position lines.is_blank text.now }
     ensures within { IfSome result (λ end. end < length text.now) }
 {
@@ -41,12 +41,27 @@ pub(crate) fn is_printable(text: &[u8]) -> bool
     text.iter().all(|byte| (b' '..=b'~').contains(byte))
 }
 
+/// Whether a zero stands before other digits.
+fn is_padded(text: &[u8]) -> bool
+    ensures { result ≡ lines.is_padded text.now }
+{
+    text.starts_with(b"0") && text.len() > 1
+}
+
+/// The number that a text writes, without zeros before it.
+#[tactic(auto, unfolding(crate::specs::Lines::number))]
+pub(crate) fn number(text: &[u8]) -> Option<u64>
+    ensures { result ≡ lines.number text.now }
+{
+    if is_padded(text) { None } else { decimal(text) }
+}
+
 /// The status behind a name.
 #[tactic(auto, unfolding(crate::specs::Lines::status_in))]
 pub(crate) fn status_in(text: &[u8]) -> Option<u64>
     ensures { result ≡ lines.status_in text.now }
 {
-    decimal(behind(b" ", text)?)
+    number(behind(b" ", text)?)
 }
 
 /// What stands behind a word.

@@ -103,7 +103,7 @@ pub record IsLeftAlone (disk : DiskMet) (bytes : List ℕ) : Type 0 where
   pub now : Only bytes disk.may_leave
   pub ever : NoMore disk.could_leave disk.left
 
--- where the disk failed while it was opened, each image could be left before, or stands for what the bytes stand for
+-- Where the disk failed while it was opened, each image could be left before, or stands as the bytes do: those of another run it is.
 abbrev pub IsOpenedAt : DiskMet → Oid → ℕ → List ℕ → Type 0
 IsOpenedAt disk identity len bytes = (image : List ℕ) → disk.left image → IsAsOpened disk.could_leave identity len bytes image
 

@@ -1,7 +1,9 @@
 -- The words of the commands that stand before those of a search, and of those that have words of their own.
 use Rattle.std.specs.Prelude.{ℕ, Bool, true, false, nat_lt, if◌then◌else◌, List, [], ◌∷◌, length, drop, codes, Option, Some, None, Result, Ok, Err}
 use Rattle.std.specs.Option.{option_map_or}
+use Rattle.bf_grammar.specs.declared.fault.Limits.{Limits}
 use Rattle.bf_grammar.specs.Forms.{◌>>=◌}
+use Rattle.bf_grammar.specs.Limits.{standard_limits, with_original_names}
 use Rattle.bf_words.specs.declared.options.Choice.TheVariants.{Leg, Trace}
 use Rattle.bf_words.specs.declared.request.Request.{Request}
 use Rattle.bf_words.specs.declared.verb.Verb.{Verb}
@@ -51,6 +53,16 @@ without_log words request =
 -- it is refused once all other words are accepted
 abbrev pub request_to_certify : List (List ℕ) → Result Request ℕ
 request_to_certify words = request_of Certify words >>= without_log words
+
+-- ---- how commits are named
+
+-- the option stands behind the command: each commit has the name that it had before it was exported
+abbrev pub asks_original_names : List (List ℕ) → Bool
+asks_original_names words = is_text (codes "--original-names") (word_at words 1)
+
+-- the limits on the stream, and how its commits are named
+abbrev pub limits_asked : List (List ℕ) → Limits
+limits_asked words = if asks_original_names words then with_original_names standard_limits else standard_limits
 
 -- ---- words of a known number
 

@@ -3,6 +3,8 @@
 //! answers is defined in `bf_serve_run`.
 #![tactic(auto)]
 
+mod names;
 mod order;
 
+pub use names::{asks_original_names, limits_asked};
 pub use order::{Order, order_of, read_words_for};

@@ -6,6 +6,7 @@ mod Fitting
 mod Images
 mod Looking
 mod Making
+mod Mending
 pub mod Moments
 mod Opening
 mod Slots

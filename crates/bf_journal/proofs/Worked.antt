@@ -1,7 +1,6 @@
 -- Worked examples of what an image stands for: journals of two places, of the run whose identity is twenty times 9.
-use Rattle.std.proofs.Common.{◌≡◌, ℕ, List, [], ◌∷◌, ◌++◌, replicate, Option, Some, None, Result, Ok, Err, refl}
+use Rattle.std.proofs.Common.{◌≡◌, ℕ, List, [], ◌∷◌, ◌++◌, replicate, take, Some, None, Ok, Err, refl}
 use Rattle.bf_oid.specs.declared.object.Oid.{Oid}
-use Rattle.bf_search.specs.declared.outcomes.Outcome.{Outcome}
 use Rattle.bf_search.specs.declared.outcomes.Outcome.TheVariants.{Exit, Killed}
 use Rattle.bf_journal.specs.Image.{table_in}
 
@@ -20,7 +19,8 @@ an_exit_and_nothing = refl
 nothing_and_a_signal : table_in nines 2 (image_of 1 (2 ∷ 0 ∷ 7 ∷ 0 ∷ 1 ∷ 1 ∷ 0 ∷ 0 ∷ [])) ≡ Ok (None ∷ Some Killed ∷ [])
 nothing_and_a_signal = refl
 
-a_spoiled_slot : table_in nines 2 (image_of 1 (1 ∷ 0 ∷ 7 ∷ 0 ∷ 1 ∷ 1 ∷ 5 ∷ 0 ∷ [])) ≡ Ok (None ∷ None ∷ [])
+-- the other one is kept
+a_spoiled_slot : table_in nines 2 (image_of 1 (1 ∷ 0 ∷ 7 ∷ 0 ∷ 1 ∷ 1 ∷ 5 ∷ 0 ∷ [])) ≡ Ok (Some (Exit 7) ∷ None ∷ [])
 a_spoiled_slot = refl
 
 a_closed_gate : table_in nines 2 (image_of 0 (1 ∷ 0 ∷ 7 ∷ 0 ∷ 0 ∷ 0 ∷ 0 ∷ 0 ∷ [])) ≡ Ok (None ∷ None ∷ [])
@@ -29,5 +29,15 @@ a_closed_gate = refl
 too_short : table_in nines 2 (image_of 1 (1 ∷ 0 ∷ 7 ∷ 0 ∷ [])) ≡ Ok (None ∷ None ∷ [])
 too_short = refl
 
+no_room_for_an_identity : table_in ones 2 (take 23 (image_of 1 [])) ≡ Ok (None ∷ None ∷ [])
+no_room_for_an_identity = refl
+
 another_run : table_in ones 2 (image_of 1 (1 ∷ 0 ∷ 7 ∷ 0 ∷ 0 ∷ 0 ∷ 0 ∷ 0 ∷ [])) ≡ Err nines
 another_run = refl
+
+-- and one of fewer commits, too
+another_shorter_run : table_in ones 2 (image_of 1 (1 ∷ 0 ∷ 7 ∷ 0 ∷ [])) ≡ Err nines
+another_shorter_run = refl
+
+another_run_without_commits : table_in ones 2 (image_of 1 []) ≡ Err nines
+another_run_without_commits = refl

@@ -1,15 +1,16 @@
 //! A journal of the outcomes of a run, which survives a crash at any moment.
-ghost use Rattle.std.specs.Prelude.{◌≡◌, ◌≢◌, ◌⊎◌, ℕ, ◌<◌, ◌≤◌, length, true, None, Ok, Err, IfSome, IfOk, OnOk, OnErr, IsErrOf, slice_index};
+ghost use Rattle.std.specs.Prelude.{◌≡◌, ◌≢◌, ◌⊎◌, ℕ, ◌<◌, ◌≤◌, ◌*◌, length, true, None, Ok, Err, IfSome, IfOk, OnOk, OnErr, IsErrOf, slice_index};
 ghost use Rattle.std.specs.List.{slice_index_or};
 ghost use Rattle.std.specs.Option.{is_some, option_map};
 ghost use Rattle.bf_io.specs.Causes.{FailsOnlyAt};
 ghost use Rattle.bf_journal.specs.Disk.{overwritten, Torn, LeavesOnly};
 ghost use Rattle.bf_journal.specs.Image.{table_in};
-ghost use Rattle.bf_journal.specs.Journal.{keeping, new_journal, with_outcome, unsound, IsBeforeOrAfter, IsAsOpened, KeepsNone, IsSettled, Fits, IsClosed, IsUnfit, fault_of};
+ghost use Rattle.bf_journal.specs.Journal.{keeping, new_journal, with_outcome, unsound, IsBeforeOrAfter, IsAsOpened, KeepsNone, IsSettled, Fits, StandsAs, IsOfRun, HasSlots, IsClosed, IsUnfit, fault_of};
 ghost use Rattle.bf_journal.specs.declared.journal.JournalFault.TheVariants.{NoMemory};
 
-use crate::layout::{CLOSED, OPEN, blank_rest, no_outcomes, slot_rest, slot_start};
+use crate::layout::{CLOSED, OPEN, blank_rest, no_outcomes, read_slots, slot_rest, slot_start};
 use crate::look::{Found, look};
+use crate::spoiled::close_spoiled;
 use crate::{Disk, DiskFault};
 use bf_oid::Oid;
 use bf_search::Outcome;
@@ -108,11 +109,7 @@ impl Journal {
     {
         disk.sync()?;
         match look(alloc, disk, identity, len)? {
-            Found::Kept(kept) => Ok(Journal {
-                identity,
-                kept,
-                sound: true,
-            }),
+            Found::Own(slots) => take_up(alloc, disk, identity, len, slots.as_slice()),
             Found::Other(kept) => Err(JournalFault::Mismatch { kept }),
             Found::Closed => make(alloc, disk, identity, len),
             Found::Unfit => remake(alloc, disk, identity, len),
@@ -183,6 +180,40 @@ fn write_surely<D: Disk>(disk: &mut D, at: u64, piece: &[u8]) -> Result<(), Disk
 {
     disk.write_at(at, piece)?;
     disk.sync()
+}
+
+// Takes up the journal of this run with these slots, once the gates of those that are spoiled are closed. Whatever
+// a crash leaves stands for what the bytes stand for.
+fn take_up<D: Disk>(
+    alloc: Global,
+    disk: &mut D,
+    identity: Oid,
+    len: u32,
+    slots: &[u8],
+) -> Result<Journal, JournalFault>
+    requires settled { IsSettled D.told D.may_leave disk.old }
+    requires own { IfSome (D.told disk.old) (IsOfRun identity) }
+    requires slots { IfSome (D.told disk.old) (HasSlots len slots.now) }
+    requires size { length slots.now ≡ 4 * len }
+    ensures kept { IfOk result (λ journal. IfSome (D.told disk.old)
+        (λ bytes. table_in identity len bytes ≡ Ok journal.kept)) }
+    ensures journal { IfOk result (λ journal. journal ≡ keeping identity journal.kept true) }
+    ensures places { IfOk result (λ journal. length journal.kept ≡ len) }
+    ensures fits { IfOk result (Fits D.told D.may_leave disk.new) }
+    ensures told { is_some (D.told disk.new) ≡ is_some (D.told disk.old) }
+    ensures any_moment { IfSome (D.told disk.old) (λ bytes. LeavesOnly D.moment D.left_since
+        disk.old disk.new (StandsAs identity len bytes)) }
+    ensures failed { FailsOnlyAt JournalFault.Failed
+        (D.faults disk.old) (D.faults disk.new) result }
+    ensures no_mismatch { (kept : _) → result ≢ Err (JournalFault.Mismatch kept) }
+{
+    let kept = read_slots(alloc, slots, len)?;
+    close_spoiled(disk, slots, len)?;
+    Ok(Journal {
+        identity,
+        kept,
+        sound: true,
+    })
 }
 
 // Makes a journal that keeps nothing, on a disk that is no journal yet: its gate is closed and made sure of.

@@ -11,6 +11,7 @@ mod layout;
 mod look;
 mod memory;
 mod recall;
+mod spoiled;
 
 pub use disk::{Disk, DiskFault};
 pub use file::DiskFile;

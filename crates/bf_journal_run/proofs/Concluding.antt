@@ -115,10 +115,10 @@ module _ {J : Type 0} (by : Ghosts J) where
     opened_image : (bytes image : List ℕ) → table_in meant (length names) bytes ≡ Ok journal.kept
         → IsAsOpened (by.may_leave old) meant (length names) bytes image → IsLeft image
     opened_image bytes image found (inl could) = inl could
-    opened_image bytes image found (inr same) =
+    opened_image bytes image found (inr stands) =
         inr (record {
           kept = journal.kept;
-          reads = same ∙ found;
+          reads = stands.same ∙ found;
           opened = part_itself (outcomes_of_table journal.kept);
           only = λ p x was. inl was;
         })

@@ -10,6 +10,7 @@ use Rattle.bf_history.specs.Imports.{MayImport}
 use Rattle.bf_history.specs.Meanings.{History}
 use Rattle.bf_io.specs.declared.shelf.ShelfFile.{ShelfFile}
 use Rattle.bf_journal.specs.Image.{table_in}
+use Rattle.bf_journal.specs.Journal.{StandsAs}
 use Rattle.bf_journal.specs.declared.disk.Disk.{Ghosts}
 use Rattle.bf_oid.specs.declared.object.Oid.{Oid}
 use Rattle.bf_output.specs.Beginning.{Begun, begun_with_skips}
@@ -19,12 +20,11 @@ use Rattle.bf_tester.specs.declared.answer.Answer.{Answer as Answered}
 use Rattle.bf_words.specs.declared.request.Request.{Request}
 use Rattle.bf_journal_run.specs.Legs.{met_disk}
 
--- An image goes on from bytes: it stands for what they stand for; or they are a journal of the run, all of whose outcomes it keeps as
--- they were, and beside them only what may be put.
+-- An image goes on from bytes: it stands as they do, and is those bytes where they are the journal of another run; or they are a journal
+-- of the run, all of whose outcomes it keeps as they were, and beside them only what may be put.
 abbrev pub GoesOnFrom : Oid → ℕ → (ℕ → Outcome → Type 0) → List ℕ → List ℕ → Type 0
 GoesOnFrom identity len MayPut bytes image =
-    (table_in identity len image ≡ table_in identity len bytes)
-    ⊎ ((found : List (Option Outcome)) × (table_in identity len bytes ≡ Ok found) × Continues identity len MayPut found image)
+    StandsAs identity len bytes image ⊎ ((found : List (Option Outcome)) × (table_in identity len bytes ≡ Ok found) × Continues identity len MayPut found image)
 
 -- Each image that a crash may leave after the call, or might have left at some moment of it, could be left before, or goes on from the bytes
 -- from before.

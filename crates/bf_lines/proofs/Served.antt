@@ -90,28 +90,31 @@ module _ {A : Type 0} (says : Says A) where
       (served.text, record { done = served.done; later = ended_lines rest; split = served.split; answered = served.answered }, served.written)
 
   -- what was written is a front of the replies
-  pub front_served : (before now : Option (List ℕ)) (start state : A) (held mid : Option (List ℕ)) → IsServed says before now start state held mid
-      → ServesFront says before start held mid
-  front_served None now start state held mid served = tt
-  front_served (Some all) None start state held mid served = absurd served
-  front_served (Some all) (Some rest) start state held mid served = (
+  pub front_served : (Is : A → Type 0) (before now : Option (List ℕ)) (start state : A) (held mid : Option (List ℕ)) → Is state
+      → IsServed says before now start state held mid → ServesFront says Is before start held mid
+  front_served Is None now start state held mid here served = tt
+  front_served Is (Some all) None start state held mid here served = absurd served
+  front_served Is (Some all) (Some rest) start state held mid here served = (
     state,
     served.text,
+    here,
     record { done = served.done; later = ended_lines rest; split = served.split; answered = served.answered },
     AppendsFront-all held mid served.text served.written,
   )
 
   -- the same where a front of one more reply was written
-  pub front_written : (before now next : Option (List ℕ)) (line : List ℕ) (kind : Length) (start state then : A) (held mid end : Option (List ℕ)) (text : List ℕ)
-      → IsServed says before now start state held mid → NextIs now next line (Some kind)
-      → IsReply says state then line kind text → AppendsFront mid end text → ServesFront says before start held end
-  front_written None now next line kind start state then held mid end text served is said writes = tt
-  front_written (Some all) None next line kind start state then held mid end text served is said writes = absurd served
-  front_written (Some all) (Some rest) None line kind start state then held mid end text served is said writes = absurd is
-  front_written (Some all) (Some rest) (Some next) line kind start state then held mid end text served is said writes =
+  pub front_written : (Is : A → Type 0) (before now next : Option (List ℕ)) (line : List ℕ) (kind : Length) (start state then : A)
+      (held mid end : Option (List ℕ)) (text : List ℕ) → Is then → IsServed says before now start state held mid
+      → NextIs now next line (Some kind) → IsReply says state then line kind text → AppendsFront mid end text
+      → ServesFront says Is before start held end
+  front_written Is None now next line kind start state then held mid end text here served is said writes = tt
+  front_written Is (Some all) None next line kind start state then held mid end text here served is said writes = absurd served
+  front_written Is (Some all) (Some rest) None line kind start state then held mid end text here served is said writes = absurd is
+  front_written Is (Some all) (Some rest) (Some next) line kind start state then held mid end text here served is said writes =
       let (asked, asks, replied) = next_answered rest next line kind state then text is said in (
         then,
         served.text ++ text,
+        here,
         record {
           done = served.done ++ asked ∷ [];
           later = ended_lines next;

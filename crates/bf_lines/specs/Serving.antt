@@ -1,5 +1,5 @@
 -- What was served. How one line is answered is handed on: `says`, from one state to another.
-use Rattle.std.specs.Prelude.{◌≡◌, ℕ, ◌<◌, List, [], ◌∷◌, ◌++◌, length, Option, Some, None}
+use Rattle.std.specs.Prelude.{◌≡◌, ℕ, ◌<◌, ◌≤◌, List, [], ◌∷◌, ◌++◌, length, Option, Some, None}
 use Rattle.std.specs.Option.{IfSome}
 use Rattle.bf_io.specs.Told.{Appends, AppendsFront}
 use Rattle.bf_lines.specs.declared.lines.Length.{Length}
@@ -33,10 +33,14 @@ abbrev pub ServesSome : {A : Type 0} → Says A → Option (List ℕ) → A → 
 ServesSome says input start state held held_now =
     IfSome input (λ bytes. (text : List ℕ) × AreServed says bytes start state text × Appends held held_now text)
 
--- some front of the replies to its first lines was written
-abbrev pub ServesFront : {A : Type 0} → Says A → Option (List ℕ) → A → Option (List ℕ) → Option (List ℕ) → Type 0
-ServesFront {A = A} says input start held held_now =
-    IfSome input (λ bytes. (state : A) × (text : List ℕ) × AreServed says bytes start state text × AppendsFront held held_now text)
+-- some front of the replies to its first lines was written, up to a state of which this holds
+abbrev pub ServesFront : {A : Type 0} → Says A → (A → Type 0) → Option (List ℕ) → A → Option (List ℕ) → Option (List ℕ) → Type 0
+ServesFront {A = A} says Is input start held held_now =
+    IfSome input (λ bytes. (state : A) × (text : List ℕ) × Is state × AreServed says bytes start state text × AppendsFront held held_now text)
+
+-- what stands beside a state had at most as many faults then as it has now
+abbrev pub IsBefore : {A B : Type 0} → (B → ℕ) → B → A × B → Type 0
+IsBefore faults now (state, beside) = faults beside ≤ faults now
 
 -- ---- steps
 

@@ -12,6 +12,9 @@ pub trait Answers<B> {
     // Whether a request may be asked.
     ghost is_ready: { Self → Type 0 };
 
+    // The faults that what stands beside it has had so far.
+    ghost faults: { B → ℕ };
+
     /// Answers a line, which has no LF: puts the reply into `text`, which is empty. After want of memory nothing may be
     /// asked, and nothing is said of what is left.
     fn answer(&mut self, beside: &mut B, line: &[u8], text: &mut Bytes) -> Result<(), AllocError>
@@ -20,7 +23,8 @@ pub trait Answers<B> {
         requires empty { text.old ≡ [] }
         ensures reply { OnOk result
             (says (self.old, beside.old) (self.new, beside.new) line.now text.new) }
-        ensures ready { OnOk result (is_ready self.new) };
+        ensures ready { OnOk result (is_ready self.new) }
+        ensures later { faults beside.old ≤ faults beside.new };
 
     /// Answers a line of more bytes, which was passed over: each such line has the same reply.
     fn answer_long(&mut self, beside: &mut B, text: &mut Bytes) -> Result<(), AllocError>
@@ -28,5 +32,6 @@ pub trait Answers<B> {
         requires empty { text.old ≡ [] }
         ensures reply { OnOk result ((line : List ℕ) → 65535 < length line →
             says (self.old, beside.old) (self.new, beside.new) line text.new) }
-        ensures ready { OnOk result (is_ready self.new) };
+        ensures ready { OnOk result (is_ready self.new) }
+        ensures later { faults beside.old ≤ faults beside.new };
 }

@@ -4,7 +4,7 @@ ghost use Rattle.std.specs.Io.KnownBytes.{IsAtEnd};
 ghost use Rattle.bf_io.specs.Causes.{FailsOnlyAt};
 ghost use Rattle.bf_io.specs.Told.{Appends, AppendsFront};
 ghost use Rattle.bf_lines.specs.Lines.{told};
-ghost use Rattle.bf_lines.specs.Serving.{IsReply, ServesAll, ServesFront, ServesSome};
+ghost use Rattle.bf_lines.specs.Serving.{IsBefore, IsReply, ServesAll, ServesFront, ServesSome};
 
 use crate::{Answers, Length, Lines, ServeFault};
 use bf_io::{Bytes, Sink, SinkFault, Source, write_whole};
@@ -33,8 +33,9 @@ pub fn serve_lines<S: Source, K: Sink, B, A: Answers<B>>(
         (answers.old, beside.old) (answers.new, beside.new)
         (K.held sink.old) (K.held sink.new) }
     ensures front { let input = told held (S.left source.old) in
-        OnErr result (ServesFront A.says input (answers.old, beside.old)
-        (K.held sink.old) (K.held sink.new)) }
+        OnErr result (ServesFront A.says (IsBefore A.faults beside.new) input
+        (answers.old, beside.old) (K.held sink.old) (K.held sink.new)) }
+    ensures later { A.faults beside.old ≤ A.faults beside.new }
     ensures source { FailsOnlyAt ServeFault.Read
         (S.faults source.old) (S.faults source.new) result }
     ensures sink { FailsOnlyAt ServeFault.Write (K.faults sink.old) (K.faults sink.new) result }
@@ -69,6 +70,7 @@ fn ask<B, A: Answers<B>>(
     ensures reply { OnOk result (IsReply A.says (answers.old, beside.old) (answers.new, beside.new)
         line.now kind text.new) }
     ensures ready { OnOk result (A.is_ready answers.new) }
+    ensures later { A.faults beside.old ≤ A.faults beside.new }
 {
     text.clear();
     match kind {

@@ -14,7 +14,8 @@ use crate::group::search_all;
 use crate::list::{ListFault, read_list};
 use crate::text::list_refusal;
 use bf_answers::{Answer, Fault, say_answer, usage, word_at};
-use bf_begin::{OpenedText, open_text};
+use bf_begin::{FileLine, OpenedText, open_text};
+use bf_grammar::Limits;
 use bf_import::History;
 use bf_io::{Shelf, Sink, Source, Word, decimal};
 use bf_output::Status;
@@ -146,7 +147,13 @@ fn many_file<R: Host, S: Source, F: Shelf>(
     ensures cause { FailsOnlyAt Fault.Read (S.faults stream.old) (S.faults stream.new) result }
     ensures file { FailsOnlyAt Fault.Shelf (F.faults shelf.old) (F.faults shelf.new) result }
 {
-    let opened = open_text(line.alloc, line.words, 2, stream, shelf)?;
+    let file = FileLine {
+        alloc: line.alloc,
+        words: line.words,
+        index: 2,
+        limits: Limits::standard(),
+    };
+    let opened = open_text(file, stream, shelf)?;
     match opened {
         OpenedText::Over(history, text) => many_text(rt, line, &history, text.as_slice()),
         OpenedText::Refused(answer) => Ok(answer),

@@ -1,14 +1,14 @@
 pub mod Accepted
-mod Begins
+pub mod Begins
 mod Closing
 mod Ended
-mod Loading
+pub mod Loading
 pub mod Logged
 mod Outputs
-mod Places
-mod Replayed
+pub mod Places
+pub mod Replayed
 pub mod Returning
 pub mod Runs
-mod Skips
+pub mod Skips
 mod Started
 mod Unused

@@ -1,5 +1,5 @@
 -- From what was written to what a call answers.
-use Rattle.std.proofs.Common.{◌≡◌, ◌≢◌, inl, inr, ℕ, IsTrue, is_none, List, ◌++◌, Option, Some, None, Result, Ok, Err, IfOk, IsErrOf, refl, sym, subst}
+use Rattle.std.proofs.Common.{◌≡◌, ◌≢◌, inl, inr, ℕ, ◌≤◌, IsTrue, is_none, List, ◌++◌, Option, Some, None, Result, Ok, Err, IfOk, IsErrOf, refl, sym, subst}
 use Rattle.std.specs.Option.{IfSome}
 use Rattle.std.specs.Result.{OnErr, OnOk}
 use Rattle.std.proofs.lemmas.Bool.{false≢true}
@@ -10,6 +10,7 @@ use Rattle.bf_answers.specs.Devices.{HasFailed, Met, ShelfMet}
 use Rattle.bf_answers.specs.Tellings.{told_of}
 use Rattle.bf_answers.proofs.Answering.{read_cause}
 use Rattle.bf_answers.proofs.Streamed.{not_imported}
+use Rattle.bf_commands.specs.Orders.{limits_asked}
 use Rattle.bf_history.specs.declared.fault.ImportFault.{ImportFault}
 use Rattle.bf_history.specs.Imports.{MayImport}
 use Rattle.bf_history.specs.Meanings.{History}
@@ -25,7 +26,7 @@ use Rattle.bf_output.specs.Inputs.{IsReadUnder}
 use Rattle.bf_output.specs.Refusals.{refusal, usage}
 use Rattle.bf_output.specs.Told.{Told}
 use Rattle.bf_serve_run.specs.Command.{IsBegunBehind, IsCutOff, IsCutServing, IsServeComplete, IsServeOutput, IsServedAll, IsUntold, ServeAnswers}
-use Rattle.bf_serve_run.specs.Command.{limits_asked, serves, status_of, to_serve, wrong_word}
+use Rattle.bf_serve_run.specs.Command.{serves, status_of, to_serve, wrong_word}
 use Rattle.bf_serve_run.specs.Serving.{WritesAll, WritesFront, WritesSome, shelf_until}
 
 -- ---- causes
@@ -123,12 +124,12 @@ left_off met history rest left right may leaves writes rose =
 
 cut_over : (met : Met) (history : History) (rest : List ℕ) (source left : Option (List ℕ)) → MayImport source (limits_asked met.words) (Ok history)
     → Leaves source (limits_asked met.words) rest left → WritesFront history met.shelf (told rest left) met.sink.before met.sink.after
-    → IfSome source (λ bytes. (now : ℕ) × (text : List ℕ) × IsBegunBehind (limits_asked met.words) (shelf_until met.shelf now) bytes text
-    × AppendsFront met.sink.before met.sink.after text)
+    → IfSome source (λ bytes. (now : ℕ) × (text : List ℕ) × (now ≤ met.shelf.faults.now)
+    × IsBegunBehind (limits_asked met.words) (shelf_until met.shelf now) bytes text × AppendsFront met.sink.before met.sink.after text)
 cut_over met history rest None left may leaves writes = tt
 cut_over met history rest (Some bytes) None may leaves writes = absurd leaves
-cut_over met history rest (Some bytes) (Some more) may leaves (now, text, some, gained) =
-    (now, text, record { history = history; loads = may; input = rest ++ more; behind = leaves; served = some }, gained)
+cut_over met history rest (Some bytes) (Some more) may leaves (now, text, before, some, gained) =
+    (now, text, before, record { history = history; loads = may; input = rest ++ more; behind = leaves; served = some }, gained)
 
 -- the sink failed behind it, or memory ran out
 pub cut_off : (met : Met) (history : History) (rest : List ℕ) (left : Option (List ℕ)) → wrong_word met.words ≡ None

@@ -6,7 +6,7 @@ use Rattle.bf_io.specs.Told.{Appends, AppendsFront}
 use Rattle.bf_io.specs.declared.shelf.Shelf as shelves
 use Rattle.bf_io.proofs.Told.{Appends-trans, AppendsFront-first, AppendsFront-none, AppendsFront-second}
 use Rattle.bf_lines.specs.Lines.{ended_lines}
-use Rattle.bf_lines.specs.Serving.{AreAnswered, ServesAll, ServesFront, ServesSome}
+use Rattle.bf_lines.specs.Serving.{AreAnswered, IsBefore, ServesAll, ServesFront, ServesSome}
 use Rattle.bf_lines.specs.Serving as lines
 use Rattle.bf_protocol.specs.Events.{ready_line}
 use Rattle.bf_serve.specs.Searches.{Searches, no_search}
@@ -71,11 +71,12 @@ module _ {F : Type 0} (by : shelves.Ghosts F) (history : History) (old new : Ser
 -- a front of what stood at some moment
 pub writes_front : {F : Type 0} (by : shelves.Ghosts F) (history : History) (old : Server) (shelf shelf_now : F) (start : IsStart history old)
     (input before mid after : Option (List ℕ)) → Appends before mid (ready_line (length history.parents))
-    → ServesFront (Says by) input (old, shelf) mid after → WritesFront history (met_shelf by shelf shelf_now) input before after
+    → ServesFront (Says by) (IsBefore by.faults shelf_now) input (old, shelf) mid after → WritesFront history (met_shelf by shelf shelf_now) input before after
 writes_front by history old shelf shelf_now start None before mid after ready serves = tt
-writes_front by history old shelf shelf_now start (Some bytes) before mid after ready ((new, between), text, is, writes) = (
+writes_front by history old shelf shelf_now start (Some bytes) before mid after ready ((new, between), text, earlier, is, writes) = (
   by.faults between,
   ready_line (length history.parents) ++ text,
+  earlier,
   some_served by history old new shelf between start bytes text is,
   AppendsFront-second before mid after (ready_line (length history.parents)) text ready writes,
 )
@@ -87,6 +88,7 @@ front_of_first history shelf None before after front = tt
 front_of_first history shelf (Some bytes) before after front = (
   shelf.faults.now,
   ready_line (length history.parents) ++ [],
+  omega arith,
   record {
     done = [];
     later = ended_lines bytes;

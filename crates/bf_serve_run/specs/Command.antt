@@ -1,11 +1,10 @@
 -- The command `serve`: what it tells, and what a call of it answers.
-use Rattle.std.specs.Prelude.{◌≡◌, ◌⊎◌, ℕ, Bool, false, if◌then◌else◌, IsTrue, is_none, List, codes, Option, Some, None, Result, Ok, Err}
+use Rattle.std.specs.Prelude.{◌≡◌, ◌⊎◌, ℕ, ◌≤◌, Bool, false, if◌then◌else◌, IsTrue, is_none, List, Option, Some, None, Result, Ok, Err}
 use Rattle.std.specs.Option.{IfSome}
 use Rattle.bf_answers.specs.Answers.{Answers, Command, HasTestCause, IsAnswered, IsUnread}
 use Rattle.bf_answers.specs.Devices.{HasNotFailed, Met, ShelfMet, SinkMet, SourceMet, met_untested}
-use Rattle.bf_commands.specs.Orders.{wrong_count}
+use Rattle.bf_commands.specs.Orders.{asks_original_names, limits_asked, wrong_count}
 use Rattle.bf_grammar.specs.declared.fault.Limits.{Limits}
-use Rattle.bf_grammar.specs.Limits.{standard_limits, with_original_names}
 use Rattle.bf_history.specs.Imports.{Loads}
 use Rattle.bf_history.specs.Meanings.{History}
 use Rattle.bf_import.specs.Rest.{AreBehind}
@@ -17,23 +16,13 @@ use Rattle.bf_output.specs.declared.status.Status.TheVariants as status
 use Rattle.bf_output.specs.Inputs.{IsReadUnder, IsToldUnless}
 use Rattle.bf_output.specs.Shown.{TesterShown}
 use Rattle.bf_output.specs.Told.{Told}
-use Rattle.bf_words.specs.Options.{is_text}
-use Rattle.bf_words.specs.Words.{word_at}
 use Rattle.bf_serve_run.specs.Serving.{IsServedSome, IsServedWhole, shelf_until}
 
 -- ---- the words
 
--- the one option: each commit has the name that it had before it was exported
-abbrev pub asks_original_names : List (List ℕ) → Bool
-asks_original_names words = is_text (codes "--original-names") (word_at words 1)
-
 -- the index of the word that is missing, or of the first further one
 abbrev pub wrong_word : List (List ℕ) → Option ℕ
 wrong_word words = wrong_count (if asks_original_names words then 2 else 1) words
-
--- the limits on the stream, and how its commits are named
-abbrev pub limits_asked : List (List ℕ) → Limits
-limits_asked words = if asks_original_names words then with_original_names standard_limits else standard_limits
 
 -- whether the words ask for the stream
 abbrev pub serves : List (List ℕ) → Bool
@@ -83,8 +72,8 @@ IsLeftOff met =
 abbrev pub IsCutOff : Met → Type 0
 IsCutOff met =
     IsTrue (serves met.words)
-    × IfSome met.source.left (λ bytes. (now : ℕ) × (text : List ℕ) × IsBegunBehind (limits_asked met.words) (shelf_until met.shelf now) bytes text
-    × AppendsFront met.sink.before met.sink.after text)
+    × IfSome met.source.left (λ bytes. (now : ℕ) × (text : List ℕ) × (now ≤ met.shelf.faults.now)
+    × IsBegunBehind (limits_asked met.words) (shelf_until met.shelf now) bytes text × AppendsFront met.sink.before met.sink.after text)
 
 abbrev pub IsCutServing : Met → Status → Type 0
 IsCutServing met status.ReadFault = IsLeftOff met

@@ -78,7 +78,8 @@ shelf_until shelf now = record shelf { faults = record { before = shelf.faults.b
 
 abbrev pub WritesFront : History → ShelfMet → Option (List ℕ) → Option (List ℕ) → Option (List ℕ) → Type 0
 WritesFront history shelf input before after =
-    IfSome input (λ bytes. (now : ℕ) × (text : List ℕ) × IsServedSome history (shelf_until shelf now) bytes text × AppendsFront before after text)
+    IfSome input (λ bytes. (now : ℕ) × (text : List ℕ) × (now ≤ shelf.faults.now) × IsServedSome history (shelf_until shelf now) bytes text
+    × AppendsFront before after text)
 
 -- ---- steps
 

@@ -12,7 +12,8 @@ ghost use Rattle.bf_serve_run.specs.Command.{ServesStream, serves};
 ghost use Rattle.bf_serve_run.specs.Serving.{WritesAll, WritesFront, WritesSome};
 
 use crate::server::Server;
-use bf_answers::{refusal, say_answer, usage, word_at, write_and_flush};
+use bf_answers::{refusal, say_answer, usage, write_and_flush};
+use bf_commands::{asks_original_names, limits_asked};
 use bf_grammar::Limits;
 use bf_import::{History, import_with_rest};
 use bf_io::{Bytes, Shelf, Sink, Source, Word};
@@ -62,13 +63,6 @@ pub fn serve<S: Source, F: Shelf, K: Sink>(
     }
 }
 
-/// Whether the one option stands behind the name of the command.
-fn asks_original_names(words: &[Word]) -> bool
-    ensures { result ≡ command.asks_original_names words.now }
-{
-    b"--original-names".as_slice() == word_at(words, 1)
-}
-
 /// The index of the word that is missing, or of the first further one.
 fn wrong_word(words: &[Word]) -> Option<u32>
     ensures { result ≡ command.wrong_word words.now }
@@ -82,18 +76,6 @@ fn wrong_word(words: &[Word]) -> Option<u32>
         return Some(count as u32);
     }
     None
-}
-
-/// The limits on the stream, and how its commits are named.
-fn limits_asked(words: &[Word]) -> Limits
-    ensures limits { result ≡ command.limits_asked words.now }
-    ensures within { IsWithin result }
-{
-    let limits = Limits::standard();
-    if asks_original_names(words) {
-        return limits.with_original_names();
-    }
-    limits
 }
 
 /// Tells that a word is at fault.

@@ -19,6 +19,8 @@ impl<F: Shelf> Answers<F> for Server<'_> {
 
     ghost is_ready = { λ server. IsServing server.session };
 
+    ghost faults = { F.faults };
+
     fn answer(&mut self, shelf: &mut F, line: &[u8], text: &mut Bytes) -> Result<(), AllocError> {
         self.session.answer(line, shelf, text)
     }

@@ -1,20 +1,23 @@
--- Where the check has passed, and no outcome is known of the places that may be asked, some path asks for each of them.
+-- Where the check has passed, and the places that may be asked have no outcome but skips, some path asks for each of them.
 use Rattle.std.proofs.Common.{◌≡◌, ℕ, zero, suc, ◌<◌, ◌≤◌, ◌⊎◌, Bool, true, false, ◌||◌, ◌==◌, cond, leb, List, [], ◌∷◌, length, Option, Some, None}
-use Rattle.std.proofs.Common.{get_or, slice_index, not, refl, sym, ap, ◌∙◌, subst, inl, inr, ⊎_elim, arith, eqb-true, eq-eqb, IfSome}
+use Rattle.std.proofs.Common.{get_or, slice_index, slice_set, not, refl, sym, ap, ◌∙◌, subst, inl, inr, ⊎_elim, arith, eqb-true, eq-eqb, IfSome}
 use Rattle.std.proofs.lemmas.List.Elements.{All-contains}
 use Rattle.std.specs.Arc.{arc_value}
+use Rattle.std.proofs.lemmas.List.{get_or-set_other}
 use Rattle.std.proofs.lemmas.Bool.{and_from, and_parts, not-true, ne_eqb, both_ways, cases_eq, cases_Bool, cond-true, cond-false, le-leb}
 use Rattle.std.specs.List.{Contains, find, list_all}
 use Rattle.bf_graph.specs.Graph.{IsGraph}
 use Rattle.bf_search.specs.declared.asks.Ask.TheVariants.{Test, FirstBad}
-use Rattle.bf_search.specs.declared.outcomes.Mark.TheVariants.{Good, Bad}
+use Rattle.bf_search.specs.declared.outcomes.Mark.TheVariants.{Good, Bad, Skip}
 use Rattle.bf_search.specs.declared.outcomes.Outcome.{Outcome}
+use Rattle.bf_search.specs.declared.outcomes.Verdict.{Verdict}
+use Rattle.bf_search.specs.declared.outcomes.Verdict.TheVariants.{Mark as MarkOf, Abort}
 use Rattle.bf_search.specs.Candidates.{is_in, is_candidate, candidate_row, candidates, weights}
 use Rattle.bf_search.specs.Choice.{best, count_in, eligible, first_greatest, is_eligible, value_of}
 use Rattle.bf_search.specs.Guesses.{is_candidate_below, is_candidate_of}
 use Rattle.bf_search.specs.LeftToAsk.{left_to_ask}
 use Rattle.bf_search.specs.OpenPaths.{left_of, Allows}
-use Rattle.bf_search.specs.Outcomes.{Outcomes, outcomes_of_table}
+use Rattle.bf_search.specs.Outcomes.{Outcomes, outcomes_of_table, verdict_of}
 use Rattle.bf_search.specs.State.{Search, Asked, IsSearchOver, ask, ask_among, ask_best, best_of, is_place, mark, without_test}
 use Rattle.bf_search.proofs.CandidateLemmas.{IsCandidate-from_test, is_in-candidate_row, length-candidate_row}
 use Rattle.bf_search.proofs.Modes.{IsGraph-in_mode}
@@ -33,9 +36,10 @@ use Rattle.bf_state.proofs.Shrinking.{candidate_before}
 use Rattle.bf_spec.specs.declared.node.Node.{Node}
 use Rattle.bf_spec.specs.Nodes.{AreNodes, IsNode}
 use Rattle.bf_spec.specs.Sights.{IsSight}
-use Rattle.bf_spec.specs.Ways.{AreUntold, IsAsked, IsSure, MayBeAsked, may_be_asked as node_may}
+use Rattle.bf_spec.specs.Ways.{AreUntold, IsAsked, IsSure, MayBeAsked, is_told, says_more, may_be_asked as node_may}
 use Rattle.bf_spec.proofs.Asking.{in_mask}
 use Rattle.bf_spec.proofs.Growing.{sight_of, read_as}
+use Rattle.bf_spec.proofs.Sights.{stays_in}
 use Rattle.bf_spec.proofs.Walking.{NodeFacts, node_facts}
 
 -- ---- the best of some places
@@ -154,7 +158,19 @@ asks_test graph s x within ends checked may = (
         ∙ cond-true s.checked _ _ checked
         ∙ ap (λ (o : Option ℕ). ask_among s ends.bad [] (candidates graph ends.bad s.goods s.first_parent) o) found.1
 
--- ---- behind a guess
+-- ---- behind a mark
+
+below_alike : (graph : List (List ℕ)) (bad : Option ℕ) (s t : Search) (x : ℕ) → s.goods ≡ t.goods → s.first_parent ≡ t.first_parent
+    → is_candidate_below graph bad s x ≡ is_candidate_below graph bad t x
+below_alike graph None s t x g f = refl
+below_alike graph (Some bad) s t x g f = λ i. is_candidate graph bad (g i) (f i) x
+
+not_before : (row : List Bool) (p q : ℕ) → is_in (slice_set row p true) q ≡ false → is_in row q ≡ false
+not_before row p q h = by_value (cases_Bool (is_in row q))
+  where
+    by_value : (is_in row q ≡ true) ⊎ (is_in row q ≡ false) → is_in row q ≡ false
+    by_value (inl there) = absurd (both_ways (is_in (slice_set row p true) q) h (stays_in row p q there))
+    by_value (inr lacks) = lacks
 
 module _ (graph : List (List ℕ)) (s : Search) (q : ℕ) (g : IsGraph graph) (h : (ask graph s).step.ask ≡ Test q) where
   abbrev t : Search
@@ -204,6 +220,28 @@ module _ (graph : List (List ℕ)) (s : Search) (q : ℕ) (g : IsGraph graph) (h
       between : r ≡ a.asks_for.bad → q ≡ a.asks_for.bad
       between e = let above = Reaches-le g a.asks_for.reached in omega (arith, above, below, e)
 
+  candidate_alike : (r : ℕ) → is_candidate_of graph (mark t Skip q) r ≡ is_candidate_of graph s r
+  unfolding mark
+  candidate_alike r =
+      ap (λ (bad : Option ℕ). is_candidate_below graph bad (mark t Skip q) r) a.same.bad
+      ∙ below_alike graph s.bad (mark t Skip q) s r a.same.goods a.same.first_parent
+
+  kept_skip : (x : ℕ) → (q ≡ x → ⊥) → MayBeAsked graph s x → MayBeAsked graph (mark t Skip q) x
+  unfolding mark
+  kept_skip x other may = record {
+    candidate = candidate_alike x ∙ may.candidate;
+    not_bad = λ e. may.not_bad (sym a.same.bad ∙ e);
+    not_skipped = get_or-set_other t.skips q x true false (λ e. other (sym e)) ∙ ap (λ (row : List Bool). is_in row x) a.same.skips ∙ may.not_skipped;
+  }
+
+  was_skip : (r : ℕ) → MayBeAsked graph (mark t Skip q) r → MayBeAsked graph s r
+  unfolding mark
+  was_skip r may = record {
+    candidate = sym (candidate_alike r) ∙ may.candidate;
+    not_bad = λ e. may.not_bad (a.same.bad ∙ e);
+    not_skipped = ap (λ (row : List Bool). is_in row r) (sym a.same.skips) ∙ not_before t.skips q r may.not_skipped;
+  }
+
   pub asked_may : s.checked ≡ true → MayBeAsked graph s q
   asked_may checked = record {
     candidate = (settled graph s q h checked).1;
@@ -218,8 +256,14 @@ some_part true other h = inl refl
 some_part false true h = inr refl
 some_part false false h = inr h
 
+only_skip : (v : Verdict) → says_more v ≡ false → v ≡ MarkOf Skip
+only_skip (MarkOf Skip) h = refl
+only_skip (MarkOf Good) h = cc h
+only_skip (MarkOf Bad) h = cc h
+only_skip Abort h = cc h
+
 module _ (graph : List (List ℕ)) (known : Outcomes) (x : ℕ) (g : IsGraph graph) (within : x < length graph) where
-  -- a search with nothing told of what may be asked, and x among that
+  -- a search with no more told than skips of what may be asked, and x among that
   record IsOpen (s : Search) : Type 0 where
     over : IsSearchOver graph s
     ends : HasEnds s
@@ -234,12 +278,9 @@ module _ (graph : List (List ℕ)) (known : Outcomes) (x : ℕ) (g : IsGraph gra
       test : (q : ℕ) × ((ask graph s).step.ask ≡ Test q)
       test = asks_test graph s x within sure.ends sure.checked sure.may
 
-      unknown : (q : ℕ) → (ask graph s).step.ask ≡ Test q → known q ≡ None
-      unknown q h = sure.untold q (asked_may graph s q g h sure.checked)
-
-      by_good : (q : ℕ) (h : (ask graph s).step.ask ≡ Test q) → is_candidate_of graph (mark (ask graph s).search Good q) x ≡ true
+      by_good : (q : ℕ) (h : (ask graph s).step.ask ≡ Test q) → known q ≡ None → is_candidate_of graph (mark (ask graph s).search Good q) x ≡ true
           → IsAsked graph known s x
-      by_good q h k =
+      by_good q h unknown k =
           let falls = left_to_ask-falls graph s Good q g sure.over h in
           let rest = rests (mark (ask graph s).search Good q) (omega (arith, falls, few)) (record {
             over = IsSearchOver-marked graph s Good q g sure.over h;
@@ -248,11 +289,11 @@ module _ (graph : List (List ℕ)) (known : Outcomes) (x : ℕ) (g : IsGraph gra
             untold = λ r may. sure.untold r (was_good graph s q g h r may);
             may = kept_good graph s q g h x k sure.may;
           }) in
-          (Good ∷ rest.0, rest.1, (q, h, subst (λ (o : Option Outcome). Allows o Good) (sym (unknown q h)) tt, rest.2))
+          (Good ∷ rest.0, rest.1, (q, h, subst (λ (o : Option Outcome). Allows o Good) (sym unknown) tt, rest.2))
 
-      by_bad : (q : ℕ) (h : (ask graph s).step.ask ≡ Test q) → (q ≡ x → ⊥) → is_candidate_of graph (mark (ask graph s).search Bad q) x ≡ true
+      by_bad : (q : ℕ) (h : (ask graph s).step.ask ≡ Test q) → known q ≡ None → (q ≡ x → ⊥) → is_candidate_of graph (mark (ask graph s).search Bad q) x ≡ true
           → IsAsked graph known s x
-      by_bad q h other k =
+      by_bad q h unknown other k =
           let falls = left_to_ask-falls graph s Bad q g sure.over h in
           let rest = rests (mark (ask graph s).search Bad q) (omega (arith, falls, few)) (record {
             over = IsSearchOver-marked graph s Bad q g sure.over h;
@@ -261,13 +302,31 @@ module _ (graph : List (List ℕ)) (known : Outcomes) (x : ℕ) (g : IsGraph gra
             untold = λ r may. sure.untold r (was_bad graph s q g h r may);
             may = kept_bad graph s q g h x other k sure.may;
           }) in
-          (Bad ∷ rest.0, rest.1, (q, h, subst (λ (o : Option Outcome). Allows o Bad) (sym (unknown q h)) tt, rest.2))
+          (Bad ∷ rest.0, rest.1, (q, h, subst (λ (o : Option Outcome). Allows o Bad) (sym unknown) tt, rest.2))
+
+      by_skip : (q : ℕ) (h : (ask graph s).step.ask ≡ Test q) → (q ≡ x → ⊥) → Allows (known q) Skip → IsAsked graph known s x
+      by_skip q h other allows =
+          let falls = left_to_ask-falls graph s Skip q g sure.over h in
+          let rest = rests (mark (ask graph s).search Skip q) (omega (arith, falls, few)) (record {
+            over = IsSearchOver-marked graph s Skip q g sure.over h;
+            ends = next_has_ends graph s Skip q sure.ends;
+            checked = stays_checked graph s Skip q g h (settled graph s q h sure.checked).0;
+            untold = λ r may. sure.untold r (was_skip graph s q g h r may);
+            may = kept_skip graph s q g h x other sure.may;
+          }) in
+          (Skip ∷ rest.0, rest.1, (q, h, allows, rest.2))
+
+      by_outcome : (o : Option Outcome) (q : ℕ) (h : (ask graph s).step.ask ≡ Test q) → (q ≡ x → ⊥) → known q ≡ o → is_told o ≡ false
+          → IsAsked graph known s x
+      by_outcome None q h other e untold =
+          let parts = guesses_part graph s q x g h in
+          ⊎_elim (by_good q h e) (by_bad q h e other) (some_part _ _ (parts.all ∙ sure.may.candidate))
+      by_outcome (Some outcome) q h other e untold =
+          by_skip q h other (subst (λ (o : Option Outcome). Allows o Skip) (sym e) (only_skip (verdict_of outcome) untold))
 
       by_place : (q : ℕ) (h : (ask graph s).step.ask ≡ Test q) → (q ≡ x) ⊎ (q ≡ x → ⊥) → IsAsked graph known s x
       by_place q h (inl same) = ([], left_of graph (ask graph s).search, (h ∙ ap (λ (p : ℕ). Test p) same, refl))
-      by_place q h (inr other) =
-          let parts = guesses_part graph s q x g h in
-          ⊎_elim (by_good q h) (by_bad q h other) (some_part _ _ (parts.all ∙ sure.may.candidate))
+      by_place q h (inr other) = by_outcome (known q) q h other refl (sure.untold q (asked_may graph s q g h sure.checked))
 
   asked_within : (turns : ℕ) (s : Search) → left_to_ask graph s < turns → IsOpen s → IsAsked graph known s x
   asked_within zero s few sure = absurd (omega (arith, few))

@@ -8,3 +8,4 @@ pub mod Halting
 pub mod Sights
 pub mod Linking
 pub mod Pending
+pub mod Keeping

@@ -60,16 +60,16 @@ pub ranking_skipped : (graph : List (List ℕ)) (s : Search) (p : ℕ) (ps : Lis
 unfolding mark
 ranking_skipped graph s p ps h = ranking_alike graph s (mark s Skip p) ps refl (mask_skipped graph s p) refl h
 
+pub stays_in : (row : List Bool) (p q : ℕ) → is_in row q ≡ true → is_in (slice_set row p true) q ≡ true
+stays_in row p q h =
+    ⊎_elim
+    (λ same. get_or-set_at row p q true false same (subst (λ n. n < length row) same (inside row q h)))
+    (λ other. get_or-set_other row p q true false other ∙ h)
+    (cases_eq q p)
+
 pub passed_skipped : (s : Search) (p : ℕ) (ps : List ℕ) (n : ℕ) → IsPassed s.skips ps n → IsPassed (mark s Skip p).skips ps n
 unfolding mark
 passed_skipped s p ps n h = record { within = h.within; skipped = λ k l. stays_in s.skips p (slice_index ps k) (h.skipped k l) }
-  where
-    stays_in : (row : List Bool) (p q : ℕ) → is_in row q ≡ true → is_in (slice_set row p true) q ≡ true
-    stays_in row p q h =
-        ⊎_elim
-        (λ same. get_or-set_at row p q true false same (subst (λ n. n < length row) same (inside row q h)))
-        (λ other. get_or-set_other row p q true false other ∙ h)
-        (cases_eq q p)
 
 -- ---- nodes that are made
 

@@ -7,3 +7,4 @@ pub mod Ways
 pub mod Walks
 pub mod Sights
 pub mod Links
+pub mod Kept

@@ -5,6 +5,7 @@ use Rattle.std.specs.List.{slice_index_or}
 use Rattle.bf_search.specs.declared.asks.Ask.{Ask}
 use Rattle.bf_search.specs.declared.asks.Ask.TheVariants.{Test}
 use Rattle.bf_search.specs.declared.outcomes.Mark.{Mark}
+use Rattle.bf_search.specs.declared.outcomes.Mark.TheVariants.{Skip}
 use Rattle.bf_search.specs.declared.outcomes.Outcome.{Outcome}
 use Rattle.bf_search.specs.declared.outcomes.Verdict.{Verdict}
 use Rattle.bf_search.specs.declared.outcomes.Verdict.TheVariants.{Mark as MarkOf, Abort}
@@ -61,17 +62,26 @@ pub record MayBeAsked (graph : List (List ℕ)) (s : Search) (x : ℕ) : Type 0 
   pub not_bad : s.bad ≢ Some x
   pub not_skipped : is_in s.skips x ≡ false
 
--- no outcome is known of a place that may be asked
+-- an outcome says more than that its place is skipped
+abbrev pub says_more : Verdict → Bool
+says_more (MarkOf Skip) = false
+says_more other = true
+
+abbrev pub is_told : Option Outcome → Bool
+is_told None = false
+is_told (Some outcome) = says_more (verdict_of outcome)
+
+-- no more is known of a place that may be asked than that it is skipped
 abbrev pub AreUntold : List (List ℕ) → Outcomes → Search → Type 0
-AreUntold graph known s = (q : ℕ) → MayBeAsked graph s q → known q ≡ None
+AreUntold graph known s = (q : ℕ) → MayBeAsked graph s q → is_told (known q) ≡ false
 
 -- whether a place may be asked from a node on
 abbrev pub may_be_asked : Node → ℕ → Bool
 may_be_asked node x = is_in (arc_value node.sight.mask) x && not (is_place node.state.search.bad x) && not (is_in node.state.search.skips x)
 
--- no outcome of a table is that of a place that may be asked from a node on
+-- no outcome of a table says more of a place that may be asked from a node on
 abbrev pub IsUntold : List (Option Outcome) → Node → Type 0
-IsUntold table node = (q : ℕ) → may_be_asked node q ≡ true → outcomes_of_table table q ≡ None
+IsUntold table node = (q : ℕ) → may_be_asked node q ≡ true → is_told (outcomes_of_table table q) ≡ false
 
 -- the check has passed, a place may be asked, and nothing is told of those that may be
 pub record IsSure (table : List (Option Outcome)) (node : Node) (x : ℕ) : Type 0 where

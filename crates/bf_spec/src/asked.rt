@@ -2,16 +2,16 @@
 ghost use Rattle.std.specs.Prelude.{◌≡◌, ◌<◌, length, IfOk, IsTrue};
 ghost use Rattle.std.specs.Arc.{arc_value};
 ghost use Rattle.bf_spec.specs.Nodes as nodes_;
-ghost use Rattle.bf_spec.specs.Ways.{is_no_candidate, may_be_asked, way_from, TellsIfAskedFrom, GoesTowards};
+ghost use Rattle.bf_spec.specs.Ways.{is_no_candidate, is_told, may_be_asked, way_from, TellsIfAskedFrom, GoesTowards};
 ghost use Rattle.bf_spec.specs.Ways.{IsSure, IsUntold};
 
+use crate::kept::Kept;
 use crate::node::Node;
 use crate::nodes::Nodes;
 use crate::table::Table;
 use crate::walk::child;
-use bf_reach::Reach;
-use bf_search::{Ask, Mark, Verdict};
-use bf_state::State;
+use bf_reach::{Reach, Row};
+use bf_search::{Ask, Mark, Outcome, Verdict};
 use bf_terms::verdict_of;
 use std::alloc::{AllocError, Global};
 
@@ -29,10 +29,10 @@ pub enum Way {
 }
 
 /// Whether only candidates are asked for from a search on.
-fn is_checked(state: &State) -> bool
+fn is_checked(state: &Kept) -> bool
     ensures { result ≡ state.now.search.checked }
 {
-    state.checked
+    state.is_checked()
 }
 
 /// Whether only candidates are asked for from a node on, and a place is none of them.
@@ -96,21 +96,36 @@ fn child_towards(
 
 /// Whether a place may be asked from a node on: it is a candidate, neither the bad place nor
 /// skipped.
-fn may_be_asked(node: &Node, place: u32) -> bool
+fn may_be_asked(node: &Node, skips: &Row, place: u32) -> bool
     requires mask { place < length (arc_value node.now.sight.mask) }
-    requires skips { place < length node.now.state.search.skips }
+    requires skips { skips.now ≡ node.now.state.search.skips }
+    requires within { place < length skips.now }
     ensures { result ≡ may_be_asked node.now place }
 {
-    node.sight.mask.get(place) && node.state.bad != Some(place) && !node.state.skips.get(place)
+    node.sight.mask.get(place) && node.state.bad() != Some(place) && !skips.get(place)
 }
 
-/// Whether no outcome is known of the places that may be asked from a node on.
-fn is_untold(node: &Node, table: &Table) -> bool
-    requires { length node.now.state.search.skips ≡ length (arc_value node.now.sight.mask) }
+/// Whether an outcome is known that says more than that its place is skipped.
+fn is_told(outcome: Option<Outcome>) -> bool
+    ensures { result ≡ is_told outcome }
+{
+    match outcome {
+        None => false,
+        Some(outcome) => match verdict_of(outcome) {
+            Verdict::Mark(Mark::Skip) => false,
+            Verdict::Mark(Mark::Good | Mark::Bad) | Verdict::Abort => true,
+        },
+    }
+}
+
+/// Whether the places that may be asked from a node on have no outcome but skips.
+fn is_untold(node: &Node, skips: &Row, table: &Table) -> bool
+    requires skips { skips.now ≡ node.now.state.search.skips }
+    requires len { length skips.now ≡ length (arc_value node.now.sight.mask) }
     ensures { IsTrue result → IsUntold table.now node.now }
 {
     for place in 0..node.sight.mask.len() {
-        if table.find(place).is_some() && may_be_asked(node, place) {
+        if is_told(table.find(place)) && may_be_asked(node, skips, place) {
             return false;
         }
     }
@@ -118,13 +133,17 @@ fn is_untold(node: &Node, table: &Table) -> bool
 }
 
 /// Whether some path from a node asks for a place, since every guess is left open there: the
-/// check has passed, the place may be asked, and no outcome is known of those that may be.
-fn is_sure(node: &Node, table: &Table, place: u32) -> bool
+/// check has passed, the place may be asked, and those that may be have no outcome but skips.
+fn is_sure(node: &Node, table: &Table, place: u32) -> Result<bool, AllocError>
     requires mask { place < length (arc_value node.now.sight.mask) }
     requires skips { length node.now.state.search.skips ≡ length (arc_value node.now.sight.mask) }
-    ensures { IsTrue result → IsSure table.now node.now place }
+    ensures { IfOk result (λ sure. IsTrue sure → IsSure table.now node.now place) }
 {
-    is_checked(&node.state) && may_be_asked(node, place) && is_untold(node, table)
+    if !is_checked(&node.state) {
+        return Ok(false);
+    }
+    let state = node.state.state()?;
+    Ok(may_be_asked(node, &state.skips, place) && is_untold(node, &state.skips, table))
 }
 
 /// Whether a node has not yet been followed by both guesses.
@@ -155,7 +174,7 @@ pub(crate) fn is_asked_from(
             Way::Nowhere => return Ok(false),
             Way::Goes(asked, mark) => index = child(alloc, reach, nodes, index, mark, asked)?,
             Way::Guesses(asked) => {
-                if is_edge(nodes, index) && is_sure(&nodes[index], table, place) {
+                if is_edge(nodes, index) && is_sure(&nodes[index], table, place)? {
                     return Ok(true);
                 }
                 index = child_towards(alloc, reach, nodes, index, asked, place)?;

@@ -163,7 +163,7 @@ fn ended_at(
 ) -> Result<Walked, AllocError>
     ensures { IfOk result (IsEndedAt node.now entries.items ending) }
 {
-    let state = node.state.try_clone()?;
+    let state = node.state.state()?;
     let path = Vec::from_slice(alloc, node.path.as_slice())?;
     Ok(Walked {
         entries,
@@ -185,7 +185,7 @@ fn over_at(
     requires { place < from.now.state.len }
     ensures { IfOk result (IsOverAt from.now to.now mark place entries.items) }
 {
-    let mut state = from.state.try_clone()?;
+    let mut state = from.state.state()?;
     state.mark(mark, place)?;
     let path = Vec::from_slice(alloc, to.path.as_slice())?;
     Ok(Walked {

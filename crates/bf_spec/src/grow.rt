@@ -1,23 +1,61 @@
 //! How nodes are made.
-ghost use Rattle.std.specs.Prelude.{◌≡◌, ◌<◌, ◌++◌, ◌∷◌, [], length, IfOk, Some};
+ghost use Rattle.std.specs.Prelude.{◌≡◌, ◌<◌, ◌++◌, ◌∷◌, [], length, IfOk, IsTrue, Some};
+ghost use Rattle.std.specs.Arc.{arc_value};
 ghost use Rattle.bf_search.specs.declared.asks.Ask.TheVariants.{Test};
 ghost use Rattle.bf_state.specs.Ends.{HasEnds};
 ghost use Rattle.bf_spec.specs.Nodes as nodes_;
 ghost use Rattle.bf_spec.specs.Sights.{IsSight, IsOrder, IsFresh};
 
+use crate::kept::Kept;
 use crate::node::{Node, Order, Sight};
-use bf_reach::Reach;
+use bf_reach::{Reach, Row};
 use bf_search::Mark;
 use bf_state::{State, Weighed};
 use std::alloc::{AllocError, Global};
 use std::sync::Arc;
 
+/// Whether two rows are the same.
+fn is_same_row(row: &Row, other: &Row) -> Result<bool, AllocError>
+    requires { length row.now ≡ length other.now }
+    ensures { IfOk result (λ same. IsTrue same → row.now ≡ other.now) }
+{
+    let mut rest = row.try_clone()?;
+    rest.and_not(other);
+    if rest.count() != 0 {
+        return Ok(false);
+    }
+    let mut back = other.try_clone()?;
+    back.and_not(row);
+    if back.count() != 0 {
+        return Ok(false);
+    }
+    Ok(true)
+}
+
+/// A row, which is that of a node near by where it is the same.
+fn shared(alloc: Global, near: Option<&Arc<Row>>, row: Row) -> Result<Arc<Row>, AllocError>
+    ensures { IfOk result (λ shared. arc_value shared ≡ row) }
+{
+    if let Some(near) = near {
+        if near.len() == row.len() && is_same_row(near, &row)? {
+            return Arc::try_clone(near);
+        }
+    }
+    Ok(Arc::new(alloc, row)?)
+}
+
 /// A node of a search that has asked, with the candidates that its ask had in hand.
-fn fresh(alloc: Global, path: Vec<Mark>, state: State, weighed: Weighed) -> Result<Node, AllocError>
+fn fresh(
+    alloc: Global,
+    near: Option<&Arc<Row>>,
+    path: Vec<Mark>,
+    state: Kept,
+    weighed: Weighed,
+) -> Result<Node, AllocError>
     ensures { IfOk result (IsFresh path.items state weighed.step weighed.mask) }
 {
     let sight = Sight {
-        mask: Arc::new(alloc, weighed.mask)?,
+        mask: shared(alloc, near, weighed.mask)?,
         order: None,
     };
     Ok(Node {
@@ -38,14 +76,16 @@ pub(crate) fn first(alloc: Global, reach: &Reach, mut state: State) -> Result<No
     let weighed = state.weigh(reach)?;
     prove!(state.len() == reach.len());
     let path = Vec::new(alloc);
-    fresh(alloc, path, state, weighed)
+    let kept = Kept::new(alloc, state)?;
+    fresh(alloc, None, path, kept, weighed)
 }
 
 /// The path to a node that follows another by a mark.
 fn longer(alloc: Global, parent: &Node, mark: Mark) -> Result<Vec<Mark>, AllocError>
     ensures { IfOk result (λ path. path.items ≡ nodes_.path_of parent.now ++ mark ∷ []) }
 {
-    let mut path = Vec::from_slice(alloc, parent.path.as_slice())?;
+    let mut path = Vec::with_capacity(alloc, parent.path.len() + 1)?;
+    path.extend_from_slice(parent.path.as_slice())?;
     path.push(mark)?;
     Ok(path)
 }
@@ -63,12 +103,13 @@ fn guessed(
     requires below { place < length reach.now }
     ensures { IfOk result (λ child. nodes_.IsChild reach.now parent.now mark child) }
 {
-    let mut state = parent.state.try_clone()?;
+    let mut state = parent.state.state()?;
     state.mark(mark, place)?;
     let weighed = state.weigh(reach)?;
     prove!(state.len() == reach.len());
     let path = longer(alloc, parent, mark)?;
-    fresh(alloc, path, state, weighed)
+    let kept = parent.state.next(alloc, mark, place, state)?;
+    fresh(alloc, Some(&parent.sight.mask), path, kept, weighed)
 }
 
 /// The order of the candidates of a node.
@@ -84,7 +125,10 @@ fn order_of(alloc: Global, reach: &Reach, node: &Node, bad: u32) -> Result<Order
             passed: order.passed,
         }),
         None => Ok(Order {
-            ranking: Arc::new(alloc, node.state.rank(reach, bad, &node.sight.mask)?)?,
+            ranking: Arc::new(
+                alloc,
+                node.state.state()?.rank(reach, bad, &node.sight.mask)?,
+            )?,
             passed: 0,
         }),
     }
@@ -106,7 +150,7 @@ fn skipped(
     ensures { IfOk result (λ child. nodes_.IsChild reach.now parent.now Mark.Skip child) }
 {
     let before = order_of(alloc, reach, parent, bad)?;
-    let mut state = parent.state.try_clone()?;
+    let mut state = parent.state.state()?;
     state.mark(Mark::Skip, place)?;
     let mask = Arc::try_clone(&parent.sight.mask)?;
     let ranked = state.advance_ranked(reach, &mask, &before.ranking, before.passed)?;
@@ -116,9 +160,10 @@ fn skipped(
         passed: ranked.passed,
     });
     let path = longer(alloc, parent, Mark::Skip)?;
+    let kept = parent.state.next(alloc, Mark::Skip, place, state)?;
     Ok(Node {
         path,
-        state,
+        state: kept,
         step: ranked.step,
         sight: Sight { mask, order },
     })
@@ -138,7 +183,7 @@ pub(crate) fn grown(
     requires sight { IsSight reach.now parent.now.state.search parent.now.sight }
     ensures { IfOk result (λ child. nodes_.IsChild reach.now parent.now mark child) }
 {
-    match (mark, parent.state.bad) {
+    match (mark, parent.state.bad()) {
         (Mark::Skip, Some(bad)) => skipped(alloc, reach, parent, bad, place),
         _ => guessed(alloc, reach, parent, mark, place),
     }

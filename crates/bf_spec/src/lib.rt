@@ -4,6 +4,7 @@
 mod asked;
 mod follow;
 mod grow;
+mod kept;
 mod node;
 mod nodes;
 mod reroot;

@@ -13,7 +13,7 @@ farmdawn gen NUMBER COUNT
 farmdawn sample [--workers N] NUMBER COUNT
 farmdawn certify simulate [OPTION..] BAD GOOD.. PLAN < STREAM
 farmdawn certify run [OPTION..] BAD GOOD.. -- COMMAND.. < STREAM
-farmdawn check FILE < STREAM
+farmdawn check [--original-names] FILE < STREAM
 farmdawn checkout run [OPTION..] BAD GOOD.. -- COMMAND.. < STREAM
 farmdawn journal run [OPTION..] BAD GOOD.. -- COMMAND.. < STREAM
 farmdawn many N FILE < STREAM
@@ -48,7 +48,7 @@ to test, and takes what the test showed.
   --workers N       test up to N commits at once, 1 to 64; log and answer are the same for every N
   --leg K           write the lines so far after every K marks; log and answer are the same
   --trace           print behind the answer what the workers did: claim, post and give
-  --original-names  take the names of commits from their lines original-oid (serve)
+  --original-names  take the names of commits from their lines original-oid (check, serve)
 
 The status is 0 where the first bad commit was found or the command did what it was asked, 1 where
 a word is wrong, 2 where only skipped commits are left, 3 where a merge base is bad, 4 where a good

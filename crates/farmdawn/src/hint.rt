@@ -2,7 +2,7 @@
 use bf_checkout::TreesRefusal;
 use bf_io::Word;
 use bf_tester::ProcessTester;
-use std::io::Error;
+use std::io::{self, Error};
 
 /// What is right at the word behind an option that takes a value.
 fn value_of(option: &[u8]) -> Option<&'static str> {
@@ -32,7 +32,7 @@ fn line_of(command: &[u8]) -> &'static str {
         b"sample" => "sample [--workers N] NUMBER COUNT, where COUNT is 1 to 100,000",
         b"certify" =>
             "the word simulate or run and the rest of its line, without --leg and --trace",
-        b"check" => "check FILE",
+        b"check" => "check [--original-names] FILE",
         b"checkout" | b"journal" => "the word run and the rest of its line",
         b"many" => "many N FILE, where N is 1 to 64",
         b"serve" => "serve [--original-names]",
@@ -112,6 +112,32 @@ pub(crate) fn tell_stream<R: Eprint>(rt: &R) {
     let _ = eprintln!(rt;
         "then git -C through.git fast-import <STREAM && git -C through.git fast-export --all"
     );
+    let _ = eprintln!(rt;
+        "a tag that names no commit is left out by --tag-of-filtered-object=drop --branches --tags=PATTERN in place of --all"
+    );
+}
+
+/// Says on the standard error that a stream may have broken off. Where it cannot be written nothing is said.
+pub(crate) fn tell_open<R: Eprint>(rt: &R) {
+    let _ = eprintln!(rt;
+        "farmdawn: no test was bad, and the stream had no done at its end: it may lack commits."
+    );
+    let _ = eprintln!(rt;
+        "git fast-export --use-done-feature writes done where it has written all"
+    );
+}
+
+/// Says on the standard error which folders in which tests were made could not be removed. Where it cannot be written
+/// nothing is said.
+pub(crate) fn tell_remains<R: Eprint>(rt: &R, remains: io::Result<Vec<u64>>) {
+    let Ok(numbers) = remains else {
+        return;
+    };
+    for number in &numbers {
+        let _ = eprintln!(rt;
+            "farmdawn: the folder bisect-trees/{number} is left: what a test had started still writes there"
+        );
+    }
 }
 
 /// Says on the standard error why a run may not work in `bisect-trees`, where that is so. Where it cannot be written

@@ -7,6 +7,8 @@ ghost use Rattle.std.specs.Prelude.{◌≡◌, [], false};
 mod args;
 mod help;
 mod hint;
+mod refused;
+mod watched;
 
 use args::CommandLine;
 use bf_checkout::{DirFolder, Folder, FolderTester, TreesRefusal, Workshop};
@@ -15,6 +17,7 @@ use bf_import::Content;
 use bf_io::{DirShelf, Shelf, Sink, Source, StdSink, StdSource, Word};
 use bf_journal::{Disk, DiskFile, Recall};
 use bf_program::{Status, StreamKind, say};
+use bf_search::Outcome;
 use bf_tester::{ProcessTester, Tester};
 use help::{HELP, VERSION};
 use std::alloc::{AllocError, Global};
@@ -24,7 +27,8 @@ use std::process::{ExitCode, Processes, SystemProcess};
 use std::rt::Env;
 use std::sync::{Arc, Wait};
 use std::thread::Threads;
-use std::time::Clock;
+use std::time::{Clock, SystemTime, UNIX_EPOCH};
+use watched::Watched;
 
 /// The file that `journal` keeps outcomes in.
 const JOURNAL: &str = "bisect.journal";
@@ -85,20 +89,58 @@ fn tester_of<R: Env + Alloc<A = Global>>(rt: &R) -> ProcessTester
     }
 }
 
+/// The number of the first folder that commits are tested in: the microseconds of the clock, which a later run in the
+/// same place finds later by more than a run draws.
+fn first_folder<R: Clock>(rt: &R) -> u64 {
+    let Ok(now) = SystemTime::now(rt) else {
+        return 0;
+    };
+    match now.duration_since(UNIX_EPOCH) {
+        Ok(time) => u64::try_from(time.as_micros()).unwrap_or(0),
+        Err(_) => 0,
+    }
+}
+
 /// No commit and no file.
 fn nothing(alloc: Global) -> Result<Arc<Content>, AllocError> {
     Ok(Arc::new(alloc, Content::empty(alloc)?)?)
 }
 
-/// What may tell why a test was not made: both testers, and the folders.
+/// What may tell why a test was not made: both testers, and the folders; and whether the stream had no `done`, and no
+/// test was bad.
 #[derive(Drop)]
 struct Makers<'a> {
     tester: &'a ProcessTester,
     shop: &'a ProcessTester,
     trees: Option<TreesRefusal>,
+    is_open: bool,
 }
 
-/// Says on the standard error what a word that is at fault should be, or why a test was not made.
+/// Whether a tester found some commit bad.
+fn has_bad<T: Tester>(tester: &T) -> bool {
+    for index in 0..usize::MAX {
+        match tester.answer(index) {
+            Some(answer) if matches!(answer.outcome, Outcome::Exit(1..=124)) => return true,
+            Some(_) => {}
+            None => break,
+        }
+    }
+    false
+}
+
+/// Whether the line has commits tested.
+fn has_tests(words: &[Word]) -> bool {
+    match words {
+        [first, second, ..] if first.as_slice() == b"certify".as_slice() => {
+            second.as_slice() == b"run".as_slice()
+        }
+        [first, ..] => matches!(first.as_slice(), b"run" | b"checkout" | b"journal"),
+        [] => false,
+    }
+}
+
+/// Says on the standard error what a word that is at fault should be, why a test was not made, or that commits may be
+/// missing.
 fn tell_why<R: Eprint>(rt: &R, line: &CommandLine, status: Status, makers: &Makers<'_>) {
     match (status, line.no_text) {
         (Status::Usage { .. }, Some(argument)) => hint::tell_no_text(rt, argument),
@@ -115,6 +157,9 @@ fn tell_why<R: Eprint>(rt: &R, line: &CommandLine, status: Status, makers: &Make
             hint::tell_refusal(rt, makers.shop);
             hint::tell_trees(rt, makers.trees);
         }
+        (Status::Done, _) if makers.is_open && has_tests(line.words.as_slice()) => {
+            hint::tell_open(rt)
+        }
         _ => {}
     }
 }
@@ -128,12 +173,12 @@ fn main(rt: HostRuntime) -> ExitCode {
                 say(&mut out, VERSION, Status::Done)
             }
             words => match (
-                DirFolder::new(rt),
+                DirFolder::new(rt, first_folder(&rt)),
                 nothing(rt.alloc()),
                 JOURNAL.to_string(rt.alloc()),
             ) {
                 (Ok(folder), Ok(content), Ok(journal)) => {
-                    let mut stream = StdSource::new(rt.reader());
+                    let mut stream = Watched::new(StdSource::new(rt.reader()));
                     let mut shelf = DirShelf::new(rt, rt.alloc());
                     let mut tester = Recall::new(rt.alloc(), tester_of(&rt));
                     let mut shop = Workshop::new(tester_of(&rt), folder, content);
@@ -152,8 +197,13 @@ fn main(rt: HostRuntime) -> ExitCode {
                         tester: tester.inner(),
                         shop: shop.tester(),
                         trees: shop.folder().refusal(),
+                        is_open: stream.has_ended() && !has_bad(&tester) && !has_bad(&shop),
                     };
                     tell_why(&rt, &line, status, &makers);
+                    if let Status::CertRefused { line: number } = status {
+                        refused::tell(&rt, &mut shelf, words, number);
+                    }
+                    hint::tell_remains(&rt, shop.folder().remove_remains());
                     status
                 }
                 _ => Status::NoMemory,

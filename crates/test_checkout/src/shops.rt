@@ -155,3 +155,15 @@ fn a_command_gets_its_folder_and_its_commit(rt: HostRuntime) -> Result<(), Fail>
     assert!(rt; shop.answer(0).is_some());
     Ok(())
 }
+
+#[test]
+fn a_renewed_folder_in_memory_has_no_files(rt: HostRuntime) -> Result<(), Fail> {
+    let alloc = rt.alloc();
+    let mut folder = MemFolder::new(alloc, Vec::new(alloc));
+    let path = read_path(alloc, b"a")?;
+    folder.put(&path, b"x")?;
+    assert!(rt; folder.has(&path));
+    folder.renew();
+    assert!(rt; !folder.has(&path));
+    Ok(())
+}

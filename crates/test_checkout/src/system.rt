@@ -196,17 +196,66 @@ where
     R: SystemFiles + Send + Abort,
 {
     assert!(rt; stands(rt, &mut first, b"kept", b"x")?);
-    let mut second = DirFolder::new(rt.clone()?)?;
+    let mut second = DirFolder::new(rt.clone()?, 7)?;
     let mut split = second.split()?;
     assert_eq!(rt; second.empty(), Err(FolderFault::Failed));
     assert_eq!(rt; split.empty(), Err(FolderFault::Failed));
     assert_eq!(rt; second.refusal(), Some(TreesRefusal::InUse));
     assert!(rt; fs::exists(rt, "bisect-trees/0/kept")?);
-    assert!(rt; !fs::exists(rt, "bisect-trees/1")?);
+    assert!(rt; !fs::exists(rt, "bisect-trees/7")?);
     drop(first);
-    let mut third = DirFolder::new(rt.clone()?)?;
+    let mut third = DirFolder::new(rt.clone()?, 8)?;
     third.empty()?;
     assert_eq!(rt; third.refusal(), None);
+    assert!(rt; fs::exists(rt, "bisect-trees/8")?);
+    assert!(rt; !fs::exists(rt, "bisect-trees/0")?);
+    Ok(())
+}
+
+/// A folder that is renewed has another name, and what it left is removed; what is put there again is removed in the end.
+fn goes_on_elsewhere<R>(rt: &R) -> Result<(), Fail>
+where
+    R: SystemFiles + Send + Abort,
+{
+    let mut folder = DirFolder::new(rt.clone()?, 20)?;
+    let other = folder.split()?;
+    folder.empty()?;
+    fs::write(rt, "bisect-trees/20/late", b"x".as_slice())?;
+    folder.renew();
+    assert!(rt; fs::exists(rt, "bisect-trees/20/late")?);
+    folder.empty()?;
+    assert!(rt; !fs::exists(rt, "bisect-trees/20")?);
+    let mut name = Bytes::new(rt.alloc());
+    other.name(&mut name)?;
+    assert_eq!(rt; name.as_slice(), b"bisect-trees/21".as_slice());
+    name.clear();
+    folder.name(&mut name)?;
+    assert_eq!(rt; name.as_slice(), b"bisect-trees/22".as_slice());
+    assert!(rt; fs::exists(rt, "bisect-trees/22")?);
+    fs::create_dir_all(rt, "bisect-trees/20/again")?;
+    assert!(rt; folder.remove_remains()?.is_empty());
+    assert!(rt; !fs::exists(rt, "bisect-trees/20")?);
+    assert!(rt; !fs::exists(rt, "bisect-trees/20.old")?);
+    assert!(rt; fs::exists(rt, "bisect-trees/22")?);
+    Ok(())
+}
+
+/// A folder is made where nothing has its name, and what earlier runs left is removed before.
+fn takes_no_folder_of_others<R>(rt: &R) -> Result<(), Fail>
+where
+    R: SystemFiles + Send + Abort,
+{
+    fs::create_dir_all(rt, "bisect-trees/30/left")?;
+    fs::create_dir_all(rt, "bisect-trees/31.old/0")?;
+    fs::write(rt, "bisect-trees/notes", b"mine".as_slice())?;
+    let mut folder = DirFolder::new(rt.clone()?, 30)?;
+    folder.empty()?;
+    assert!(rt; !fs::exists(rt, "bisect-trees/30/left")?);
+    assert!(rt; !fs::exists(rt, "bisect-trees/31.old")?);
+    assert!(rt; fs::exists(rt, "bisect-trees/notes")?);
+    fs::create_dir(rt, "bisect-trees/31")?;
+    folder.renew();
+    assert_eq!(rt; folder.empty(), Err(FolderFault::Failed));
     Ok(())
 }
 
@@ -218,16 +267,18 @@ where
     fs::remove_dir_all(rt, "bisect-trees")?;
     fs::create_dir_all(rt, "bisect-trees/0")?;
     fs::write(rt, "bisect-trees/0/mine", b"x".as_slice())?;
-    let mut folder = DirFolder::new(rt.clone()?)?;
+    let mut folder = DirFolder::new(rt.clone()?, 0)?;
     assert_eq!(rt; folder.empty(), Err(FolderFault::Failed));
     assert_eq!(rt; folder.refusal(), Some(TreesRefusal::NotOurs));
+    folder.renew();
+    assert!(rt; folder.remove_remains()?.is_empty());
     assert!(rt; fs::exists(rt, "bisect-trees/0/mine")?);
     Ok(())
 }
 
 #[test]
 fn a_folder_of_the_system_holds_its_files(rt: HostRuntime) -> Result<(), Fail> {
-    let mut folder = DirFolder::new(rt)?;
+    let mut folder = DirFolder::new(rt, 0)?;
     has_odd_names(&rt, &mut folder)?;
     has_many_files(&rt, &mut folder)?;
     turns_a_file_into_a_folder(&rt, &mut folder)?;
@@ -236,6 +287,8 @@ fn a_folder_of_the_system_holds_its_files(rt: HostRuntime) -> Result<(), Fail> {
     fails_where_the_system_does(&rt, &mut folder)?;
     empties_what_is_deep(&rt, &mut folder)?;
     is_held_by_one_run(&rt, folder)?;
+    goes_on_elsewhere(&rt)?;
+    takes_no_folder_of_others(&rt)?;
     leaves_what_is_not_ours(&rt)?;
     fs::remove_dir_all(&rt, "bisect-trees")?;
     Ok(())
@@ -251,7 +304,7 @@ fn name_of(alloc: Global, folder: &impl Folder) -> Result<Bytes, AllocError> {
 #[test]
 fn each_split_has_a_folder_of_its_own(rt: HostRuntime) -> Result<(), Fail> {
     let alloc = rt.alloc();
-    let folder = DirFolder::new(rt)?;
+    let folder = DirFolder::new(rt, 0)?;
     let first = folder.split()?;
     let second = first.split()?;
     assert_eq!(rt;

@@ -5,13 +5,13 @@ use crate::streams::FORK;
 use bf_output::Status;
 use std::test::Fail;
 
-const FIRST: &[u8] = b"farmdawn-answer 1\n";
+pub(crate) const FIRST: &[u8] = b"farmdawn-answer 1\n";
 
-const WORD: &[u8] = b"word make\n";
+pub(crate) const WORD: &[u8] = b"word make\n";
 
-const CALLED_BAD: &[u8] = b"called-bad f570778fec974dd2b05ee862e235ff38a61118d3 1\n";
+pub(crate) const CALLED_BAD: &[u8] = b"called-bad f570778fec974dd2b05ee862e235ff38a61118d3 1\n";
 
-const CALLED_GOOD: &[u8] = b"called-good cf280beb8e59855da6095186b2544590849cd8dd\n";
+pub(crate) const CALLED_GOOD: &[u8] = b"called-good cf280beb8e59855da6095186b2544590849cd8dd\n";
 
 /// The lines of answers that hold over the fork, and what is told of them. The sums are those of `sha256sum`.
 const HELD: [(&[&[u8]], &[u8]); 4] = [
@@ -33,7 +33,7 @@ const HELD: [(&[&[u8]], &[u8]); 4] = [
     (
         &[
             FIRST,
-            b"sum dc73a25712d6a659a1b1c7b6c0b2448abd864edcb529bd51cf7a1c7653c6b1b3\n",
+            b"sum 1839693e13aa8c4699fe0d9378d7f22b196f7b9c5cc2b952bc1e5513a8b50601\n",
             WORD,
             b"word \\377\n",
             b"folder deep/\n",
@@ -44,11 +44,15 @@ const HELD: [(&[&[u8]], &[u8]); 4] = [
             b"repeat 3\n",
             b"made 2026-11-30T10:00:00Z\n",
             b"machine Linux\n",
+            b"option --missing\n",
+            b"option 5=good\n",
+            b"option \n",
             CALLED_BAD,
             CALLED_GOOD,
             b"outcome 56b29d9c130e2ec4b506a48d4fe5a18d92d8d1e3 125\n",
             b"against 56b29d9c130e2ec4b506a48d4fe5a18d92d8d1e3 2\n",
             b"confirmed f570778fec974dd2b05ee862e235ff38a61118d3 bad 3 of 4\n",
+            b"confirmed 56b29d9c130e2ec4b506a48d4fe5a18d92d8d1e3 good 4 of 4\n",
             VERSION,
             BAD,
             GOOD,

@@ -15,6 +15,8 @@ mod devices;
 #[cfg(test)]
 mod folders;
 #[cfg(test)]
+mod heads;
+#[cfg(test)]
 mod kept;
 #[cfg(test)]
 mod large;

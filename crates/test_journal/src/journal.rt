@@ -11,12 +11,12 @@ use std::alloc::Global;
 use std::fs;
 use std::test::Fail;
 
-const IDENTITY: &[u8] = b"452487cc0bdc4317e3da84924474d334d843150e";
+pub(crate) const IDENTITY: &[u8] = b"452487cc0bdc4317e3da84924474d334d843150e";
 
-const OTHER: &[u8] = b"a0715986de2da2a026a54b7c7900ad8a0bd3c790";
+pub(crate) const OTHER: &[u8] = b"a0715986de2da2a026a54b7c7900ad8a0bd3c790";
 
 // The journal of eight commits after the places 3, 4 and 5 were tested.
-const WHOLE: [u8; 56] = [
+pub(crate) const WHOLE: [u8; 56] = [
     1, 0, 0, 0, 0x45, 0x24, 0x87, 0xcc, 0x0b, 0xdc, 0x43, 0x17, 0xe3, 0xda, 0x84, 0x92, 0x44, 0x74,
     0xd3, 0x34, 0xd8, 0x43, 0x15, 0x0e, 0, 0, 0, 0, 0, 0, 0, 0, 0, 0, 0, 0, 1, 0, 0, 0, 1, 0, 1, 0,
     1, 0, 1, 0, 0, 0, 0, 0, 0, 0, 0, 0,
@@ -34,11 +34,11 @@ const COMMITS: [&[u8]; 8] = [
     b"38d7eeaa2c641133c0a59de3e3515352366303d6",
 ];
 
-fn named(text: &[u8]) -> Result<Oid, Fail> {
+pub(crate) fn named(text: &[u8]) -> Result<Oid, Fail> {
     Ok(oid_from_hex(text).ok_or("no name")?)
 }
 
-fn disk_of(alloc: Global, bytes: &[u8], stop: Option<u64>) -> Result<MemDisk, Fail> {
+pub(crate) fn disk_of(alloc: Global, bytes: &[u8], stop: Option<u64>) -> Result<MemDisk, Fail> {
     Ok(MemDisk::new(Bytes::from_slice(alloc, bytes)?, Vec::new(alloc), stop))
 }
 
@@ -63,7 +63,11 @@ fn keep<D: Disk>(
 }
 
 // A run over eight commits that keeps the outcomes of the places 3, 5 and 4.
-fn run<D: Disk>(alloc: Global, disk: &mut D, identity: Oid) -> Result<Journal, JournalFault>
+pub(crate) fn run<D: Disk>(
+    alloc: Global,
+    disk: &mut D,
+    identity: Oid,
+) -> Result<Journal, JournalFault>
     ensures { IfOk result (λ journal. length journal.kept ≡ 8) }
 {
     let mut journal = Journal::open(alloc, disk, identity, 8)?;
@@ -99,29 +103,6 @@ fn a_run_is_taken_up_after_a_crash_at_each_call(rt: HostRuntime) -> Result<(), F
             assert_eq!(rt; later.bytes(), WHOLE.as_slice(), "after {stop} calls");
         }
     }
-    Ok(())
-}
-
-#[test]
-fn the_journal_of_another_run_is_left(rt: HostRuntime) -> Result<(), Fail> {
-    let alloc = rt.alloc();
-    let mut disk = disk_of(alloc, &WHOLE, None)?;
-    match Journal::open(alloc, &mut disk, named(OTHER)?, 8) {
-        Err(JournalFault::Mismatch { kept }) => assert_eq!(rt; kept, named(IDENTITY)?),
-        _ => assert!(rt; false),
-    }
-    assert_eq!(rt; disk.bytes(), WHOLE.as_slice());
-    Ok(())
-}
-
-#[test]
-fn a_spoiled_slot_makes_the_journal_anew(rt: HostRuntime) -> Result<(), Fail> {
-    let alloc = rt.alloc();
-    let mut bytes = WHOLE;
-    bytes[37] = 2;
-    let mut disk = disk_of(alloc, &bytes, None)?;
-    let journal = Journal::open(alloc, &mut disk, named(IDENTITY)?, 8)?;
-    assert_eq!(rt; journal.kept(5), None);
     Ok(())
 }
 

@@ -34,6 +34,8 @@ impl Answers<u64> for Late {
 
     ghost is_ready = { λ _. Unit {0} };
 
+    ghost faults = { λ _. 0 };
+
     fn answer(
         &mut self,
         replies: &mut u64,

@@ -10,4 +10,5 @@ invariant-requests g l = record {
   ready : g.A.Answers.is_ready l.answers;
   read : g.S.Source.faults l.fn.source ≤ g.S.Source.faults l.source;
   wrote : g.K.Sink.faults l.fn.sink ≤ g.K.Sink.faults l.sink;
+  beside : g.A.Answers.faults l.fn.beside ≤ g.A.Answers.faults l.beside;
 }

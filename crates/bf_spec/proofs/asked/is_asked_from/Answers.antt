@@ -101,10 +101,10 @@ pub is_sure-requires-clause-skips : goal.is_sure-requires-clause-skips
 is_sure-requires-clause-skips c = skips_within c.args.reach.now c.loop-asked.nodes.items c.loop-asked.index c.index-then-is_edge.result.now
     c.loop-asked.invariant.nodes c.loop-asked.invariant.within c.index-then-is_edge.ensures
 
-pub returns-then-is_sure-clause-asked : goal.returns-then-is_sure-clause-asked
-returns-then-is_sure-clause-asked c = λ d. (
+pub returns-then-branch-clause-asked : goal.returns-then-branch-clause-asked
+returns-then-branch-clause-asked c = λ d. (
   λ yes. c.loop-asked.invariant.from d (walk_sure c.args.reach.now c.args.table.now c.args.place c.loop-asked.nodes.items c.loop-asked.index
       c.index-then-is_edge.result.now c.loop-asked.invariant.nodes c.loop-asked.invariant.within c.index-then-is_edge.ensures c.requires.place
-      (c.is_sure.ensures c.if-is_sure.true) d),
+      (c.in_ok-is_sure-in-Guesses.ensures c.if-branch.true) d),
   λ asked. refl,
 )

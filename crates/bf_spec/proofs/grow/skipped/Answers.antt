@@ -1,4 +1,4 @@
-use Rattle.std.proofs.Common.{ℕ, List, Some, sym, ap, ◌∙◌, subst}
+use Rattle.std.proofs.Common.{ℕ, List, length, Some, sym, ap, ◌∙◌, subst}
 use Rattle.std.specs.Arc.{arc_value}
 use Rattle.bf_choice.specs.Ranking.{IsPassed}
 use Rattle.bf_search.specs.declared.outcomes.Mark.TheVariants.{Skip}
@@ -38,6 +38,13 @@ advance_ranked-requires-clause-passed c =
     subst (λ (qs : List ℕ). IsPassed c.mark.new.self.search.skips qs passed) (sym c.deref-2.ensures)
     (subst (λ (v : Session). IsPassed v.search.skips ps passed) (sym marked) (passed_skipped base.search c.args.place ps passed c.in_ok-before.ensures.passed))
 
+pub next-requires-clause-asks : goal.next-requires-clause-asks
+next-requires-clause-asks c = (
+  c.args.reach.now,
+  asked_as c.args.reach.now c.args.parent.now.state c.in_ok-state.state c.mark.new.self c.advance_ranked.new.self Skip c.args.place c.in_ok-state.ensures
+      c.in_ok-mark.ensures.ok c.in_ok-ranked.ensures.state,
+)
+
 pub returns : goal.returns
 returns c =
     let graph = c.args.reach.now in
@@ -49,6 +56,7 @@ returns c =
     let marked = marked_as base c.in_ok-state.state c.mark.new.self Skip place c.in_ok-state.ensures c.in_ok-mark.ensures.ok in
     let asked = asked_as graph base c.in_ok-state.state c.mark.new.self c.advance_ranked.new.self Skip place c.in_ok-state.ensures c.in_ok-mark.ensures.ok
     c.in_ok-ranked.ensures.state in
+    let kept = c.in_ok-kept.ensures ∙ asked in
     let here : IsPassed c.mark.new.self.search.skips ps passed = subst (λ (qs : List ℕ). IsPassed c.mark.new.self.search.skips qs passed) c.deref-2.ensures
     c.in_ok-ranked.ensures.passed in
     let order : Order = record { ranking = c.in_ok-before.before.ranking; passed = passed } in
@@ -60,7 +68,8 @@ returns c =
         passed = passed_asked graph after ps passed (subst (λ (v : Session). IsPassed v.search.skips ps passed) marked here);
       };
     } in
-    child_is graph c.args.parent.now _ Skip place c.in_ok-path.ensures c.requires.asks asked
+    child_is graph c.args.parent.now _ Skip place c.in_ok-path.ensures c.requires.asks kept
     (c.in_ok-ranked.ensures.step ∙ ap (λ (v : Session). (ask graph v.search).step) marked)
-    (subst (λ (v : Session). IsSight graph v.search sight) (sym asked) seen)
-    (subst (λ (n : ℕ). IsSearchBelow n c.advance_ranked.new.self.search) (ap (λ (v : Session). v.len) asked ∙ sym c.requires.len) c.len.ensures.below)
+    (subst (λ (v : Session). IsSight graph v.search sight) (sym kept) seen)
+    (subst (λ (v : Session). IsSearchBelow (length graph) v.search) (sym c.in_ok-kept.ensures)
+    (subst (λ (n : ℕ). IsSearchBelow n c.advance_ranked.new.self.search) (ap (λ (v : Session). v.len) asked ∙ sym c.requires.len) c.len.ensures.below))

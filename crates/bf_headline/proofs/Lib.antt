@@ -1,0 +1,10 @@
+pub mod Reaching
+pub mod Choosing
+pub mod Asks
+pub mod Runs
+pub mod Fronts
+pub mod Replaying
+pub mod Beginning
+pub mod Telling
+pub mod Output
+pub mod Worked
