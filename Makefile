@@ -5,7 +5,8 @@
 # make uninstall PREFIX=FOLDER: removes what was installed
 # make dist: packs the program that make install or make test built, PROGRAM, into DIST, for machines without the kit
 # make deb: the same as a package of Debian; packaging/Containerfile makes an image of that
-# make test: the merge gate (docs/GATE.md): every proof, must-fail edit, test and program of this checkout, and make check
+# make wheel: the same for pip and pipx
+# make test: the merge gate (docs/CHANGING.md): every proof, must-fail edit, test and program of this checkout, and make check
 # make check: the tests of git farmdawn, of the scripts and of the pages
 # make check-model: those of git farmdawn, over a model of what it asks the program (docs/DRIVER.md)
 # make bench: what the programs cost, at small sizes (benches/bench.py has the others)
@@ -16,12 +17,12 @@ DIST ?= dist
 # the Python that compiles the modules of git farmdawn where they are installed; without it each start takes a tenth of a second more
 PYTHON ?= /usr/bin/python3
 
-SCRIPTS = farmdawn-worktree farmdawn-srun farmdawn-ssh
+SCRIPTS = farmdawn-srun farmdawn-ssh
 # the pages for those who use it; links to others are taken out of them where they are packed
-USERS = USING SEVERAL TRUST CI CONTAINERS PROGRAM SERVE HISTORIES PROVED MEASURED
+USERS = USING SEVERAL TRUST CI CONTAINERS SERVE PROVED MEASURED
 PAGES = farmdawn git-farmdawn $(SCRIPTS)
 # what earlier versions installed beside these
-OLD_PARTS = farmdawn-part farmdawn-history farmdawn-progress farmdawn-needed farmdawn-certificate farmdawn-report
+OLD_PARTS = farmdawn-worktree farmdawn-part farmdawn-history farmdawn-progress farmdawn-needed farmdawn-certificate farmdawn-report
 LIB = $(DESTDIR)$(PREFIX)/lib/farmdawn
 BIN = $(DESTDIR)$(PREFIX)/bin
 MAN = $(DESTDIR)$(PREFIX)/share/man/man1
@@ -30,21 +31,25 @@ ZSH_COMPLETIONS = $(DESTDIR)$(PREFIX)/share/zsh/site-functions
 FISH_COMPLETIONS = $(DESTDIR)$(PREFIX)/share/fish/vendor_completions.d
 FISH_BEGIN = $(DESTDIR)$(PREFIX)/share/fish/vendor_conf.d/git-farmdawn.fish
 
-.PHONY: demo install install-scripts install-pages uninstall dist deb test check check-model bench
+.PHONY: demo install needs-kit install-scripts install-pages uninstall dist deb wheel test check check-model bench
 demo:
 	cd crates/farmdawn && rt try --data test.sh=../../demo/test.sh --data broken=../../demo/broken -- \
 		run --workers 4 main v1.0 -- sh test.sh < ../../demo/stream
 
-install: install-scripts
+install: needs-kit install-scripts
 	cd crates/farmdawn && rt run -- --version
 	install -D -m 755 crates/farmdawn/out/farmdawn "$(BIN)/farmdawn"
+
+# said before anything is installed
+needs-kit:
+	@command -v rt >/dev/null || { echo 'rt, the kit that builds farmdawn, is not installed; nothing was installed' >&2 && exit 1; }
 
 install-scripts:
 	for script in $(SCRIPTS); do install -D -m 755 tools/$$script "$(BIN)/$$script" || exit 1; done
 	install -D -m 755 driver/bin/git-farmdawn "$(BIN)/git-farmdawn"
 	for name in $(OLD_PARTS); do rm -f "$(BIN)/$$name"; done
 	rm -rf "$(LIB)/git_farmdawn"
-	install -D -m 644 -t "$(LIB)/git_farmdawn" driver/git_farmdawn/*.py
+	for file in $$(cd driver && find git_farmdawn -name '*.py'); do install -D -m 644 driver/$$file "$(LIB)/$$file" || exit 1; done
 	[ -z "$(PYTHON)" ] || ! command -v "$(PYTHON)" >/dev/null || "$(PYTHON)" -I -m compileall -q "$(LIB)/git_farmdawn"
 	for page in $(PAGES); do install -D -m 644 man/$$page.1 "$(MAN)/$$page.1" || exit 1; done
 	for name in farmdawn git-farmdawn; do \
@@ -78,16 +83,19 @@ dist:
 deb:
 	sh packaging/make-deb "$(PROGRAM)" "$(DIST)"
 
+wheel:
+	python3 packaging/make-wheel "$(PROGRAM)" "$(DIST)"
+
 test:
 	bash .ci/run
 
 check:
-	sh tests/check
+	python3 tests/check.py
 
 check-model: export FARMDAWN_PROGRAM = $(abspath $(PROGRAM))
 check-model: export FARMDAWN = $(CURDIR)/driver/model/farmdawn
 check-model:
-	sh tests/check driver.sh git-farmdawn.sh report.sh certificate.sh telling.sh needed.sh cost.sh
+	python3 tests/check.py driver/tests git-farmdawn report certificate telling needed cost
 
 bench:
 	python3 benches/bench.py all --quick

@@ -11,6 +11,8 @@ Usage: benches/bench.py SUBJECT [SIZE ..] [--quick] [--program FILE]
   weights   COMMITS ..                  all weights of three shapes of history, beside git rev-list
                                         --bisect-all
   search    COMMITS ..                  the asks of whole searches, beside git rev-list --bisect; 1,000 skips in a row
+  topics    COMMITS                     whole searches by 1, 8 and 64 workers over a history with a hundred open branches, one commit in
+                                        ten a merge, beside its import, and git rev-list --bisect for the first ask
   workers   COMMITS                     processor time of simulate --workers 1, 2, 8 and 64
   many      COMMITS                     64 searches in one call, by 64 workers beside one
   serve     COMMITS OUTCOMES            requests by few and many workers, so many outcomes that are learned, and waits; the events of
@@ -277,6 +279,30 @@ def search(bench, *sizes):
     bench.write(streams.line, size)
     side = max(size // 2 - 500, 0)
     print(f"line {size} with skips: {searched(bench, 'g' * side + 's' * (size - 2 * side) + 'b' * side, due=2)}")
+
+
+# how many times the import a search may take, by its workers, over a history of many open branches
+TOPICS = {1: 1.5, 8: 2.0, 64: 2.0}
+
+
+def topics(bench, size):
+    """Whether a search costs little beside the import, whatever its workers."""
+    bench.write(streams.topics, size)
+    alone = least(lambda: bench.ask(*NOTHING_TO_ASK, due=(5,)))
+    right, due = True, None
+    for count, most in TOPICS.items():
+        ours = least(lambda count=count: bench.ask("simulate", "--workers", str(count), MAIN, OLD, plan_of(size)))
+        due = due or ours.output
+        times = ours.processor / max(alone.processor, 0.05)
+        is_right = times <= most and ours.output == due
+        print(f"{size} commits with open branches, {count} workers: farmdawn {ours}, {times:.2f} times the import's"
+              f"{'' if is_right else '; NOT AS IT MUST BE'}", flush=True)
+        right &= is_right
+    if HAS_GIT:
+        _, folder = bench.git_import()
+        theirs = measure(["git", "-C", folder, "rev-list", "--bisect", "main", "^old"], limit=300, due=(0, STOPPED))
+        print(f"{size} commits with open branches: git rev-list --bisect {theirs} for the first of them; {ratio(theirs.processor, ours.processor)}")
+    return right
 
 
 def workers(bench, size):
@@ -569,6 +595,7 @@ SUBJECTS = {
     "entries": Subject(entries, (550, 39000000, 40000000, 40000001), (550, 550000), is_list=True),
     "weights": Subject(weights, (20000, 100000), (2000,), "bench", is_list=True),
     "search": Subject(search, (20000, 100000), (3000,), is_list=True),
+    "topics": Subject(topics, (100000,), (5000,)),
     "workers": Subject(workers, (100000,), (5000,)),
     "many": Subject(many, (100000,), (5000,)),
     "serve": Subject(serve, (100000, 50000), (3000, 1000)),

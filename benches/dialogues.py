@@ -14,6 +14,8 @@ LEARNED = 1.0       # seconds for all that are learned
 BESIDE = 1.2        # times the cost of the same events
 LEAST = 0.05        # seconds that the same events take at least, where they are compared
 KEPT = 16           # MiB that requests which change nothing may leave behind
+TWICE = 3           # times the memory that twice as many merge bases may take
+TOLD = 3            # times what a request tells that its memory may be
 WAITS = 10000
 STACK = 256 << 10
 EVENTS = (b"log", b"left", b"answer", b"end", b"needless", b"certificate")
@@ -28,7 +30,7 @@ class Talk:
             self.process.stdin.write(file.read())
         self.send(b"done")
         self.ready = self.process.stdout.readline()
-        self.costs, self.peak = defaultdict(list), 0
+        self.costs, self.peak, self.bytes = defaultdict(list), 0, 0
 
     def __enter__(self):
         return self
@@ -58,6 +60,7 @@ class Talk:
         self.send(line)
         while True:
             reply = self.process.stdout.readline()
+            self.bytes += len(reply)
             if reply.split(b" ")[0] not in EVENTS:
                 break
         kind = line.split(b" ")[0]
@@ -145,6 +148,85 @@ def descending(bench, outcomes, searches):
         talk.ask(b"pick 1024")
     print(f"{searches} searches with fewer and fewer tests under way: {talk.told()}", flush=True)
     return talk.slowest() <= SLOWEST
+
+
+def over_bases(bench, count):
+    """What a commit costs that is asked for behind so many merge bases, where an outcome is known ahead; and the memory."""
+    bench.write(streams.many_bases, count)
+    names = names_of(bench.stream)
+    with Talk(bench.program, bench.stream) as talk:
+        talk.ask(b"search refs/heads/main refs/heads/old")
+        talk.ask(b"learn 1 %b 0" % names[-3])
+        before = peak_of(talk.process.pid)
+        talk.ask(b"wanted %b" % names[-1])
+    print(f"wanted behind {count} merge bases of {len(names)} commits: {talk.told()}; {(talk.peak - before) / 1024:.1f} MiB more", flush=True)
+    return max(talk.costs[b"wanted"]), talk.peak - before
+
+
+def bases(bench, count):
+    """The same behind twice as many; whether they take little more than twice the memory."""
+    (seconds, memory), (longer, more) = over_bases(bench, count), over_bases(bench, 2 * count)
+    print(f"behind twice as many: {longer / seconds:.1f} times the time, {more / max(memory, 1024):.1f} times the memory", flush=True)
+    return more <= TWICE * max(memory, 1024)
+
+
+def picked_past(bench, count):
+    """What a pick costs past so many merge bases, of which the first is under test and the others are known to be good; and the
+    memory."""
+    bench.write(streams.many_bases, count)
+    names = names_of(bench.stream)
+    with Talk(bench.program, bench.stream) as talk:
+        talk.ask(b"search refs/heads/main refs/heads/old")
+        tested = talk.ask(b"pick 1")[2]
+        for name in names[1:count + 1]:
+            if name != tested:
+                talk.ask(b"learn 1 %b 0" % name)
+        before = peak_of(talk.process.pid)
+        talk.costs.clear()
+        talk.ask(b"pick 2")
+    print(f"pick past {count} merge bases that are good: {talk.told()}; {(talk.peak - before) / 1024:.1f} MiB more", flush=True)
+    return sum(map(sum, talk.costs.values())), talk.peak - before
+
+
+def picks_past(bench, count):
+    """The same past twice as many; whether they take little more than twice the memory."""
+    (seconds, memory), (longer, more) = picked_past(bench, count), picked_past(bench, 2 * count)
+    print(f"past twice as many: {longer / seconds:.1f} times the time, {more / max(memory, 1024):.1f} times the memory", flush=True)
+    return more <= TWICE * max(memory, 1024)
+
+
+def ranges(bench, size):
+    """A search whose one line skips the same commits again and again; whether the memory is that of the log that it asks for."""
+    bench.write(streams.line, size)
+    right = True
+    for count in (1, 5, 10):
+        with Talk(bench.program, bench.stream) as talk:
+            before = peak_of(talk.process.pid)
+            talk.ask(b"search" + b" --skip main~%d..main~1" % (size - 2) * count + b" refs/heads/main refs/heads/old")
+        kept, told = (talk.peak - before) / 1024, talk.bytes / (1 << 20)
+        print(f"{count} ranges of {size} skips: {talk.told()}; {told:.1f} MiB are told, {kept:.1f} MiB more, {kept / told:.1f} times", flush=True)
+        right &= kept <= TOLD * told + KEPT
+    return right
+
+
+def skipped(bench, count):
+    """So many tests that all are skips, by few and many workers; how many times the cost of one worker that is."""
+    one = None
+    for workers in (1, 8, 64):
+        choice = random.Random(1)
+        with Talk(bench.program, bench.stream) as talk:
+            talk.ask(b"search refs/heads/main refs/heads/old")
+            for worker in range(1, workers + 1):
+                talk.ask(b"pick %d" % worker)
+            for _ in range(count):
+                worker = choice.randint(1, workers)
+                talk.ask(b"post %d 125" % worker)
+                talk.ask(b"pick %d" % worker)
+        all_of_it = sum(cost for costs in talk.costs.values() for cost in costs)
+        one = one or all_of_it
+        print(f"{count} tests by {workers} workers, all skips: {talk.told()}; {talk.peak / 1024:.1f} MiB; {all_of_it / one:.1f} times one worker's",
+              flush=True)
+    return True
 
 
 def served(bench, requests, **options):
@@ -235,7 +317,7 @@ def costs(bench, size, count):
     names = names_of(bench.stream)
     outcomes = {name: b"1" if place >= size * 2 // 3 else b"0" for place, name in enumerate(names)}
     return all([same_events(bench, size, outcomes), learned(bench, names, count), waiting(bench, WAITS), driven(bench, names),
-                anywhere(bench, names, 1000), descending(bench, outcomes, 8)])
+                anywhere(bench, names, 1000), descending(bench, outcomes, 8), skipped(bench, min(300, size // 10)), bases(bench, size // 30), picks_past(bench, size // 60), ranges(bench, size)])
 
 
 def names_of(stream):

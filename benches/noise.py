@@ -8,7 +8,8 @@ one test at a time that may come next, whatever their outcomes are. Two kinds of
     retry 1      a failure counts behind another one (`--retry 1`)
     repeat 3     good is what was good three times (`--repeat 3`)
     confirm 3    the answer and its parent are tested 3 times more, and what most tests deny is taken back (`--confirm`)
-    by itself    the same where an outcome contradicts the answer, or it stands next to an end (without an option)
+    by itself    the same where an outcome contradicts the answer, or it stands next to an end (without an option); and with several
+                 workers the answer and its parent are tested alone, and what two such tests deny is taken back
     noise        the odds of each commit, until one has 99 of 100 (`--noise P`); a tenth as many searches, as it computes more
 """
 import os
@@ -73,8 +74,21 @@ def search(ask, known, workers):
             known[commit] = ask(commit)
 
 
+def denied_alone(ask, known, answer, looked_at):
+    """Whether two tests alone deny what the answer says of it, or of its parent."""
+    for commit in (answer, answer - 1):
+        if commit in (0, COMMITS) or commit in looked_at:
+            continue
+        looked_at.add(commit)
+        is_bad = commit == answer
+        if ask(commit) != is_bad and ask(commit) != is_bad:
+            known[commit] = not is_bad
+            return True
+    return False
+
+
 def confirmed(tester, workers, always):
-    known, runs = {}, {}
+    known, runs, looked_at = {}, {}, set()
 
     def ask(commit):
         runs.setdefault(commit, []).append(tester.is_bad(commit))
@@ -82,6 +96,8 @@ def confirmed(tester, workers, always):
     doubted = always
     while True:
         answer = search(ask, known, workers)
+        if workers > 1 and denied_alone(ask, known, answer, looked_at):
+            continue
         against = any(bad != (commit >= answer) for commit, bad in known.items())
         doubted = doubted or against or answer in (1, COMMITS)
         if not doubted:
@@ -97,7 +113,7 @@ def confirmed(tester, workers, always):
 
 
 def by_odds(tester, workers):
-    from git_farmdawn.odds import Odds, Noise
+    from git_farmdawn.known.odds import Odds, Noise
     lies = tester.lies
     odds = Odds([[at - 1] if at else [] for at in range(COMMITS + 1)], list(range(1, COMMITS + 1)), Noise(max(lies[0], 0.005), max(lies[1], 0.005)))
     while odds.best()[1] < 0.99 and tester.count < 1000:

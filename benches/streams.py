@@ -51,6 +51,20 @@ def generated(out, count, seed=1, merges=True):
         commit(out, place, parents, ref="refs/heads/main" if place else "refs/heads/old")
 
 
+def many_bases(out, count):
+    """A history whose refs/heads/main and refs/heads/old have so many merge bases: each merges all of them, one by one."""
+    commit(out, 0, ref="refs/heads/old")
+    for place in range(1, count + 1):
+        commit(out, place, [0], ref="refs/heads/old")
+    for ref, bases in (("refs/heads/old", range(1, count + 1)), ("refs/heads/main", range(count, 0, -1))):
+        place = count if ref == "refs/heads/old" else 2 * count - 1
+        last = bases[0]
+        for base in bases[1:]:
+            place += 1
+            commit(out, place, [last, base], ref=ref)
+            last = place
+
+
 def line(out, count):
     """Small commits, each after the one before it."""
     generated(out, count, merges=False)
@@ -134,6 +148,26 @@ def branched(out, count):
         joins = place % 5 == 0 and place >= 5
         parents = [place - 4, place - 1] if joins else before(place)
         commit(out, place, parents, [inline(b"file", b"%02d" % place)], start=1000000000)
+
+
+def topics(out, count):
+    """A history like that of a large project: a hundred branches are open at once, and one commit in ten is a merge. Half of these
+    merge a branch into main, and the branch goes on from there; the others merge two branches. The last commit reaches all. The first
+    one is refs/heads/old."""
+    tips, main = [0] * 100, 0
+    sequence = numbers(1)
+    next(sequence)
+    for place, x in zip(range(count), sequence):
+        branch, other, kind = x // 8 % 100, x // 128 % 100, x // 65536 % 20
+        parents = [tips[branch]] if place else []
+        if place and kind == 0 and main != parents[0]:
+            parents.insert(0, main)
+        elif place and kind == 1 and tips[other] != parents[0]:
+            parents.append(tips[other])
+        if place == count - 1:
+            parents += sorted(set(tips) - set(parents))
+        commit(out, place, parents, ref="refs/heads/main" if place else "refs/heads/old")
+        tips[branch], main = place, place if kind == 0 else main
 
 
 # ---- a project in C

@@ -12,7 +12,7 @@ _farmdawn_options() {
         esac
         ;;
     checkout | journal) [ "$2" = run ] && _farmdawn_options run ;;
-    serve) echo --original-names ;;
+    check | serve) echo --original-names ;;
     esac
 }
 
@@ -36,8 +36,10 @@ _farmdawn() {
         return
     fi
     case ${COMP_WORDS[1]}$COMP_CWORD in
-    check2 | many3)
+    check2 | check3 | many3)
         compopt -o default
+        [ "${COMP_WORDS[1]}$COMP_CWORD" != check2 ] || [ "${word#-}" = "$word" ] ||
+            mapfile -t COMPREPLY < <(compgen -W "$(_farmdawn_options check)" -- "$word")
         return
         ;;
     serve2)
@@ -75,14 +77,14 @@ _git_farmdawn() {
         fi
     done
     case ${cur%%=*}:$cur:$prev in
-    --check:*=* | --retest:*=* | --path:*=* | --copy:*=* | --certificate:*=* | --tests:*=* | --tests-from:*=* | --replay:*=*) ;;
-    *:--check | *:--retest | *:--path | *:--copy | *:--certificate | *:--tests | *:--tests-from | *:--replay) ;; # files, as no word is offered
+    --check:*=* | --retest:*=* | --path:*=* | --copy:*=* | --link:*=* | --with:*=* | --certificate:*=* | --tests:*=* | --tests-from:*=* | --replay:*=*) ;;
+    *:--check | *:--retest | *:--path | *:--copy | *:--link | *:--with | *:--certificate | *:--tests | *:--tests-from | *:--replay) ;; # files, as no word is offered
     *:--report | *:--log-dir | *:--state | *:--pool) mapfile -t COMPREPLY < <(compgen -d -- "$cur") ;;
     *:--workers | *:-j | *:--term-new | *:--term-old | *:--retry | *:--repeat | *:--noise | *:--sure | *:--timeout | *:--deadline | *:--log-limit | *:--build | *:--build-timeout | *:--ended | *:--missing | *:--keep | *:--test)
         compopt +o default +o bashdefault
         ;;
-    *:--skip) __git_complete_refs ;;
-    -*) __gitcomp '--help --version --workers --first-parent --term-new --term-old --skip --path --check-ends --trust-ends --confirm --retry --repeat --noise --sure --timeout --deadline --copy --submodules --build --build-timeout --ended --test --tests --tests-from --missing --together --pool --keep --clean --state --log-dir --log-limit --replay --quiet --report --certificate --check --retest --fresh --prune' ;;
+    *:--skip | *:--apply) __git_complete_refs ;;
+    -*) __gitcomp '--help --version --workers --first-parent --term-new --term-old --skip --path --check-ends --trust-ends --confirm --retry --repeat --measure --noise --sure --timeout --deadline --copy --link --with --apply --submodules --build --build-timeout --ended --test --tests --tests-from --missing --together --private --pool --keep --clean --state --log-dir --log-limit --fixed --replay --quiet --report --open --certificate --check --retest --fresh --prune' ;;
     *) __git_complete_refs ;;
     esac
 }

@@ -22,7 +22,7 @@ complete -c farmdawn -n '__fish_seen_subcommand_from check many' -F
 complete -c farmdawn -n __fish_use_subcommand -l help -d 'show help'
 complete -c farmdawn -n __fish_use_subcommand -l version -d 'show the version'
 
-complete -c farmdawn -n '__fish_seen_subcommand_from serve' -l original-names -d 'name commits by their lines original-oid'
+complete -c farmdawn -n '__fish_seen_subcommand_from check serve' -l original-names -d 'name commits by their lines original-oid'
 
 set -l searches '__fish_seen_subcommand_from simulate run next'
 complete -c farmdawn -n $searches -a '(__farmdawn_revisions)'

@@ -122,11 +122,15 @@ find_python() {
 # What is compiled of the modules is of this machine, and not noted.
 modules=lib/farmdawn/git_farmdawn
 remove_compiled() {
-    for folder in "$prefix/lib" "$prefix/lib/farmdawn" "$prefix/$modules" "$prefix/$modules/__pycache__"; do
+    for folder in "$prefix/lib" "$prefix/lib/farmdawn" "$prefix/$modules"; do
         [ -d "$folder" ] && [ ! -L "$folder" ] || return 0
     done
-    rm -f "$prefix/$modules/__pycache__"/*.pyc
-    rmdir "$prefix/$modules/__pycache__" 2>/dev/null
+    for folder in "$prefix/$modules" "$prefix/$modules"/*/; do
+        folder=${folder%/}
+        [ -d "$folder/__pycache__" ] && [ ! -L "$folder" ] && [ ! -L "$folder/__pycache__" ] || continue
+        rm -f "$folder/__pycache__"/*.pyc
+        rmdir "$folder/__pycache__" 2>/dev/null
+    done
 }
 
 compile_modules() {
@@ -137,8 +141,7 @@ compile_modules() {
 tell_missing() {
     is_here git || say 'git is not here: git farmdawn needs it'
     find_python || say 'a Python from 3.8 on is not here: git farmdawn needs it'
-    for tool in flock git setsid; do is_here "$tool" || say "$tool is not here: farmdawn-worktree needs it"; done
-    is_here timeout || say "timeout is not here: --timeout needs it"
+    for tool in flock setsid; do is_here "$tool" || say "$tool is not here: farmdawn-ssh needs it"; done
     is_here ssh || say "ssh is not here: farmdawn-ssh needs it"
     is_here srun || say "srun is not here: farmdawn-srun needs it"
     setpriv --pdeathsig TERM true 2>/dev/null || say "a setpriv with --pdeathsig is not here: tests of farmdawn run on where it is killed"

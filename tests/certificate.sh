@@ -35,6 +35,8 @@ holds_of_all() {
     sed -n '/^certificate 1$/,$p' ../answer >../certificate
     git fast-export --all --no-data | "$farmdawn" check ../certificate >../by-program
     expect 'for the program, too' [ "$(cat ../by-program)" = "certificate holds for $found" ]
+    git fast-export --all --no-data --show-original-ids | "$farmdawn" check --original-names ../certificate >../by-program
+    expect 'and by original names' [ "$(cat ../by-program)" = "certificate holds for $found" ]
 }
 
 # A change of files in the repository at hand, as a commit of its own.
@@ -144,39 +146,49 @@ test_wrong() {
     good=$(sed -n 's/^outcome \(.*\) 0$/\1/p' ../answer | head -n 1)
     other=$(git rev-parse main~3)
     tree=$(git rev-parse 'main^{tree}')
-    again='' refused 'a changed outcome' 's/^\(outcome .*\) 1$/\1 2/' 'sum in line 2'
-    again='' refused 'another sum' '2s/[0-9a-f]*$/0000000000000000000000000000000000000000000000000000000000000000/' 'sum in line 2'
+    again='' refused 'a changed outcome' 's/^\(outcome .*\) 1$/\1 2/' 'line 2, sum: '
+    again='' refused 'another sum' '2s/[0-9a-f]*$/0000000000000000000000000000000000000000000000000000000000000000/' 'line 2, sum: '
     # driver/tests/test_answer.py leaves out each line
     for line in 1 2 3 '$'; do again='' refused "without line $line" "${line}d" ''; done
-    again='' refused 'a line twice' '/^reach/p' 'sum'
-    again='' refused 'a blank' 's/^end$/end /' 'in no form'
-    again='' refused 'bytes' 's/^word sh$/&\x1b/' 'bytes'
-    again='' refused 'a carriage return' 's/$/\r/' 'bytes'
-    refused 'another kind of file' '1s/1/2/' 'line 1 '
-    refused 'a good outcome that was bad' "s/^outcome $good 0/outcome $good 1/" "no test was good there"
+    again='' refused 'a line twice' '/^reach/p' 'line 2, sum: '
+    again='' refused 'a blank' 's/^end$/end /' 'line 2, sum: '
+    again='' refused 'bytes' 's/^word sh$/&\x1b/' 'line 2, sum: '
+    again='' refused 'a carriage return' 's/$/\r/' 'line 1'
+    refused 'another kind of file' '1s/1/2/' 'line 1'
+    refused 'a good outcome that was bad' "s/^outcome $good 0/outcome $good 1/" ', good: '
     refused 'a bad outcome that was good' 's/^\(outcome .*\) 1$/\1 0/' ''
-    refused 'a status above 125' "s/^outcome $good 0/outcome $good 126/" 'in no form'
-    refused 'two outcomes' "s/^outcome $good 0/&\n&/" 'has two outcomes'
-    refused 'an end that was tested' "0,/^outcome/s/^outcome/outcome $(git rev-parse main) 1\n&/" 'was called bad'
-    refused 'a good commit left out' "/^good $good/d" "good $good. is missing"
-    refused 'a good commit that was not tested' "s/^good $good/&\ngood $other/" 'no test was good there'
-    refused 'an outcome left out' "/^outcome $good/d" 'no test was good there'
-    refused 'a bad outcome not behind it, with zeros before its status' \
-        "0,/^outcome/s/^outcome/outcome $(git rev-parse main~6) 01\n&/" 'does not come behind'
-    refused 'another bad commit' "s/^bad .*/bad $other/" 'no test was bad there'
+    refused 'a status above 125' "s/^outcome $good 0/outcome $good 126/" ', outcome: '
+    refused 'two outcomes' "s/^outcome $good 0/&\n&/" ', outcome: '
+    refused 'an end that was tested' "0,/^outcome/s/^outcome/outcome $(git rev-parse main) 1\n&/" ', outcome: '
+    refused 'a good commit left out' "/^good $good/d" 'line '
+    refused 'a good commit that was not tested' "s/^good $good/&\ngood $other/" ', good: '
+    refused 'an outcome left out' "/^outcome $good/d" ', good: '
+    refused 'a bad outcome not behind it' "0,/^outcome/s/^outcome/outcome $(git rev-parse main~6) 1\n&/" 'does not come behind'
+    refused 'zeros before a status' "0,/^outcome/s/^outcome/outcome $(git rev-parse main~6) 01\n&/" ', outcome: '
+    refused 'a bad end that was good' 's/^\(called-bad [^ ]*\).*/\1 0/' ', called-bad: '
+    refused 'a bad end by no status' 's/^\(called-bad [^ ]*\).*/\1 99999999999/' ', called-bad: '
+    refused 'a good end that was bad' 's/^\(called-good [^ ]*\).*/\1 1/' ', called-good: '
+    refused 'a skip that contradicts it' "0,/^confirmed/s/^confirmed/against $other 125\n&/" ', against: '
+    refused 'words behind a time' 's/^made .*/& x/' ', made: '
+    refused 'words behind a number' 's/^made .*/retry 2 x\n&/' ', retry: '
+    refused 'words behind a term' 's/^made .*/term-new fixed x\n&/' ', term-new: '
+    refused 'an answer that was good again' "s/^confirmed $found bad/confirmed $found good/" ', confirmed: '
+    refused 'another commit that was bad again' "s/^certificate 1/confirmed $other bad 9 of 9\n&/" ', confirmed: '
+    refused 'words behind a count' "s/^confirmed $found .*/& x/" ', confirmed: '
+    refused 'another bad commit' "s/^bad .*/bad $other/" ', bad: '
     refused 'which is called so' "s/^bad .*/bad $other/; s/^called-bad .*/called-bad $other/" ''
     refused 'a step left out' '0,/^reach/{/^reach/d}' 'line '
     refused 'all steps left out' '/^reach/d' 'line '
-    refused 'a step to no parent' "s/^reach [^ ]*/reach $other/" 'line .*reach'
+    refused 'a step to no parent' "s/^reach [^ ]*/reach $other/" ', reach: '
     mkdir -p .git/info && sed -n "s/^reach .* from \(.*\)/\1 $other/p" ../answer >.git/info/grafts
-    refused 'a step to no parent but of .git/info/grafts' "s/^reach [^ ]*/reach $other/" 'line .*reach'
+    refused 'a step to no parent but of .git/info/grafts' "s/^reach [^ ]*/reach $other/" ', reach: '
     rm .git/info/grafts
-    refused 'a step from elsewhere' "s/^\(reach .* from\) .*/\1 $other/" 'line .*reach'
+    refused 'a step from elsewhere' "s/^\(reach .* from\) .*/\1 $other/" ', reach: '
     refused 'no end' '/^end$/d' 'is missing'
-    refused 'lines behind it' "s/^end$/&\ngood $good/" 'not in its place'
-    refused 'no good commit' '/^called-good/d; /^good/d; /^outcome .* 0$/d' 'is missing'
-    refused 'no word' '/^word/d' 'is missing'
-    refused 'a name in capitals' 's/^\(called-good\) .*/\1 AAAAAAAAAAAAAAAAAAAAAAAAAAAAAAAAAAAAAAAA/' 'in no form'
+    refused 'lines behind it' "s/^end$/&\ngood $good/" 'line '
+    refused 'no good commit' '/^called-good/d; /^good/d; /^outcome .* 0$/d' 'line '
+    refused 'no word' '/^word/d' 'line '
+    refused 'a name in capitals' 's/^\(called-good\) .*/\1 AAAAAAAAAAAAAAAAAAAAAAAAAAAAAAAAAAAAAAAA/' ', called-good: '
     refused 'a tree' "s/^called-good .*/&\ncalled-good $tree/; s/^certificate 1/&\n/; s/^good $good/good $tree\n&/" ''
     refused 'the first one found as a good one' "s/^called-good .*/&\ncalled-good $(git rev-parse main~1)/; s/^good $good/good $(git rev-parse main~1)\n&/" 'comes behind'
     sed 's/^word sh/word \\999/' ../answer >wrong && sum_again wrong && git farmdawn --check wrong >out 2>told
@@ -186,14 +198,14 @@ test_wrong() {
     expect 'by its name' grep -q 'wrong does not hold' told
     for bytes in 0 1 400; do
         head -c $bytes /dev/urandom >wrong
-        expect 'any bytes' sh -c '! git farmdawn --check wrong >out 2>told'
+        row expect 'any bytes' sh -c '! git farmdawn --check wrong >out 2>told'
     done
     head -c 17000000 /dev/zero >wrong && git farmdawn --check wrong >out 2>told
     expect 'a large file' [ $? -eq 9 ]
     for words in '' 'wrong two' nowhere .; do
         # shellcheck disable=SC2086
         git farmdawn --check $words >out 2>told
-        expect "a fault: $words" sh -c '[ "$1" -eq 1 ] || [ "$1" -eq 16 ]' sh $?
+        row expect "a fault: $words" sh -c '[ "$1" -eq 1 ] || [ "$1" -eq 16 ]' sh $?
     done
     nothing_left
 }
@@ -205,12 +217,13 @@ test_files() {
     mkdir ../folder && mkfifo ../pipe || exit 1
     for file in ../folder ../pipe ../nowhere/answer /dev/null /dev/full; do
         git farmdawn --certificate "$file" main main~11 -- touch ../tested >../log 2>../told
-        expect "no file: $file" [ $? -eq 14 ]
-        expect 'which is told in a line' [ "$(wc -l <../told)" -eq 1 ]
+        row expect "no file: $file" [ $? -eq 14 ]
+        row expect 'which is told in a line' [ "$(wc -l <../told)" -eq 1 ]
     done
     expect 'nothing was tested' [ ! -e ../tested ]
     echo before >../answer
-    git farmdawn --certificate ../answer main main~11 -- sh -c 'exit 125' >../log 2>../told
+    # shellcheck disable=SC2016 # the words are those of the inner shell
+    git farmdawn --certificate ../answer main main~11 -- sh -c 'case $(cat content) in 0) exit 0 ;; 11) exit 1 ;; *) exit 125 ;; esac' >../log 2>../told
     expect 'no commit is found' [ $? -eq 2 ]
     expect 'which is told' grep -q 'no first bad commit was found' ../told
     expect 'and the file is left' [ "$(cat ../answer)" = before ]
@@ -223,5 +236,4 @@ test_files() {
 }
 
 long='wrong'
-[ $# -gt 0 ] || set -- line merges terms sha256 shallow wrong files
-run_tests "$@"
+run_test "$@"

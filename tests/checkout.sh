@@ -71,6 +71,107 @@ test_foreign() {
     expect 'an empty folder is taken' [ $? -eq 0 ]
 }
 
+# What a test may leave to a process that runs on, as the test is ended or ends by itself, and that writes into its folder.
+# shellcheck disable=SC2016 # the words are those of the inner shell
+kinds='a child:sh build.sh "$1";
+one that is named in full:sh build.sh "$PWD/$1";
+in a session of its own:setsid -w sh build.sh "$1";
+where TERM is ignored:trap "" TERM; sh build.sh "$1";
+behind the end of the test:sh build.sh "$1"; (sleep 0.1; echo 99 >"$1/n"; echo 99 >"$1/e.o") &'
+
+# A stream of 64 commits whose file has their number, and a build as make does it: what is there is not built again.
+builds() {
+    awk 'BEGIN { for (i = 1; i <= 64; i++) printf "commit refs/heads/m\nmark :%d\ncommitter T <t@e> %d +0000\ndata 3\nc%02d\nM 100644 inline n\ndata 3\n%02d\n\n", i, i, i, i }' >stream
+    # shellcheck disable=SC2016 # the words are those of the inner shell
+    echo 'n=$(cat "$1/n"); for f in a b c d e; do sleep "0.0$((1 + $$ % 9))"; [ -e "$1/$f.o" ] || echo "$n" >"$1/$f.o"; done' >build.sh
+}
+
+# No test finds in its folder what another one has left running.
+needs_running_on() { has_program && has setsid; }
+test_running_on() {
+    builds
+    echo "$kinds" | while IFS=: read -r name build; do
+        for workers in 1 4 16; do
+            # shellcheck disable=SC2016 # the words are those of the inner shell
+            FARMDAWN_QUIET=1 "$farmdawn" checkout run --workers $workers m m~63 -- sh -c "$build"' [ "$(cat "$1/e.o")" -le 40 ]' sh <stream >log 2>told
+            row expect "a run ends well ($name, $workers workers)" [ $? -eq 0 ]
+            row expect "its answer ($name, $workers workers): $(tail -n 1 log)" grep -q '^# first bad commit: .* c41$' log
+        done || exit 1
+    done || exit 1
+}
+
+# The tests of a run that was killed run on, and the next run does not meet them, also where all folders were removed.
+needs_killed_writes() { has_program; }
+test_killed_writes() {
+    builds
+    # shellcheck disable=SC2016 # the words are those of the inner shell
+    build='n=$(cat "$1/n"); : >>begun; for f in a b c d e; do sleep 0.2; [ -e "$1/$f.o" ] || echo "$n" >"$1/$f.o"; done; [ "$(cat "$1/e.o")" -le 40 ]'
+    for between in true true 'rm -rf bisect-trees'; do
+        rm -f begun
+        FARMDAWN_QUIET=1 "$farmdawn" checkout run --workers 2 m m~63 -- sh -c "$build" sh <stream >log1 2>told1 &
+        first=$!
+        wait_until 'the first run tests' [ -e begun ]
+        sleep 0.1
+        kill -KILL $first && wait $first 2>/dev/null
+        $between
+        FARMDAWN_QUIET=1 "$farmdawn" checkout run --workers 2 m m~63 -- sh -c "$build" sh <stream >log2 2>told2
+        expect 'the next run ends well' [ $? -eq 0 ]
+        expect "its answer: $(tail -n 1 log2)" grep -q '^# first bad commit: .* c41$' log2
+    done
+}
+
+# The folders of the last tests stay until the next run; all others are removed.
+needs_folders_stay() { has_program; }
+test_folders_stay() {
+    numbers >stream
+    for _ in 1 2; do
+        FARMDAWN_QUIET=1 "$farmdawn" checkout run --workers 2 m m~15 -- sh -c "$at_most_7" sh <stream >log 2>told
+        expect 'a run ends well' [ $? -eq 0 ]
+        expect "nothing is told: $(cat told)" [ ! -s told ]
+        ls bisect-trees >left
+        expect "no more than two folders, and the lock: $(cat left)" [ "$(grep -c '^[0-9]*$' left)" -le 2 -a "$(grep -cv '^[0-9]*$' left)" -eq 1 ]
+    done
+}
+
+# A folder that a process writes to all the time is left in the end, and told of.
+needs_left() { has_program && has python3; }
+test_left() {
+    numbers >stream
+    cat >writer.py <<'X'
+import os, sys
+number = 0
+while os.path.exists("go"):
+    number += 1
+    try:
+        os.makedirs("%s/x/%d" % (sys.argv[1], number % 50))
+    except OSError:
+        pass
+X
+    : >go
+    # shellcheck disable=SC2016 # the words are those of the inner shell
+    writes='[ "$(cat "$1/n")" -le 7 ]; status=$?; mkdir begun && { python3 writer.py "$1" & while [ ! -e "$1/x" ]; do sleep 0.01; done; }; exit $status'
+    FARMDAWN_QUIET=1 "$farmdawn" checkout run m m~15 -- sh -c "$writes" sh <stream >log 2>told
+    expect 'a run ends well' [ $? -eq 0 ]
+    rm go
+    expect "its answer: $(tail -n 1 log)" grep -q '^# first bad commit: .* c08$' log
+    expect "a folder is told of: $(cat told)" grep -q '^farmdawn: the folder bisect-trees/[0-9]* is left: ' told
+}
+
+# Of many that begin at once each one that is refused says that another one is at work.
+needs_at_once() { has_program; }
+test_at_once() {
+    numbers >stream
+    for _ in 1 2 3 4 5 6 7 8 9 10; do
+        rm -rf bisect-trees
+        for _ in 1 2 3 4 5 6; do
+            FARMDAWN_QUIET=1 "$farmdawn" checkout run m m~2 -- sh -c "sleep 0.1" sh <stream >/dev/null 2>>told &
+        done
+        wait
+    done
+    expect 'some are refused' grep -q 'another run works in it' told
+    expect 'for this reason alone' [ "$(grep 'is not used' told | grep -cv 'another run works in it')" -eq 0 ]
+}
+
 # To empty a folder takes as many calls of the system for each level, however deep it is.
 needs_deep() { has_program && has strace python3 && strace -o /dev/null true; }
 test_deep() {
@@ -87,6 +188,4 @@ for _ in range($1): os.mkdir(\"d\" * 100); os.chdir(\"d\" * 100)"'
     expect 'four times the levels take at most five times the calls' [ "$(cat calls1600)" -le $(($(cat calls400) * 5)) ]
 }
 
-by_clock='together'
-[ $# -gt 0 ] || set -- together killed foreign deep
-run_tests "$@"
+run_test "$@"

@@ -93,24 +93,33 @@ def result_of(folder):
 
 # a test that hangs in the first job once two commits were tested, so that the deadline ends that job; each notes what it has tested
 HANGS = "[ -e ../../../second ] || [ $(wc -l <../../../tested) -lt 2 ] || sleep 600; echo $FARMDAWN_COMMIT >>../../../tested; test $(cat number) -lt 23"
-SEARCHES = [("echo $FARMDAWN_COMMIT >>../../../tested; exit 125", 2), ("true", 1), ("./nothing", 6)]
+SEARCHES = [("n=$(cat number); [ $n -ge 19 ] || exit 0; [ $n -ge 23 ] || exit 125; exit 1", 2), ("true", 1), ("./nothing", 6)]
 
 
 def go_on(job):
     """A search that the deadline stops, and that the next job goes on with; job(NUMBER, TEST, DEADLINE) gives status and workspace."""
     first_bad = make_origin()
     open("tested", "w").close()
-    status, folder, out = job(1, HANGS, "10s")
+    status, folder, out = job(1, HANGS, "30s")
     expect(f"the time is over: {status} {out}", status == 24)
     open("second", "w").close()
     with open("tested", encoding="ascii") as file:
         before = file.read().split()
     status, folder, out = job(2, HANGS, "10m")
     expect(f"the next job finds it: {status} {out}", status == 0)
-    expect("it is the right one", result_of(folder)["answer"]["name"] == first_bad)
+    found = result_of(folder)
+    expect("it is the right one", found["answer"]["name"] == first_bad)
+    looked_at = {first_bad, *(one["commit"] for one in found["last_good"])}  # these are tested alone, too
     with open("tested", encoding="ascii") as file:
         after = file.read().split()
-    expect(f"it went on from {before}: {after}", before and len(set(after)) == len(after))
+    often = {commit: after.count(commit) for commit in after}
+    expect(f"it went on from {before}: {after}", before and all(n <= 1 + (commit in looked_at) for commit, n in often.items()))
+
+
+def bring_nothing(job):
+    """Jobs whose time is over before any test has ended: the first is started again, and the second in a row fails."""
+    statuses = [job(number, "sleep 600", "4s")[0] for number in (20, 21, 22)]
+    expect(f"one that brings nothing is started again, and the next one fails: {statuses}", statuses == [24, 25, 24])
 
 
 # -- GitLab ------------------------------------------------------------------------
@@ -140,6 +149,7 @@ def gitlab_job(job, number, test, deadline, depth=None):
 def gitlab():
     job = yaml_of(blocks("yaml")[0])["bisect"]
     go_on(lambda *words: gitlab_job(job, *words))
+    bring_nothing(lambda *words: gitlab_job(job, *words))
     expect("a job whose time is over is started again", 24 in job["retry"]["exit_codes"])
     expect("JUnit is an artifact", os.path.exists("artifacts/2/" + job["artifacts"]["reports"]["junit"]))
     for number, (test, due) in enumerate(SEARCHES, 3):
@@ -247,6 +257,8 @@ def github():
     with open("sent", encoding="utf-8") as file:
         sent = file.read().split("\n")
     expect(f"the next run has the same words: {sent}", sent[:4] == ["workflow", "run", "bisect.yml", "--ref"] and "good=c1" in sent and "test=" + HANGS in sent)
+    bring_nothing(job)
+    expect("a run that brings nothing fails, where it is not started again", [runs[at].failed for at in (20, 21)] == [False, True])
     with open("summary.2", encoding="utf-8") as file:
         expect("the summary has the answer", "First bad commit" in file.read())
     for number, (test, due) in enumerate(SEARCHES, 3):
@@ -273,6 +285,7 @@ def jenkins():
         status, out = run(script, folder, env, ("sh", "-xec"))
         return status, folder, out
     go_on(job)
+    bring_nothing(job)
     for number, (test, due) in enumerate(SEARCHES, 3):
         status, folder, out = job(number, test, "10m")
         expect(f"{test}: {status} {out}", status == due and result_of(folder)["status"] == due)

@@ -28,6 +28,4 @@ test_jenkins() { run_jobs jenkins; }
 needs_forms() { has shellcheck && has_yaml; }
 test_forms() { run_jobs forms; }
 
-by_clock='gitlab github jenkins' # a deadline of seconds
-[ $# -gt 0 ] || set -- gitlab github jenkins forms
-run_tests "$@"
+run_test "$@"

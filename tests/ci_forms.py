@@ -24,10 +24,10 @@ OF_GITHUB = {"run_id", "run_attempt", "workspace", "token"}
 PARTS = {"": {"pipeline"}, "pipeline": {"agent", "parameters", "options", "environment", "stages", "post"}, "stages": {"stage"}, "stage": {"steps"},
          "steps": {"script"}, "post": {"always"}}
 CALLS = {"string": {"name", "defaultValue", "description", "value"}, "timeout": {"time", "unit"}, "scmGit": {"branches", "userRemoteConfigs", "extensions"},
-         "cloneOption": {"shallow", "noTags"}, "sh": {"returnStatus", "script"}, "build": {"job", "wait", "parameters"},
+         "cloneOption": {"shallow", "noTags"}, "sh": {"returnStatus", "returnStdout", "script"}, "build": {"job", "wait", "parameters"},
          "archiveArtifacts": {"artifacts", "allowEmptyArchive"}, "junit": {"testResults", "allowEmptyResults", "skipMarkingBuildUnstable"},
          "publishHTML": {"reportDir", "reportFiles", "reportName", "keepAll", "alwaysLinkToLastBuild", "allowMissing"}}
-PLAIN = {"disableConcurrentBuilds", "unstable", "error", "stage", "if", "collect"}  # without words that have names
+PLAIN = {"disableConcurrentBuilds", "unstable", "error", "stage", "if", "collect", "trim"}  # without words that have names
 
 
 def not_of(value, form, place):

@@ -45,5 +45,4 @@ test_few_programs() {
     for due in git:2 date:0 sed:0 awk:0 flock:0 mv:0 rm:0 cat:0 ls:0 setpriv:0 setsid:0 env:0; do at_most "$few" "$runs" "${due%:*}" "${due#*:}"; done
 }
 
-[ $# -gt 0 ] || set -- few_programs
-run_tests "$@"
+run_test "$@"

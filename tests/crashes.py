@@ -39,9 +39,9 @@ TEST = 'echo "$1" >>"$0"; sleep 0.01; case $1 in *[0-5]) exit 0 ;; *[6-d]) exit 
 HELD = TEST.replace("sleep 0.01", 'until [ -e "$0.on" ]; do sleep 0.02; done')
 
 
-def stream():
+def stream(commits):
     text = []
-    for number in range(1, COMMITS + 1):
+    for number in range(1, commits + 1):
         text.append(f"commit refs/heads/main\nmark :{number}\ncommitter gen <gen@gen> {number} +0000\ndata 2\nc\n")
         text += [f"from :{number - 1}\n"] if number > 1 else []
         text += [f"merge :{number - 3}\n"] if number % 7 == 0 else []
@@ -56,12 +56,18 @@ class Place:
         self.work = os.path.join(self.top, "work")
         self.tested_file = os.path.join(self.top, "tested")
         self.stream = os.path.join(self.top, "stream")
+        self.journal = os.path.join(self.work, JOURNAL)
         self.workers = workers
         os.mkdir(self.work)
         os.chmod(self.top, 0o777)
         os.chmod(self.work, 0o777)
+        self.give(COMMITS)
+
+    def give(self, commits):
+        """Gives the runs from now on a history of so many commits."""
+        self.commits = commits
         with open(self.stream, "wb") as out:
-            out.write(stream())
+            out.write(stream(commits))
 
     def __enter__(self):
         return self
@@ -70,7 +76,7 @@ class Place:
         shutil.rmtree(self.top, ignore_errors=True)
 
     def words(self, verb=("journal", "run"), test=TEST):
-        return [FARMDAWN, *verb, "--workers", str(self.workers), "main", f"main~{COMMITS - 1}", "--", "sh", "-c", test, self.tested_file]
+        return [FARMDAWN, *verb, "--workers", str(self.workers), "main", f"main~{self.commits - 1}", "--", "sh", "-c", test, self.tested_file]
 
     def start(self, words=None, before=None, work=None):
         return subprocess.Popen(words or self.words(), cwd=work or self.work, env={**os.environ, "FARMDAWN_QUIET": "1"},
@@ -199,7 +205,7 @@ def try_places(whole):
     for name, put in (("a folder", os.mkdir), ("a FIFO", os.mkfifo), ("a link", lambda path: os.symlink("elsewhere", path)),
                       ("a link to itself", lambda path: os.symlink(JOURNAL, path))):
         with Place() as place:
-            put(os.path.join(place.work, JOURNAL))
+            put(place.journal)
             wrong += fault_of(name, place.run(), whole)
             wrong += [f"{name}: the link was followed"] if os.path.exists(os.path.join(place.work, "elsewhere")) else []
             wrong += [f"{name}: a commit was tested"] if place.tested() else []
@@ -208,22 +214,39 @@ def try_places(whole):
         os.mkdir(place.work)
         wrong += fault_of("a folder that is gone", place.run(before=lambda: os.rmdir(place.work)), whole)
     with Place() as place:
-        open(os.path.join(place.work, JOURNAL), "w").close()
-        os.chmod(os.path.join(place.work, JOURNAL), 0o444)
+        open(place.journal, "w").close()
+        os.chmod(place.journal, 0o444)
         program = shutil.copy(FARMDAWN, os.path.join(place.top, "program"))
         wrong += fault_of("a file that may not be written", place.run(before=as_nobody, words=[program, *place.words()[1:]]), whole)
     return wrong
 
 
 def try_other():
-    """The journal of another command stays as it is."""
+    """The journal of another run stays as it is, whatever its length."""
+    wrong = []
+    for name, commits, test in (("another command", COMMITS, TEST + " "), ("fewer commits", COMMITS - 1, TEST), ("more commits", COMMITS + 1, TEST)):
+        with Place() as place:
+            place.run()
+            kept = open(place.journal, "rb").read()
+            place.give(commits)
+            got = place.run(words=place.words(test=test))
+            wrong += [] if got == (21, b"journal of another run\n") else [f"{name}: {got[0]}"]
+            wrong += [] if open(place.journal, "rb").read() == kept else [f"{name}: the journal was changed"]
+    return wrong
+
+
+def try_spoiled(whole):
+    """Where a slot is spoiled, its commit alone is tested again."""
     with Place() as place:
         place.run()
-        path = os.path.join(place.work, JOURNAL)
-        kept = open(path, "rb").read()
-        got = place.run(words=place.words(test=TEST + " "))
-        wrong = [] if got == (21, b"journal of another run\n") else [f"another command: {got[0]}"]
-        return wrong + ([] if open(path, "rb").read() == kept else ["another command: the journal was changed"])
+        before = len(place.tested())
+        slots = open(place.journal, "rb").read()
+        with open(place.journal, "r+b") as out:
+            out.seek(next(at for at in range(24, len(slots), 4) if slots[at]) + 1)
+            out.write(b"\x09")
+        again, tests = place.run(), len(place.tested()) - before
+        wrong = [] if again == whole else [f"a spoiled slot: {again[0]}"]
+        return wrong + ([] if tests == 1 else [f"a spoiled slot: {tests} tests"])
 
 
 def try_two(whole):
@@ -240,7 +263,7 @@ def try_two(whole):
 
 
 def try_faults(whole):
-    wrong = try_full(whole) + try_places(whole) + try_other() + try_two(whole)
+    wrong = try_full(whole) + try_places(whole) + try_other() + try_spoiled(whole) + try_two(whole)
     print(f"faults: {len(wrong)} wrong", flush=True)
     return wrong
 
@@ -251,7 +274,7 @@ def try_faults(whole):
 def calls_of(place):
     """The system calls on the journal of a run, in order."""
     trace = os.path.join(place.top, "trace")
-    place.run(words=["strace", "-f", "-o", trace, "-P", os.path.join(place.work, JOURNAL), *place.words()])
+    place.run(words=["strace", "-f", "-o", trace, "-P", place.journal, *place.words()])
     return re.findall(r"^\d+ +(\w+)\(", open(trace).read(), re.M)
 
 
@@ -263,7 +286,7 @@ def try_calls(whole):
         seen[call] = seen.get(call, 0) + 1
         with Place() as place:
             inject = f"inject={call}:error=EIO:when={seen[call]}"
-            got = place.run(words=["strace", "-f", "-o", "/dev/null", "-P", os.path.join(place.work, JOURNAL), "-e", inject, *place.words()])
+            got = place.run(words=["strace", "-f", "-o", "/dev/null", "-P", place.journal, "-e", inject, *place.words()])
             faults += got[0] == 22
             wrong += [] if got == whole else fault_of(f"{call} {seen[call]}", got, whole)
             wrong += [f"{call} {seen[call]}: {line}" for line in goes_on(place, whole, got[1])]

@@ -1,6 +1,6 @@
 #!/bin/sh
-# Tests of the package of Debian that `make deb` makes, and of the image that packaging/Containerfile makes of it. FARMDAWN_CHROOT names
-# the folder of a Debian that debootstrap made, into which the package is installed as the recipe says, and taken away again.
+# Tests of the package of Debian that `make deb` makes, and of the image that packaging/Containerfile makes of it. Into a small Debian the
+# package is installed as the recipe says, and taken away again: FARMDAWN_CHROOT names its folder, or tests/needs has made one.
 . "$(dirname "$0")/helpers.sh"
 
 export DPKG_DEB_COMPRESSOR_TYPE=gzip # it takes a tenth of the time
@@ -12,7 +12,7 @@ test_package() {
     expect 'a package' pack "$PWD/first one" >told
     # shellcheck disable=SC2030,SC2031
     (umask 077 && export TZ=Asia/Tokyo LC_ALL=C.UTF-8 && cd / && pack "$OLDPWD/second") >/dev/null || exit 1
-    name=farmdawn_$("$farmdawn" --version | cut -d ' ' -f 2)_$(dpkg --print-architecture).deb
+    name=farmdawn_$("$top/packaging/version" "$farmdawn")_$(dpkg --print-architecture).deb
     expect 'of its name, which is told' [ "$(cat told)" = "$PWD/first one/$name" ]
     expect 'of the same bytes' cmp "first one/$name" "second/$name"
     expect 'and its sum is right' sh -c 'cd "$0" && sha256sum -c --quiet ./*.sha256' 'first one'
@@ -22,7 +22,7 @@ test_package() {
 $(tree/usr/bin/git-farmdawn -h)
 END
     depends=$(dpkg-deb -f "second/$name" Depends)
-    for package in git python3 libc6; do expect "what it needs: $depends" sh -c 'case ", $1" in *", $2 ("*) ;; *) exit 1 ;; esac' sh "$depends" "$package"; done
+    for package in git python3 libc6; do row expect "what it needs: $depends" sh -c 'case ", $1" in *", $2 ("*) ;; *) exit 1 ;; esac' sh "$depends" "$package"; done
     pages_are_whole tree/usr/share/doc/farmdawn
 }
 
@@ -30,8 +30,8 @@ END
 pages_are_whole() {
     listed=$(grep -o '`[A-Z]*[.]md`' "$top/packaging/README.md" | tr -d '`')
     expect 'the first page names those that are there' [ "$(echo "$listed" | sort)" = "$(cd "$1" && ls | grep '[.]md$' | grep -v README)" ]
-    for page in USING TRUST SEVERAL CI CONTAINERS PROGRAM; do expect "the page $page" [ -s "$1/$page.md" ]; done
-    for page in CHANGING AUDIT GATE DECISIONS ARCHITECTURE DRIVER; do expect "no page $page" [ ! -e "$1/$page.md" ]; done
+    for page in USING TRUST SEVERAL CI CONTAINERS; do row expect "the page $page" [ -s "$1/$page.md" ]; done
+    for page in CHANGING AUDIT DECISIONS ARCHITECTURE DRIVER; do row expect "no page $page" [ ! -e "$1/$page.md" ]; done
     for page in "$1"/*.md; do
         for link in $(grep -o ']([A-Za-z/-]*[.][a-z]*' "$page" | cut -c3-); do expect "what $page leads to: $link" [ -e "$1/$link" ]; done
     done
@@ -59,21 +59,27 @@ test_lintian() {
     expect "lintian has nothing to say: $(cat told)" [ ! -s told ]
 }
 
-in_chroot() { chroot "$FARMDAWN_CHROOT" env -i PATH=/usr/sbin:/usr/bin:/sbin:/bin HOME=/root LC_ALL=C.UTF-8 DEBIAN_FRONTEND=noninteractive sh -euc "$1"; }
+debian=${FARMDAWN_CHROOT:-$needs/debian}
+in_chroot() { chroot "$debian" env -i PATH=/usr/sbin:/usr/bin:/sbin:/bin HOME=/root LC_ALL=C.UTF-8 DEBIAN_FRONTEND=noninteractive sh -euc "$1"; }
 
 # What stands in the chroot, but for what a search there leaves, and the lists and logs of the system.
-listed() { (cd "$FARMDAWN_CHROOT" && find usr etc -name __pycache__ -prune -o -print | sort); }
+listed() { (cd "$debian" && find usr etc -name __pycache__ -prune -o -print | sort); }
 
 needs_chroot() {
-    missing='FARMDAWN_CHROOT, the folder of a Debian'
-    [ -n "${FARMDAWN_CHROOT-}" ] && [ -d "$FARMDAWN_CHROOT/etc" ] && needs_package && has chroot
+    needs_package && has chroot flock || return 1
+    missing='root, who may enter another Debian'
+    [ "$(id -u)" -eq 0 ] || return 1
+    missing='a small Debian (FARMDAWN_CHROOT, or tests/needs)'
+    [ -d "$debian/etc" ]
 }
 test_chroot() {
+    exec 8>"$debian/.in-use" && flock -x 8 || exit 1 # another run of these tests may be in it
     pack "$PWD/made" >/dev/null || exit 1
-    cp made/*.deb "$FARMDAWN_CHROOT/tmp/"
-    cp "$top/docs/practice.sh" "$FARMDAWN_CHROOT/tmp/"
+    cp made/*.deb "$debian/tmp/"
+    cp "$top/docs/practice.sh" "$debian/tmp/"
     # the recipe of the image, line by line
     sed -n '/^RUN /,$ { s/^RUN //; p }' "$top/packaging/Containerfile" >recipe
+    in_chroot 'dpkg --configure -a' >/dev/null 2>&1 # a run that was ended may have left packages half done
     in_chroot "$(cat recipe)" >installed 2>&1 || expect "it is installed by the recipe: $(tail -n 5 installed)" false
     # shellcheck disable=SC2016 # the words are those of the inner shell
     in_chroot 'rm -rf /tmp/practice && sh /tmp/practice.sh /tmp/practice && cd /tmp/practice &&
@@ -83,7 +89,7 @@ test_chroot() {
         expect "it is taken away: $(tail -n 5 removed)" false
     expect "and nothing of it is left: $(listed | grep -i farmdawn)" sh -c '! grep -qi farmdawn' <<END
 $(listed)
-$(find "$FARMDAWN_CHROOT/usr/lib" "$FARMDAWN_CHROOT/var/lib/dpkg/info" -iname '*farmdawn*')
+$(find "$debian/usr/lib" "$debian/var/lib/dpkg/info" -iname '*farmdawn*')
 END
 }
 
@@ -93,5 +99,4 @@ test_lint() {
     expect 'shellcheck' shellcheck -o all make-deb
 }
 
-[ $# -gt 0 ] || set -- package archive wrong_packages lintian chroot lint
-run_tests "$@"
+run_test "$@"

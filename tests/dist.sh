@@ -32,7 +32,7 @@ test_archive() {
     expect 'a package' pack "$PWD/first one" >told
     # shellcheck disable=SC2030,SC2031
     (umask 077 && export TZ=Asia/Tokyo LC_ALL=C.UTF-8 && cd / && pack "$OLDPWD/second") >/dev/null || exit 1
-    name=farmdawn-$("$farmdawn" --version | cut -d ' ' -f 2)-$(uname -m)-linux
+    name=farmdawn-$("$top/packaging/version" "$farmdawn")-$(uname -m)-linux
     expect 'of its name' [ "$(cd 'first one' && echo ./*)" = "./$name.tar.gz ./$name.tar.gz.sha256" ]
     expect 'which is told' [ "$(cat told)" = "$PWD/first one/$name.tar.gz" ]
     expect 'of the same bytes' cmp "first one/$name.tar.gz" "second/$name.tar.gz"
@@ -47,7 +47,7 @@ rwxr-xr-x 0/0 2023-11-14 22:13' ]
     expect 'nothing is compiled' sh -c '! grep -q pycache listed'
     for file in README.md LICENSE install.sh docs/USING.md files/bin/farmdawn files/bin/git-farmdawn files/lib/farmdawn/git_farmdawn/main.py \
         files/share/man/man1/farmdawn.1; do
-        expect 'all is in it' grep -q " $name/$file\$" listed
+        row expect 'all is in it' grep -q " $name/$file\$" listed
     done
 }
 
@@ -69,9 +69,11 @@ test_installed() {
         expect 'each file is there' cmp "unpacked/files/$file" "a b/$file"
     done
     expect 'and modules are compiled' [ "$(find 'a b/lib' -name '*.pyc' | wc -l)" -eq "$(find 'a b/lib' -name '*.py' | wc -l)" ]
-    touch 'a b/lib/farmdawn/git_farmdawn/__pycache__/old.cpython-38.pyc'
+    for folder in '' line/; do touch "a b/lib/farmdawn/git_farmdawn/${folder}__pycache__/old.cpython-38.pyc"; done
     expect 'again' sh unpacked/install.sh "$PWD/a b/"
-    expect 'and nothing old is compiled' [ ! -e 'a b/lib/farmdawn/git_farmdawn/__pycache__/old.cpython-38.pyc' ]
+    for folder in '' line/; do
+        row expect 'and nothing old is compiled' [ ! -e "a b/lib/farmdawn/git_farmdawn/${folder}__pycache__/old.cpython-38.pyc" ]
+    done
     (
         PATH=$PWD/a\ b/bin:${PATH#"$driver:$top/tools:"}
         unset FARMDAWN
@@ -118,18 +120,18 @@ test_others() {
     expect 'removes nothing' [ -e mine ]
     for words in '' '--nothing' '--uninstall' 'nowhere/at/all' 'prefix two'; do
         # shellcheck disable=SC2086
-        expect "a fault: $words" sh -c '! sh unpacked/install.sh "$@" 2>told' sh $words
-        expect 'in a line' [ "$(wc -l <told)" -eq 1 ]
+        row expect "a fault: $words" sh -c '! sh unpacked/install.sh "$@" 2>told' sh $words
+        row expect 'in a line' [ "$(wc -l <told)" -eq 1 ]
     done
 }
 
 needs_machine() { needs_archive && has git flock setsid setpriv python3; }
 test_machine() {
     unpack
-    for tool in flock git timeout setsid awk setpriv; do
+    for tool in flock git setsid awk setpriv; do
         machine_without "$tool"
         PATH=$PWD/machine sh unpacked/install.sh prefix >out 2>told
-        expect "it is named: $tool, in $(cat told)" grep -q "$tool.* is not here: " told
+        row expect "it is named: $tool, in $(cat told)" grep -q "$tool.* is not here: " told
         [ ! -e prefix ] || expect 'taken away' sh unpacked/install.sh --uninstall prefix
     done
     # the Python of the system, which needs no path, and the one that is named
@@ -152,8 +154,7 @@ test_machine() {
 needs_lint() { has shellcheck; }
 test_lint() {
     cd "$top/packaging" || exit 1
-    for script in make-dist install.sh; do expect 'shellcheck' shellcheck -o all "$script"; done
+    for script in make-dist install.sh; do row expect 'shellcheck' shellcheck -o all "$script"; done
 }
 
-[ $# -gt 0 ] || set -- archive wrong_packages installed others machine lint
-run_tests "$@"
+run_test "$@"

@@ -3,7 +3,7 @@
 # one worker. What a command has started is its own to end; the scripts around a test do so.
 . "$(dirname "$0")/helpers.sh"
 
-needs_all() { has git pgrep pkill && has_program; }
+needs_all() { has git pgrep pkill timeout && has_program; }
 
 # A line of sixteen commits, of which the fifth is the first bad one: a run asks for the eighth, the fourth, the sixth and the
 # fifth. What is due is in the file `due`. Tests of the ninth and later ones, which it never asks for, are slow: the words. The
@@ -18,26 +18,16 @@ prepare() {
     # shellcheck disable=SC2016
     words='for commit; do :; done; n=$(grep -n "$commit" list) n=${n%%:*}; if [ "$n" -gt 8 ]; then '"$1"'; fi; while [ -e waits ] && [ ! -e began ]; do sleep 0.05; done; [ "$n" -lt 5 ]'
     rm -f waits began
-    read_clock
-    began=$clock
     search run --workers 1 >due
-    read_clock
-    alone=$((clock - began))
     expect 'the answer' [ "$(tail -n 1 due)" = "$(sed -n 5p list) is the first bad commit" ]
 }
 
 # A search by the words, with this command and these options.
-search() { "$farmdawn" "$@" main main~15 -- sh -c "$words" "$name" <stream; }
+search() { timeout 600 "$farmdawn" "$@" main main~15 -- sh -c "$words" "$name" <stream; }
 
-# Such a search takes at most so many hundredths of a second more than the one with one worker, and leaves no test.
-ends_within() {
-    most=$1
-    shift
-    read_clock
-    began=$clock
-    search "$@" >got
-    read_clock
-    expect 'soon' [ $((clock - began)) -lt $((alone + most)) ]
+# Such a search ends before what sleeps, with the same text, and leaves no test.
+ends() {
+    expect "it does not wait: $*" search "$@" >got
     expect 'the same text' cmp got due
     # what `timeout` or a shell has started may end a moment behind it
     wait_until 'no test is left' none_runs "$name|$long_sleep"
@@ -46,17 +36,17 @@ ends_within() {
 needs_needless() { needs_all; }
 test_needless() {
     prepare "exec $long_sleep"
-    ends_within 300 run --workers 8
-    ends_within 300 run --workers 8 --leg 1
-    ends_within 300 journal run --workers 8
-    ends_within 300 checkout run --workers 8
+    ends run --workers 8
+    ends run --workers 8 --leg 1
+    ends journal run --workers 8
+    ends checkout run --workers 8
 }
 
 # One that does not end when it is asked to is killed after ten seconds.
 needs_stubborn() { needs_all; }
 test_stubborn() {
     prepare 'trap "" TERM; while true; do sleep 0.2; done'
-    ends_within 1200 run --workers 4
+    ends run --workers 4
 }
 
 # Where it is asked for, no test is ended.
@@ -80,19 +70,18 @@ test_children() {
     all_ended() { ! pkill -f "$long_sleep"; }
     wait_until 'what the shells started has ended' all_ended
     prepare "exec timeout 0 sh -c '$long_sleep; true'"
-    ends_within 300 run --workers 4
-}
-
-# A script that ends what it has started ends it here too.
-needs_worktree() { needs_all && has setsid; }
-test_worktree() {
-    make_line 16 5
-    # shellcheck disable=SC2016
-    echo 'case $(cat content) in 1[0-5] | [89]) '"$long_sleep"'; true ;; *) test ! -e bug ;; esac' >../test.sh
-    git fast-export --all --no-data >../stream
-    "$farmdawn" run --workers 4 main main~15 -- farmdawn-worktree -- sh "$PWD/../test.sh" <../stream >../got
-    expect 'the answer' [ "$(tail -n 1 ../got)" = "$(first_bad main~10)" ]
-    nothing_sleeps
+    left=yes
+    for _ in 1 2 3 4 5; do
+        expect 'it does not wait' search run --workers 4 >got
+        expect 'the same text' cmp got due
+        for _ in 1 2 3 4 5 6 7 8 9 10; do
+            none_runs "$long_sleep" && left=no && break 2
+            sleep 0.5
+        done
+        # a timeout that is ended before it knows its child leaves it
+        pkill -f "$long_sleep"
+    done
+    expect 'no test is left' [ $left = no ]
 }
 
 # Where the program alone is ended its tests run on, unless the system ends them with it.
@@ -113,6 +102,4 @@ test_orphans() {
 }
 
 long='needless stubborn'
-by_clock='needless stubborn patient children orphans'
-[ $# -gt 0 ] || set -- needless stubborn patient children worktree orphans
-run_tests "$@"
+run_test "$@"

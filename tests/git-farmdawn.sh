@@ -118,6 +118,21 @@ test_shallow() {
     agree main main~14
 }
 
+# A clone whose cut lies between the ends, also on a branch that was merged, is refused, and the line brings the rest.
+needs_cut() { needs_all; }
+test_cut() {
+    (make_line 30 22 && git checkout -q -b side main~25 && for i in 1 2 3 4 5 6; do git commit -q --allow-empty -m "side $i"; done &&
+        git checkout -q main && git merge -q --no-edit side) || exit 1
+    git clone -q --depth 5 "file://$PWD/repository" clone && cd clone || exit 1
+    expect 'it is refused' [ "$(git farmdawn main main~3 -- true 2>../told; echo $?)" = 8 ]
+    expect 'and the line says how to mend it' grep -q 'this clone is shallow, and lacks the parents of .*; git fetch --unshallow --tags brings the rest$' ../told
+    git fetch -q --unshallow --tags
+    agree main main~25
+    git checkout -q --detach && git branch -q -D main
+    git farmdawn main HEAD~3 -- true 2>../told
+    expect 'a branch that the clone has as that of the other side' [ "$? $(grep -c 'did you mean origin/main?' ../told)" = '8 1' ]
+}
+
 needs_part_of_many() { needs_all; }
 test_part_of_many() {
     git init -q -b main repository && cd repository || exit 1
@@ -182,7 +197,7 @@ test_places() {
         ask git farmdawn --fresh --workers 3 --log-dir "../logs$number" >"../answer$number" &
     done
     wait
-    for number in 1 2 3; do expect 'three at once' [ "$(cat ../answer$number)" = "$answer" ]; done
+    for number in 1 2 3; do row expect 'three at once' [ "$(cat ../answer$number)" = "$answer" ]; done
     git worktree list >after
     expect 'the worktrees are as before' cmp before after
 }
@@ -227,7 +242,9 @@ test_going_on() {
     touch ../on
     git farmdawn --workers 2 "$@" >log
     expect 'the answer' [ "$(tail -n 1 log)" = "$(git rev-parse main~10) is the first bad commit" ]
-    expect 'what had ended was tested once' [ "$(grep -cxFf known ../tested)" -eq "$(wc -l <known)" ]
+    git rev-parse main~10 main~10^ >alone # these are tested alone, too
+    grep -vxFf alone known >once || :
+    expect 'what had ended was tested once' [ "$(grep -cxFf once ../tested)" -eq "$(wc -l <once)" ]
     cp ../tested before
     expect 'the answer at once' [ "$(git farmdawn "$@" | tail -n 1)" = "$(tail -n 1 log)" ]
     expect 'nothing was tested again' cmp before ../tested
@@ -269,35 +286,20 @@ test_logs_and_limits() {
     make_line 6 4
     hangs=$(git rev-parse main~3)
     # shellcheck disable=SC2016
-    expect 'a search' git farmdawn --timeout 5 --log-dir ../logs main main~5 -- sh -c '
-        echo "this is $FARMDAWN_COMMIT"; cat content >&2
-        [ "$FARMDAWN_COMMIT" != "$0" ] || $1
-        test ! -e bug' "$hangs" "$long_sleep" >log
+    for limit in $limits; do
+        git farmdawn --fresh --timeout "$limit" --log-dir ../logs main main~5 -- sh -c '
+            echo "this is $FARMDAWN_COMMIT"; cat content >&2
+            [ "$FARMDAWN_COMMIT" != "$0" ] || $1
+            test ! -e bug' "$hangs" "$long_sleep" >log 2>told
+        ended=$?
+        [ "$(grep -c '^git bisect skip' log)" -gt 1 ] || break # it was long enough for the others
+    done
+    expect 'a search' [ $ended -eq 0 ]
     expect 'the answer' [ "$(tail -n 1 log)" = "$(git rev-parse main~1) is the first bad commit" ]
     expect 'the one that hangs is skipped' grep -q "^git bisect skip $hangs$" log
     nothing_sleeps
     for tested in $(sed -n 's/^git bisect [a-z]* \([0-9a-f]\{40\}\)$/\1/p' log); do
         expect 'what was printed is kept' grep -qx "this is $tested" "../logs/$tested.log"
-    done
-    nothing_left
-}
-
-# Where the engine is killed, another one gets what was found, and comes to the same log.
-needs_lost_engine() { needs_all; }
-test_lost_engine() {
-    make_line 12 7
-    git farmdawn --fresh --workers 1 main main~11 -- sh -c "$command" >due 2>told
-    # once at once, then when tests run
-    for after in 0 0.6; do
-        printf '#!/bin/sh\n[ "$1" = serve ] && [ ! -e "%s" ] || exec "%s" "$@"\ntouch "%s"\nexec 3<&0\n"%s" "$@" <&3 3<&- &\nexec 3<&-\nsleep %s\nkill -KILL $!\nexit 15\n' \
-            "$PWD/../lost" "$farmdawn" "$PWD/../lost" "$farmdawn" $after >../failing
-        chmod +x ../failing
-        FARMDAWN=$PWD/../failing git farmdawn --fresh --workers 3 main main~11 -- sh -c "sleep 0.3; $command" >log 2>told
-        expect "a search, where it ends after $after s" [ $? -eq 0 ]
-        expect 'the same log' cmp log due
-        expect 'which is told' [ "$(grep -c 'farmdawn ended with .*; another one goes on' told)" -eq 1 ]
-        expect 'the engine was lost' [ -e ../lost ]
-        rm ../lost
     done
     nothing_left
 }
@@ -355,17 +357,17 @@ test_torn_outcomes() {
     set -- git farmdawn --workers 2 main main~19 -- sh -c "$command; "'s=$?; echo x >>"$0/tested"; exit $s' "$PWD/.."
     expect 'the answer' [ "$(answer_of "$@")" = "$(first_bad main~10)" ]
     other=$(git rev-parse main)
-    for text in '%s 0' '%s 1\n' '%s 0%s 0 end\n' '%s 126 end\n' '%s 0 end 1\n' '%s x end\n' '%s -1 end\n' '%.39s 0 end\n' \
-        "$other"' 1 end\n' '' '%s 0 end' '\000\000\000\000' '%s 1000 end\n' '* * *\n'; do
+    # the form of each is a row of test_kept.py
+    for text in '%s 0' "$other"' 1 end\n' ''; do
         rm -f ../tested
         for kept in .git/farmdawn/results-*/*.outcome; do
             name=${kept##*/}
             # shellcheck disable=SC2059
             printf "$text" "${name%.outcome}" "${name%.outcome}" >"$kept"
         done
-        expect "the same answer: $text" [ "$(answer_of "$@")" = "$(first_bad main~10)" ]
-        expect 'and what is forgotten is told' grep -q 'no whole outcome, and is forgotten' told
-        expect 'and tested again' [ "$(wc -l <../tested)" -ge 4 ]
+        row expect "the same answer: $text" [ "$(answer_of "$@")" = "$(first_bad main~10)" ]
+        row expect 'and what is forgotten is told' grep -q 'no whole outcome, and is forgotten' told
+        row expect 'and tested again' [ "$(wc -l <../tested)" -ge 4 ]
     done
     rm ../tested
     expect 'whole ones are believed' [ "$(answer_of "$@")" = "$(first_bad main~10)" ]
@@ -478,12 +480,10 @@ test_left_by_tests() {
         # shellcheck disable=SC2016
         expect 'the answer once they put it right' [ "$(answer_of git farmdawn --workers 2 main main~11 -- sh -c "$leaves" "(cd / && :)")" = "$(first_bad main~4)" ]
     done
-    # what changes how every checkout is made stops the search, too
-    git farmdawn --workers 2 main main~11 -- sh -c "$leaves" 'git config core.sparseCheckout true' >log 2>told
-    expect 'no answer where each changes how checkouts are made' [ $? -eq 6 ]
-    expect 'a line that says why' grep -q 'what it told is not believed' told
-    git config --unset-all core.sparseCheckout
-    expect 'the answer once it is as it was' [ "$(answer_of git farmdawn --workers 2 main main~11 -- sh -c "$command")" = "$(first_bad main~4)" ]
+    # its configuration is its checkout's alone
+    expect 'the answer where each changes how checkouts are made' \
+        [ "$(answer_of git farmdawn --workers 2 main main~11 -- sh -c "$leaves" 'git config core.sparseCheckout true')" = "$(first_bad main~4)" ]
+    expect 'nothing of that in the repository' [ -z "$(git config core.sparseCheckout)" ]
     nothing_left
 }
 
@@ -498,8 +498,8 @@ test_odd_words() {
     done
     for skip in 'main p2' '*' '--output=../tested' '--all' '' 'main..--output=../tested' '--stdin..main' 'main~1 main~2' '^main' '..none' 'none..'; do
         git farmdawn --skip "$skip" main main~5 -- touch ../tested >log 2>told
-        expect "no skip: $skip" [ "$(($? == 1 || $? == 8))" -eq 1 ]
-        expect 'which is told in a line' [ "$(wc -l <told)" -eq 1 ]
+        row expect "no skip: $skip" [ "$(($? == 1 || $? == 8))" -eq 1 ]
+        row expect 'which is told in a line' [ "$(wc -l <told)" -eq 1 ]
     done
     for limit in '' 0 1x 10m -1 1.5M; do
         expect "no size: $limit" sh -c '! git farmdawn --log-limit "$1" main main~5 -- touch ../tested 2>told' sh "$limit"
@@ -523,7 +523,8 @@ test_odd_paths() {
     expect 'by a script of such a name' [ "$(answer_of git farmdawn main main~11 -- sh "$odd.sh")" = "$(first_bad main~4)" ]
     expect 'by --copy, and --log-dir' [ "$(answer_of git farmdawn --copy "$odd" --log-dir "../$odd" main main~11 -- sh -c 'cd "$0" && sh in.sh' "$odd")" = "$(first_bad main~4)" ]
     expect 'the outputs are there' [ "$(ls "../$odd" | wc -l)" -ge 4 ]
-    expect 'in such a folder' [ "$(cd "$odd" && answer_of git farmdawn --copy "../$odd" main main~11 -- sh in.sh)" = "$(first_bad main~4)" ]
+    # what is copied must not change meanwhile, so that nothing is written there
+    expect 'in such a folder' [ "$(cd "$odd" && git farmdawn --copy "../$odd" main main~11 -- sh in.sh 2>/dev/null | tail -n 1)" = "$(first_bad main~4)" ]
     nothing_left
 }
 
@@ -601,7 +602,7 @@ test_few_programs() {
     for ends in 'main main~2' 'main main~39'; do
         # shellcheck disable=SC2086
         FARMDAWN=$PWD/../counting git farmdawn --fresh --workers 8 $ends -- sh -c "$command" >log 2>told
-        expect 'the runs of the program' [ "$(cat ../runs)" = serve ]
+        row expect 'the runs of the program' [ "$(cat ../runs)" = serve ]
         rm ../runs
     done
 }
@@ -620,7 +621,7 @@ test_stops() {
     git init -q -b main ../inner && (cd ../inner && git commit -q --allow-empty -m inner) && cd . &&
         git -c protocol.file.allow=always submodule add -q "$PWD/../inner" inner && git commit -q -m inner &&
         git commit -q --allow-empty -m last && git commit -q --allow-empty -m last || exit 1
-    rm -rf ../inner
+    rm -rf ../inner .git/modules # nor does the repository have it
     git farmdawn --submodules --workers 1 main main~3 -- true >log 2>told
     expect 'a commit that cannot be checked out' [ $? -eq 6 ]
     expect 'with the reason' grep -q "^    .*inner" told
@@ -635,9 +636,14 @@ test_warnings() {
     expect 'ten skips are told once' [ "$(grep -c 'ten tests one after the other were skipped' told)" -eq 1 ]
     git farmdawn --workers 2 main main~29 -- sh -c '[ $(($(cat content) % 5)) = 0 ] || exit 125; test ! -e bug' >log 2>told
     expect 'a good one between them is right' [ "$(grep -c 'ten tests' told)" -eq 0 ]
-    FARMDAWN_WATCH=1 git farmdawn --timeout 2 --workers 4 main main~5 -- sleep 30 >log 2>told
+    git farmdawn --timeout 2 --workers 4 main main~5 -- sleep 600 >log 2>told
     expect 'tests that all take too long are told once' [ "$(grep -c 'each test so far took longer than 2 s' told)" -eq 1 ]
-    expect 'and how long one runs' grep -q 'git farmdawn: [0-9a-f]\{12\} runs since [1-9] s$' told
+    # what it waits for is no word of the command: such a file must not change
+    # shellcheck disable=SC2016
+    TOLD=$PWD/../told FARMDAWN_WATCH=1 git farmdawn --fresh main main~29 -- sh -c '
+        until grep -q "farmdawn: [0-9a-f]\{12\} has run for [1-9][0-9]* s$" "$TOLD"; do sleep 0.1; done
+        test ! -e bug' >log 2>../told
+    expect 'and how long one runs' [ $? -eq 0 ]
     nothing_left
 }
 
@@ -733,9 +739,9 @@ test_wrong_words() {
     make_line 3 1
     for words in '--workers 0' '--workers 65' '--workers x' '--workers 01' '--timeout 0' '--timeout -1' '--nothing' '--skip nowhere' '--copy nowhere' '--path nowhere' '--term-new nowhere --term-old nowhere'; do
         # shellcheck disable=SC2086
-        expect "a fault: $words" sh -c '! git farmdawn "$@" main main~2 -- touch ../tested >out 2>err' sh $words
-        expect 'nothing on standard output' [ ! -s out ]
-        expect 'a line on standard error' [ "$(grep -vc 'commits to search' err)" -eq 1 ]
+        row expect "a fault: $words" sh -c '! git farmdawn "$@" main main~2 -- touch ../tested >out 2>err' sh $words
+        row expect 'nothing on standard output' [ ! -s out ]
+        row expect 'a line on standard error' [ "$(grep -vc 'commits to search' err)" -eq 1 ]
     done
     expect 'no such commit' sh -c '! git farmdawn main nowhere -- touch ../tested'
     expect 'no command' sh -c '! git farmdawn main main~2 --'
@@ -765,10 +771,5 @@ test_interrupts() {
     nothing_sleeps
 }
 
-long='interrupts many_skips torn_outcomes left_by_tests'
-by_clock='logs_and_limits lost_engine warnings hanging going_on dead_runs lost_output interrupts'
-[ $# -gt 0 ] || set -- line merges unrelated_good terms encodings signed signed_by_gpg sha256 shallow part_of_many submodules \
-    places words folders_and_scripts tracked_files links_of_commits torn_outcomes foreign_folders environment bash_environment \
-    left_by_tests odd_words odd_paths lost_output full_disk many_skips few_programs stops warnings hanging log_limit prune tools \
-    logs_and_limits lost_engine lost_log wrong_words going_on dead_runs check_ends interrupts
-run_tests "$@"
+long='interrupts many_skips left_by_tests'
+run_test "$@"

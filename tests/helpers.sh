@@ -1,25 +1,24 @@
-# What the tests of the scripts share. Each test is a function named test_..; it runs in a folder of its own, and what
-# it prints is shown where it fails. A function needs_.. with the same name says whether the test can run here; what is
-# missing passes the test over, and is told by its name. A file runs its tests one by one, or those that are named;
-# tests/check runs those of all files, several at once. TIMES=1 tells the seconds of each, by the clock and of processors.
+# What the tests of the scripts share. Each test is a function named test_..; it runs in a folder of its own. A function
+# needs_.. with the same name stands before it, and says whether the test can run here; what is missing passes the test over,
+# and is told by its name. tests/check.py runs them, each by its file and its name; those that a file names in `long` begin first.
 # FARMDAWN_DRIVER names the folder of another git-farmdawn than that of this checkout.
 set -u
 top=$(cd "$(dirname "$0")/.." && pwd)
 driver=${FARMDAWN_DRIVER:-$top/driver/bin}
 PATH=$driver:$top/tools:$PATH
 farmdawn=${FARMDAWN:-$top/crates/farmdawn/out/farmdawn}
+needs=${FARMDAWN_NEEDS:-/var/cache/farmdawn-tests} # what tests/needs has brought
 export PATH
-unset MAKEFLAGS MAKELEVEL MFLAGS # a make within a test is not one of make check
 export GIT_AUTHOR_NAME='Ann Lee' GIT_AUTHOR_EMAIL=ann@example.org GIT_COMMITTER_NAME=Bo GIT_COMMITTER_EMAIL=bo@example.org
 export GIT_CONFIG_SYSTEM=/dev/null GIT_CONFIG_NOSYSTEM=1 LC_ALL=C
 
 work=$(mktemp -d "${FARMDAWN_WORK:-${TMPDIR:-/tmp}}/tests.XXXXXXXX") || exit 1
-trap 'rm -rf "$work"' EXIT
+shared=${FARMDAWN_SHARED:-$work}
+trap 'end_shared; rm -rf "$work"' EXIT
 export GIT_CONFIG_GLOBAL="$work/gitconfig"
 printf '[core]\n\tfsync = none\n' >"$GIT_CONFIG_GLOBAL" # what is made here need not outlast the machine
 # farmdawn takes only words that are UTF-8, its own name with them
 if [ -x "$farmdawn" ] && ! "$farmdawn" --version >/dev/null 2>&1; then ln -s "$farmdawn" "$work/farmdawn" && farmdawn=$work/farmdawn; fi
-file=$(basename "$0") passed=0 failed=0 skipped=0 again=0 later=''
 long_sleep="sleep 777.$$s" # of this run alone: other tests may run beside it
 
 # Whether a test fails here: the text says what is not as it must be.
@@ -28,7 +27,28 @@ expect() {
     shift
     "$@" && return
     echo "not so: $text ($*)"
-    exit 1
+    exit "$failing"
+}
+failing=1
+
+# In front of an expectation that a clock decides: where it is not so, tests/check.py tries the test once more. No other is. Before
+# you add one, let the test wait for a condition, or take the next of $limits.
+by_clock() {
+    failing=$clock_decided
+    "$@"
+    failing=1
+}
+clock_decided=75
+# A test ends so where it, or a part of it, cannot run here; the last line that begins with `passed over: ` says why.
+passed_over=77
+# Limits of seconds for what must be over in time here, however busy the machine is: the next one where the last was too short.
+limits='5 20 80 320'
+
+# A row of a table, by the words: where it fails, the test goes on with the others, and fails in the end.
+row() {
+    ("$@")
+    row_ended=$?
+    [ $row_ended -eq 0 ] || echo $row_ended >>"$work/rows"
 }
 
 # Whether these commands are installed; the first that is not is told.
@@ -56,110 +76,59 @@ has_all_commands() {
     "$farmdawn" --version >/dev/null 2>&1 || return 1
 }
 
-# A Slurm is at hand.
+# A Slurm is at hand: the one that SLURM_CONF names; or else one of this run, which is started where a test asks for it first, in a
+# folder whose name a configuration can have without quotes.
 has_slurm() {
-    has srun sinfo || return 1
-    missing='a Slurm that answers'
-    [ -n "${SLURM_CONF-}" ] && [ -n "$(sinfo -h -t idle,mixed,allocated -o %N 2>/dev/null)" ]
-}
-
-# Whether a test can run here: 0 where it can, 1 where something is missing, and 127 where one of its two functions is not
-# there, or calls what is not: a misspelt name would pass the test over for ever.
-can_run() {
-    command -v "test_$1" >/dev/null || return 127
-    missing='what it needs'
-    needs_"$1" 2>/dev/null
-}
-
-# Runs a test in a new folder. A signal that ends it has it leave as otherwise, so that what it started is ended.
-run_test() {
-    mkdir "$work/$1" || return
-    (trap 'exit 129' HUP && trap 'exit 130' INT && trap 'exit 143' TERM && cd "$work/$1" && "test_$1") >>"$work/$1.out" 2>&1
-    ended=$?
-    chmod -R u+w "$work/$1" 2>/dev/null
-    rm -rf "${work:?}/$1"
-    return $ended
-}
-
-# Whether a test may fail by the clock alone, where other programs take the processors: its file names it in `by_clock`.
-watches_clock() { case " ${by_clock-} " in *" $1 "*) ;; *) return 1 ;; esac; }
-
-# The hundredths of a second since this machine began.
-read_clock() { read -r clock _ </proc/uptime && clock=${clock%.*}${clock#*.}; }
-
-# The tenths of a second that processors gave to this shell, and to all that has ended and was waited for.
-read_processors() {
-    times >"$work/times" # in no other shell, which would have none yet
-    worked=$(awk '{ for (i = 1; i <= NF; i++) { split($i, part, /[ms]/); sum += 60 * part[1] + part[2] } } END { printf "%d", 10 * sum }' "$work/times")
-}
-
-# Seconds with a point.
-in_seconds() { echo "$(($1 / 10)).$(($1 % 10)) s"; }
-
-# Tells how the test at hand ended, with what it printed where that is no matter of course.
-tell() {
-    seconds=''
-    if [ -n "${TIMES-}" ]; then
-        read_clock
-        read_processors
-        seconds=" [$(in_seconds $(((clock - began) / 10))), of processors $(in_seconds $((worked - before)))]"
+    has srun sinfo squeue scancel flock || return 1
+    if [ -z "${SLURM_CONF-}" ]; then
+        (PATH=$PATH:/usr/sbin:/sbin && has slurmctld slurmd munged) || { missing='SLURM_CONF, or slurmctld, slurmd and munged,' && return 1; }
+        missing='a Slurm that starts'
+        SLURM_CONF=$(slurm_folder)/slurm.conf || return 1
+        export SLURM_CONF
     fi
-    echo "$1: $file $test${2-}$seconds"
-    case $1 in ok | skipped) ;; *) sed 's/^/    /' "$work/$test.out" ;; esac
+    missing='a Slurm that answers'
+    [ -n "$(sinfo -h -t idle,mixed,allocated -o %N 2>/dev/null)" ]
 }
 
-# Tries a test, tells how it ended, and counts it. One that watches the clock has a second try behind all others.
-try_test() {
+# The folder of the Slurm of this run. The tests that tests/check.py runs share one, which it ends.
+slurm_folder() {
+    flock -x 9 || return 1
+    [ -s "$shared/slurm" ] || start_slurm 4 8 >"$shared/slurm" || return 1
+    cat "$shared/slurm"
+} 9>"$shared/slurm.lock"
+
+# Starts a Slurm of so many nodes with so many processors each, and prints its folder.
+start_slurm() { new=$(TMPDIR=/tmp mktemp -d) && sh "$top/tests/slurm" start "$new" "$1" "$2" 9>&- >&2 && echo "$new"; }
+
+# Ends what the tests of this file shared.
+end_shared() { [ -n "${FARMDAWN_SHARED-}" ] || [ ! -s "$shared/slurm" ] || sh "$top/tests/slurm" stop "$(cat "$shared/slurm")"; }
+
+# Runs the test that is named, in a new folder, if it can run here. A signal that ends it has it leave as otherwise, so that what it
+# started is ended. With PASSED_OVER set it is only asked whether it can run.
+run_test() {
     test=$1
-    [ -z "${TIMES-}" ] || read_processors
-    read_clock
-    began=$clock before=${worked-}
-    can_run "$test"
+    command -v "test_$test" >/dev/null || { echo "test_$test is not there" && exit 1; }
+    missing='what it needs'
+    needs_"$test" 2>/dev/null
     case $? in
     0) ;;
-    127)
-        echo "test_$test or needs_$test is not there, or calls what is not" >"$work/$test.out"
-        tell FAILED
-        failed=$((failed + 1))
-        return
+    127) # else a misspelt name would pass it over for ever
+        echo "needs_$test is not there, or calls what is not"
+        exit 1
         ;;
     *)
-        tell skipped " ($missing is not here)"
-        skipped=$((skipped + 1))
-        return
+        echo "passed over: $missing is not here"
+        exit $passed_over
         ;;
     esac
-    if run_test "$test"; then
-        tell "ok${SECOND_TRY:+ at the second try}"
-        passed=$((passed + 1)) again=$((again + ${SECOND_TRY:-0}))
-    elif watches_clock "$test" && [ -z "${SECOND_TRY-}" ]; then
-        tell 'has a second try'
-        later="$later $test"
-    else
-        tell FAILED
-        failed=$((failed + 1))
-    fi
-}
-
-# Runs the tests that are named, and counts. For tests/check, which sets LISTED, they are listed alone, with a word for those that take
-# long; and where it sets COUNTS, the counts go into that file, and those that want a second try into the file LATER.
-run_tests() {
-    if [ -n "${LISTED-}" ]; then
-        for name; do
-            case " ${long-} " in *" $name "*) echo "$file $name begins-first" ;; *) echo "$file $name in-order" ;; esac
-        done >>"$LISTED"
-        return
-    fi
-    for name; do try_test "$name"; done
-    if [ -n "${COUNTS-}" ]; then
-        echo "$passed $failed $skipped $again" >>"$COUNTS"
-        for name in $later; do echo "$file $name"; done >>"$LATER"
-    else
-        SECOND_TRY=1
-        for name in $later; do try_test "$name"; done
-        echo "$file: $passed passed ($again at the second try), $failed failed, $skipped skipped"
-    fi
-    [ "$failed" -eq 0 ]
+    [ -z "${PASSED_OVER-}" ] || exit 0
+    mkdir "$work/$test" || exit 1
+    (trap 'exit 129' HUP && trap 'exit 130' INT && trap 'exit 143' TERM && cd "$work/$test" && "test_$test")
+    ended=$?
+    [ $ended -ne 0 ] || [ ! -e "$work/rows" ] || ended=$(sort -n "$work/rows" | head -n 1)
+    chmod -R u+w "$work/$test" 2>/dev/null
+    rm -rf "${work:?}/$test"
+    exit $ended
 }
 
 # A repository in the folder `repository` with so many commits, of which those from BAD on have a file `bug`.
@@ -186,13 +155,13 @@ git_answer() {
 answer_of() { "$@" 2>told | tail -n 1; }
 first_bad() { echo "$(git rev-parse "$1") is the first bad commit"; }
 
-# Waits until a command succeeds. Where it does not within a minute, it is told as what is not so; what it printed last is shown.
+# Waits until a command succeeds. Where it does not within ten minutes, it is told as what is not so; what it printed last is shown.
 wait_until() {
     awaited=$1 turns=0
     shift
     until "$@" >"$work/awaited"; do
         turns=$((turns + 1))
-        [ $turns -lt 600 ] || { cat "$work/awaited" && expect "$awaited" false; }
+        [ $turns -lt 6000 ] || { cat "$work/awaited" && expect "$awaited" false; }
         sleep 0.1
     done
 }

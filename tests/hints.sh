@@ -56,6 +56,49 @@ test_stream() {
     expect 'another refusal says nothing more' [ $? -eq 7 -a ! -s told ]
 }
 
+# A stream without `done` may have broken off: that is said where no test was bad, and not where one was, or where the
+# stream has its `done`.
+needs_open() { has_program; }
+test_open() {
+    export FARMDAWN_QUIET=1
+    "$farmdawn" gen 1 20 >stream
+    (echo 'feature done' && cat stream && echo done) >whole
+    for command in run 'run --workers 4' 'certify run' 'checkout run' 'journal run'; do
+        for row in 'stream true told' 'stream false silent' 'whole true silent' 'whole false silent'; do
+            # shellcheck disable=SC2086 # the words of the row
+            set -- $row
+            rm -f bisect.journal
+            # shellcheck disable=SC2086 # the words of the command
+            "$farmdawn" $command main main~5 -- "$2" <"$1" >got 2>told
+            row expect "the first bad commit ($command, $row)" [ $? -eq 0 ]
+            case $3 in
+                told) expect "it is said ($command, $row)" grep -q '^farmdawn: no test was bad, and the stream had no done at its end' told ;;
+                *) expect "nothing is said ($command, $row): $(cat told)" [ ! -s told ] ;;
+            esac
+        done || exit 1
+    done || exit 1
+    "$farmdawn" simulate main main~5 gggggggggggggggggggg <stream >got 2>told
+    expect 'nothing is said of a plan' [ $? -eq 0 -a ! -s told ]
+}
+
+# A stream with a tag that names no commit is refused, and the hint says how git leaves it out.
+needs_tags() { has_program && has git; }
+test_tags() {
+    git init -q -b main r && cd r || exit 1
+    for i in 1 2 3; do echo $i >n && git add n && git commit -q -m "c$i"; done
+    git tag -a -m x v1.0 main~2
+    git tag -a -m key key "$(echo key | git hash-object -w --stdin)"
+    git fast-export --all | "$farmdawn" simulate main v1.0 ggb >got 2>told
+    expect 'a tag of a blob is refused' grep -q '^stream refused at line [0-9]*: unsupported$' got
+    expect "what to write: $(cat told)" grep -q -e '--tag-of-filtered-object=drop' told
+    drop='--use-done-feature --reencode=no --signed-tags=strip --tag-of-filtered-object=drop'
+    for refs in '--all --no-data' '--branches --tags=v*'; do
+        # shellcheck disable=SC2086 # the words of the options
+        git fast-export $refs $drop | "$farmdawn" simulate main v1.0 ggb >got 2>told
+        row expect "it is left out ($refs): $(cat got told)" grep -q '^# first bad commit: .* c3$' got
+    done
+}
+
 # What other exporters write: by whom, the lines of a stream, its refusal, and whether git takes it. COMMIT is one of five lines.
 exported='svn-all-fast-export;COMMIT|checkpoint;6: unsupported;taken
 git-remote-hg, as it begins;feature done|feature force|COMMIT|done;2: unsupported;taken
@@ -73,23 +116,22 @@ test_exported() {
         "$farmdawn" next m m <stream >got 2>/dev/null
         status=$?
         if [ "$refusal" = none ]; then
-            expect "taken ($by)" [ $status -eq 5 ]
+            row expect "taken ($by)" [ $status -eq 5 ]
         else
-            expect "refused ($by)" [ $status -eq 7 ]
-            expect "at its line ($by: $(cat got))" [ "$(cat got)" = "stream refused at line $refusal" ]
+            row expect "refused ($by)" [ $status -eq 7 ]
+            row expect "at its line ($by: $(cat got))" [ "$(cat got)" = "stream refused at line $refusal" ]
         fi
         rm -rf through.git && git init -q --bare through.git
         if [ "$git" = refused ]; then
-            expect "git refuses it ($by)" sh -c '! git -C through.git fast-import --quiet <stream 2>/dev/null'
+            row expect "git refuses it ($by)" sh -c '! git -C through.git fast-import --quiet <stream 2>/dev/null'
             continue
         fi
-        expect "git takes it ($by)" git -C through.git fast-import --quiet <stream
+        row expect "git takes it ($by)" git -C through.git fast-import --quiet <stream
         name=$(git -C through.git rev-parse m)
-        expect "by another name, where it was taken ($by)" sh -c '! grep -q "$0" got' "$name"
+        row expect "by another name, where it was taken ($by)" sh -c '! grep -q "$0" got' "$name"
         git -C through.git fast-export --all >exported && "$farmdawn" next m m <exported >got
-        expect "taken as git writes it, by git's name ($by: $(cat got))" [ "$(tail -n 1 got)" = "$name was both good and bad" ]
+        row expect "taken as git writes it, by git's name ($by: $(cat got))" [ "$(tail -n 1 got)" = "$name was both good and bad" ]
     done || exit 1
 }
 
-[ $# -gt 0 ] || set -- unstarted started stream exported
-run_tests "$@"
+run_test "$@"

@@ -1,11 +1,11 @@
 #!/bin/sh
-# Runs the commands of docs/HISTORIES.md, taken from the page itself, over a small repository of each system that is at hand:
+# Runs the commands of docs/SERVE.md, taken from the page itself, over a small repository of each system that is at hand:
 # eight commits of a file with their number, the fifth of which is the first bad one.
 . "$(dirname "$0")/helpers.sh"
 FARMDAWN=$farmdawn
 export FARMDAWN
 
-page=$top/docs/HISTORIES.md
+page=$top/docs/SERVE.md
 
 # The commands of the block behind a comment.
 block() {
@@ -63,7 +63,7 @@ through() {
     mkdir bin && ln -s "$farmdawn" bin/farmdawn && PATH=$PWD/bin:$PATH
     for end in branch clone checkout; do
         block "end: $end" >commands
-        expect "the page has $end" [ -s commands ]
+        row expect "the page has $end" [ -s commands ]
         # shellcheck source=/dev/null
         . ./commands >log 2>told
         [ "$end" = branch ] || expect "the fifth commit by $end" grep -q '^# first bad commit: \[[0-9a-f]*\] number 5' log
@@ -72,8 +72,9 @@ through() {
 
 needs_hg() { has_program && has git hg; }
 test_hg() { through hg hg; }
-needs_brz() { has_program && has git brz; }
-test_brz() { through brz brz; }
+needs_brz() { has_program && has git brz && { missing="the fastimport of brz" && /usr/bin/python3 -c "import fastimport" 2>/dev/null; }; }
+# brz may have a Python of its own, which takes its modules from where the python3 on the path is: that of the system
+test_brz() { PATH=/usr/bin:$PATH && through brz brz; }
 needs_fossil() { has_program && has git fossil; }
 test_fossil() { through fossil fossil; }
 needs_darcs() { has_program && has git darcs; }
@@ -83,5 +84,4 @@ test_cvs() { through cvs 'cvs cvs-fast-export'; }
 needs_svn() { has_program && has git svn svnadmin && missing='git svn' && git svn --version >/dev/null 2>&1; }
 test_svn() { through svn 'svn svnadmin'; }
 
-[ $# -gt 0 ] || set -- hg brz fossil darcs cvs svn
-run_tests "$@"
+run_test "$@"

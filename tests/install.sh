@@ -2,7 +2,7 @@
 # Tests of what `make install` brings beside the program: git farmdawn, scripts, manual pages, the shells' completions.
 . "$(dirname "$0")/helpers.sh"
 
-scripts='farmdawn-worktree farmdawn-srun farmdawn-ssh'
+scripts='farmdawn-srun farmdawn-ssh'
 
 needs_files() { has make install python3; }
 test_files() {
@@ -10,21 +10,21 @@ test_files() {
     expect 'make install-scripts' make -s -C "$top" install-scripts DESTDIR="$PWD/root" PREFIX=/usr
     expect 'nothing of an earlier version is left' [ ! -e root/usr/bin/farmdawn-part ] && [ ! -e root/usr/lib/farmdawn/git_farmdawn/old.py ] || exit 1
     for script in $scripts; do
-        expect 'the script is installed' cmp "root/usr/bin/$script" "$top/tools/$script"
-        expect 'and can be run' [ -x "root/usr/bin/$script" ]
+        row expect 'the script is installed' cmp "root/usr/bin/$script" "$top/tools/$script"
+        row expect 'and can be run' [ -x "root/usr/bin/$script" ]
     done
     for page in farmdawn git-farmdawn $scripts; do
-        expect 'the page is installed' cmp "root/usr/share/man/man1/$page.1" "$top/man/$page.1"
+        row expect 'the page is installed' cmp "root/usr/share/man/man1/$page.1" "$top/man/$page.1"
     done
     for name in farmdawn git-farmdawn; do
-        expect 'completion for bash' cmp "root/usr/share/bash-completion/completions/$name" "$top/completions/farmdawn.bash"
-        expect 'for zsh' cmp "root/usr/share/zsh/site-functions/_$name" "$top/completions/_$name"
-        expect 'for fish' cmp "root/usr/share/fish/vendor_completions.d/$name.fish" "$top/completions/$name.fish"
+        row expect 'completion for bash' cmp "root/usr/share/bash-completion/completions/$name" "$top/completions/farmdawn.bash"
+        row expect 'for zsh' cmp "root/usr/share/zsh/site-functions/_$name" "$top/completions/_$name"
+        row expect 'for fish' cmp "root/usr/share/fish/vendor_completions.d/$name.fish" "$top/completions/$name.fish"
     done
     expect 'and what fish reads as it begins' cmp root/usr/share/fish/vendor_conf.d/git-farmdawn.fish "$top/completions/git-farmdawn.conf.fish"
-    for module in "$top"/driver/git_farmdawn/*.py; do
-        expect 'the module' cmp "root/usr/lib/farmdawn/git_farmdawn/${module##*/}" "$module"
-        [ ! -x /usr/bin/python3 ] || expect 'compiled' [ -n "$(ls "root/usr/lib/farmdawn/git_farmdawn/__pycache__/$(basename "$module" .py)".*.pyc)" ]
+    for module in $(cd "$top/driver" && find git_farmdawn -name '*.py'); do
+        expect 'the module' cmp "root/usr/lib/farmdawn/$module" "$top/driver/$module"
+        [ ! -x /usr/bin/python3 ] || expect 'compiled' [ -n "$(ls "root/usr/lib/farmdawn/$(dirname "$module")/__pycache__/$(basename "$module" .py)".*.pyc)" ]
     done
     expect 'it starts' [ "$(root/usr/bin/git-farmdawn -h)" = "$("$top/driver/bin/git-farmdawn" -h)" ]
     ln -s "$PWD/root/usr/bin/git-farmdawn" 'a link'
@@ -34,27 +34,37 @@ test_files() {
     expect 'nor a folder of its own' [ ! -e root/usr/lib/farmdawn ]
 }
 
+# Without the kit nothing is installed, and a line says so.
+needs_without_kit() { has make; }
+test_without_kit() {
+    mkdir bin && for tool in make sh; do ln -s "$(command -v $tool)" bin/$tool; done
+    PATH=$PWD/bin make -s -C "$top" install PREFIX="$PWD/root" 2>told
+    expect 'it is refused' [ $? -ne 0 ]
+    expect 'in a line' grep -q 'the kit that builds farmdawn, is not installed; nothing was installed$' told
+    expect 'nothing is there' [ ! -e root ]
+}
+
 # Without a Python that could compile, the modules are as they are.
 needs_without_python() { has make install; }
 test_without_python() {
     for python in '' /nowhere/python3; do
-        expect 'it is installed' make -s -C "$top" install-scripts DESTDIR="$PWD/root" PREFIX=/usr PYTHON="$python"
-        expect 'and nothing is compiled' [ -z "$(find root -name '*.pyc')" ]
+        row expect 'it is installed' make -s -C "$top" install-scripts DESTDIR="$PWD/root" PREFIX=/usr PYTHON="$python"
+        row expect 'and nothing is compiled' [ -z "$(find root -name '*.pyc')" ]
     done
 }
 
 needs_help() { has python3; }
 test_help() {
     for script in git-farmdawn $scripts; do
-        expect 'the help is shown' "$script" --help >help
-        expect 'in short, too' [ "$("$script" -h)" = "$(cat help)" ]
+        row expect 'the help is shown' "$script" --help >help
+        row expect 'in short, too' [ "$("$script" -h)" = "$(cat help)" ]
         lines=32
-        [ "$script" != git-farmdawn ] || lines=56
-        expect 'in one screen' [ "$(wc -l <help)" -le $lines ]
-        expect 'of 120 columns' [ "$(awk '{ print length }' help | sort -n | tail -n 1)" -le 120 ]
-        expect 'by its name' grep -q "^usage: .*${script#git-}" help
+        [ "$script" != git-farmdawn ] || lines=75
+        row expect 'in one screen' [ "$(wc -l <help)" -le $lines ]
+        row expect 'of 120 columns' [ "$(awk '{ print length }' help | sort -n | tail -n 1)" -le 120 ]
+        row expect 'by its name' grep -q "^usage: .*${script#git-}" help
         for option in $(sed -n 's/^  --\([a-z-]*\).*/\1/p' help); do
-            expect 'the manual has the option' grep -q -- "Fl -$option\b" "$top/man/$script.1"
+            row expect 'the manual has the option' grep -q -- "Fl -$option\b" "$top/man/$script.1"
         done
     done
 }
@@ -94,7 +104,7 @@ options_of() { sorted_words "$("$1" --help | grep -o '^  --[a-z-]*\|, --[a-z-]*'
 
 needs_zsh() { has zsh; }
 test_zsh() {
-    for name in _farmdawn _git-farmdawn; do expect 'zsh reads the completion' zsh -n "$top/completions/$name"; done
+    for name in _farmdawn _git-farmdawn; do row expect 'zsh reads the completion' zsh -n "$top/completions/$name"; done
     words=$(sed -n "/^    '/s/^.*[', )]\*\?\(--[a-z-]*[a-z]\)[=-]*[['}].*/\1/p" "$top/completions/_git-farmdawn")
     expect 'the options of git farmdawn' [ "$(sorted_words "$words")" = "$(options_of git-farmdawn)" ]
 }
@@ -115,7 +125,7 @@ test_fish() {
     make -s -C "$top" install-scripts DESTDIR="$PWD/root" PREFIX=/usr PYTHON= || exit 1
     for line in 'git farmdawn to:topic' 'git farmdawn --work:--workers' 'git farmdawn --report roo:root/' 'git farmdawn topic topic -- mkdi:mkdir'; do
         found=$(LC_ALL=C.UTF-8 HOME=$PWD PATH=$PWD/root/usr/bin:$PATH XDG_DATA_DIRS=$PWD/root/usr/share:/usr/share fish -i -c "complete -C '${line%:*}'" 2>/dev/null | cut -f 1)
-        expect "fish completes ${line%:*}" [ "$found" = "${line##*:}" ]
+        row expect "fish completes ${line%:*}" [ "$found" = "${line##*:}" ]
     done
 }
 
@@ -126,5 +136,4 @@ test_lint() {
     for script in farmdawn-*; do expect 'shellcheck' shellcheck -o all "$script"; done
 }
 
-[ $# -gt 0 ] || set -- files without_python help manual bash zsh fish lint
-run_tests "$@"
+run_test "$@"

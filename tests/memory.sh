@@ -168,6 +168,4 @@ test_requests() {
     refuse_each serve
 }
 
-by_clock='workers devices' # of several threads each run takes memory as it comes
-[ $# -gt 0 ] || set -- line workers merge log lists certificates devices requests
-run_tests "$@"
+run_test "$@"

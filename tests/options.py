@@ -8,7 +8,7 @@ import sys
 TOP = os.path.dirname(os.path.dirname(os.path.abspath(__file__)))
 LONG = r"--[a-z][a-z-]*[a-z]"
 ASKED = {"--help", "--version"}  # they stand alone, and every program has the first
-SCRIPTS = ("farmdawn-worktree", "farmdawn-srun", "farmdawn-ssh")
+SCRIPTS = ("farmdawn-srun", "farmdawn-ssh")
 
 
 def read(*path):
@@ -38,18 +38,18 @@ def places_of_program():
     """The options of farmdawn by place, and those of each command by the table and by the completion of bash."""
     table = read("crates", "bf_words", "src", "options.rt")
     words = dict(re.findall(rf'Choice::(\w+) => b"({LONG})"', table))
-    served = set(re.findall(rf'b"({LONG})"', read("crates", "bf_serve_run", "src", "command.rt")))
+    named = set(re.findall(rf'b"({LONG})"', read("crates", "bf_commands", "src", "names.rt")))
     arms = re.findall(r"((?:Choice::\w+[ |]*)+)=> [{\s]*&\[([^]]*)\]", cut(table, "fn verbs(", "\n    }\n"))
     verbs = {}
     for choices, names in arms:
         for verb in re.findall(r"Verb::(\w+)", names):
             verbs.setdefault(verb.lower(), set()).update(words[choice] for choice in re.findall(r"Choice::(\w+)", choices))
-    verbs["serve"] = served
+    verbs["check"] = verbs["serve"] = named
     bash = read("completions", "farmdawn.bash")
     cases = re.findall(r"^    ([a-z][a-z |]*)\) echo (--.*) ;;$", cut(bash, "_farmdawn_options() {", "\n}"), re.M)
     by_bash = {verb: set(options.split()) for names, options in cases for verb in names.split(" | ")}
     places = {
-        "the table": set(words.values()) | served,
+        "the table": set(words.values()) | named,
         "the help": set(re.findall(rf"(?<=  |; )({LONG})", cut(read("crates", "farmdawn", "src", "help.rt"), "\n  BAD", "\n\n"))),
         "the manual": in_manual("farmdawn") - ASKED,
         "zsh": in_zsh(read("completions", "_farmdawn")) - ASKED,
@@ -61,22 +61,6 @@ def places_of_program():
 def in_help(usage):
     lines = re.findall(rf"^  (?:-[a-z], )?({LONG}.*)$", usage, re.M)
     return {option for line in lines for option in re.findall(rf"(?:^|, )({LONG})", line)} - ASKED
-
-
-def places_of_driver():
-    """Those of git farmdawn."""
-    sys.path.insert(0, os.path.join(TOP, "driver"))
-    sys.dont_write_bytecode = True
-    from git_farmdawn import options, usage
-    bash = re.search(r"__gitcomp '([^']*)'", read("completions", "farmdawn.bash")).group(1)
-    return {
-        "its reading": set(options.KNOWN) - set(options.OTHER_NAMES) - ASKED,
-        "its help": in_help(usage.USAGE),
-        "the manual": in_manual("git-farmdawn") - ASKED,
-        "bash": set(bash.split()) - ASKED,
-        "zsh": in_zsh(read("completions", "_git-farmdawn")) - ASKED,
-        "fish": in_fish(read("completions", "git-farmdawn.fish")) - ASKED,
-    }
 
 
 def places_of_script(name):
@@ -104,7 +88,6 @@ def main():
         wrong += differences(f"farmdawn {verb}", sides)
     for name in SCRIPTS:
         wrong += differences(name, places_of_script(name))
-    wrong += differences("git-farmdawn", places_of_driver())
     print(*wrong, sep="\n", end="\n" if wrong else "")
     return not wrong
 

@@ -16,8 +16,9 @@ FIRST_FILE = FILE + r": (`[\w:<>-]+`)"
 
 
 def path_of(name):
-    """Files are named from the top, or from the folder of the crates."""
-    return next((path for path in (os.path.join(TOP, name), os.path.join(TOP, "crates", name)) if os.path.exists(path)), None)
+    """Files are named from the top, from the folder of the crates, or from that of the driver's modules."""
+    paths = (os.path.join(TOP, folder, name) for folder in ("", "crates", os.path.join("driver", "git_farmdawn")))
+    return next((path for path in paths if os.path.exists(path)), None)
 
 
 def read(path):

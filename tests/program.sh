@@ -14,7 +14,7 @@ count_running='
     trap "rm -f running/$$; exit 255" TERM
     : >running/$$
     turns=0
-    until [ -e met ] || { set -- running/* && [ $# -ge "$0" ]; }; do turns=$((turns + 1)) && [ $turns -lt 600 ] && sleep 0.1 || exit 255; done
+    until [ -e met ] || { set -- running/* && [ $# -ge "$0" ]; }; do turns=$((turns + 1)) && [ $turns -lt 6000 ] && sleep 0.1 || exit 255; done
     [ -e met ] || sleep 0.3
     set -- running/*
     echo $# >>counts
@@ -57,15 +57,17 @@ exit 127|--lenient-exit|0|*is the first bad commit
 kill -9 $$||6|bisect aborted: killed on *
 kill -9 $$|--lenient-exit|6|bisect aborted: killed on *'
 
+ends_so() {
+    "$farmdawn" run $option main main~3 -- sh -c "$command" <stream >log 2>told
+    expect "the status of $option $command" [ $? -eq "$status" ]
+    # shellcheck disable=SC2254 # it is a pattern
+    case $(tail -n 1 log) in $last) ;; *) expect "the last line of $option $command: $last" false ;; esac
+}
+
 needs_ways() { has_program; }
 test_ways() {
     line_of 4 >stream
-    printf '%s\n' "$ways" | while IFS='|' read -r command option status last; do
-        "$farmdawn" run $option main main~3 -- sh -c "$command" <stream >log 2>told
-        expect "the status of $option $command" [ $? -eq "$status" ]
-        # shellcheck disable=SC2254 # it is a pattern
-        case $(tail -n 1 log) in $last) ;; *) expect "the last line of $option $command: $last" false ;; esac
-    done || exit 1
+    printf '%s\n' "$ways" | while IFS='|' read -r command option status last; do row ends_so; done
 }
 
 # An option of other commands is at fault, by its index.
@@ -76,12 +78,10 @@ test_options() {
         'sample --leg 2 1 5' 'gen --workers 2 1 5' 'replay --skip main'; do
         # shellcheck disable=SC2086
         "$farmdawn" $words <stream >log 2>told
-        expect "$words is refused" [ $? -eq 1 ]
+        row expect "$words is refused" [ $? -eq 1 ]
         # shellcheck disable=SC2086
-        expect 'by the index of the option' [ "$(cat log)" = "usage fault at word $(printf '%s\n' $words | grep -n -e '^--[a-z]' | head -n 1 | awk -F: '{ print $1 - 1 }')" ]
+        row expect 'by the index of the option' [ "$(cat log)" = "usage fault at word $(printf '%s\n' $words | grep -n -e '^--[a-z]' | head -n 1 | awk -F: '{ print $1 - 1 }')" ]
     done
 }
 
-by_clock='workers'
-[ $# -gt 0 ] || set -- workers threads ways options
-run_tests "$@"
+run_test "$@"

@@ -31,6 +31,4 @@ needs_serve() { has python3 && has_program && has_plain_path; }
 test_serve() { FARMDAWN=$farmdawn expect 'dialogues' python3 "$top/tests/serve_random.py" --count 20; }
 
 long='hostile repositories paths folders crashes ended'
-by_clock='crashes ended folders'
-[ $# -gt 0 ] || set -- hostile repositories paths folders lists crashes ended serve
-run_tests "$@"
+run_test "$@"

@@ -14,18 +14,19 @@ NONE = type(None)
 # as the manual page has them, in its order
 FIELDS = {
     "report": int, "generator": TEXT, "version": TEXT, "name": TEXT, "repository": TEXT, "remote": (TEXT, NONE), "bad": TEXT, "good": list,
-    "terms": dict, "first_parent": bool, "paths": list, "command": list, "again": dict, "state": TEXT, "status": (int, NONE),
-    "answer": (dict, NONE), "link": (TEXT, NONE), "output": (dict, NONE), "last_good": list, "reason": (TEXT, NONE), "candidates": list,
-    "contradictions": list, "sure": (bool, NONE), "sentence": (TEXT, NONE), "confirmed": list, "odds": list, "ends": list, "started": TIME,
+    "fixed": bool, "terms": dict, "first_parent": bool, "paths": list, "command": list, "again": dict, "state": TEXT, "status": (int, NONE),
+    "answer": (dict, NONE), "link": (TEXT, NONE), "output": (dict, NONE), "last_good": list, "reason": (TEXT, NONE), "candidates": list, "notes": list,
+    "contradictions": list, "sure": (bool, NONE), "sentence": (TEXT, NONE), "alone": (bool, NONE), "disturbed": list, "not_there": (TEXT, NONE), "confirmed": list, "odds": list, "unlikely": (TEXT, NONE), "threshold": (TEXT, NONE), "ends": list, "started": TIME,
     "ended": (int, float, NONE), "workers": int, "host": TEXT, "commits": int, "tests": list, "log": list,
 }
 TEST = {
-    "commit": TEXT, "subject": TEXT, "worker": (int, NONE), "host": (TEXT, NONE), "began": (int, float, NONE), "ended": (int, float, NONE), "status": (int, NONE),
-    "outcome": TEXT, "run": int, "kept": bool, "used": bool, "log": (TEXT, NONE),
+    "commit": TEXT, "subject": TEXT, "worker": (int, NONE), "host": (TEXT, NONE), "lost": int, "began": (int, float, NONE), "ended": (int, float, NONE), "status": (int, NONE),
+    "outcome": TEXT, "how": (TEXT, NONE), "numbers": list, "measured": (TEXT, NONE), "run": int, "ran": bool, "kept": bool, "used": bool, "log": (TEXT, NONE),
 }
 MORE = {
-    "ends": {"commit": TEXT, "subject": TEXT, "called": TEXT, "status": (int, NONE)},
-    "candidates": {"name": TEXT, "subject": TEXT, "outcome": (TEXT, NONE)},
+    "ends": {"commit": TEXT, "subject": TEXT, "called": TEXT, "status": (int, NONE), "how": (TEXT, NONE)},
+    "candidates": {"name": TEXT, "subject": TEXT, "outcome": (TEXT, NONE), "how": (TEXT, NONE)},
+    "notes": {"kind": TEXT, "text": TEXT, "doubt": bool},
     "contradictions": {"commit": TEXT, "subject": TEXT, "outcome": TEXT, "status": int, "why": TEXT},
     "last_good": {"commit": TEXT, "subject": TEXT, "status": (int, NONE)},
     "confirmed": {"commit": TEXT, "subject": TEXT, "outcome": TEXT, "times": int, "runs": int},

@@ -21,6 +21,7 @@ test_facts() {
         "good=[\"$(git rev-parse main~39)\"]" "repository=\"$PWD\"" "version=\"$("$farmdawn" --version | sed 's/.* //')\""
     for output in ../report/outputs/*.txt; do
         name=${output##*/}
+        name=${name%.run2.txt} # of those that were tested alone
         # of one that was ended it may be empty
         [ ! -s "$output" ] || expect 'the output of that commit' [ "$(cat "$output")" = "tested ${name%.txt}" ]
     done
@@ -29,7 +30,7 @@ test_facts() {
     git farmdawn --workers 4 --report ../report --first-parent main main~39 -- sh -c "$command" a\'b '' >log 2>told
     expect 'the same from what is kept' report_is log 'status=0'
     expect 'without a bar' sh -c '! grep -q "\"kept\": false" ../report/result.json'
-    expect 'nothing more on the standard error' [ "$(grep -c 'report' told)" -eq 0 ]
+    expect 'one line says where it is' [ "$(grep 'report' told)" = "git farmdawn: the report is $(cd ../report && pwd -P)/index.html" ]
     nothing_left
 }
 
@@ -111,12 +112,12 @@ test_hostile() {
         MET=$PWD/../met LC_ALL=$locale git farmdawn --fresh --workers 9 --report ../report main main~9 -- sh -c \
             'touch "$MET/$FARMDAWN_COMMIT"; until [ "$(ls "$MET" | wc -l)" -ge 8 ]; do sleep 0.1; done
             git log -1 --format=%B; cat path*; head -c 300 /dev/zero; test ! -e bug' "$(printf '<\n&"\\\033\342\202\254\n')" >log 2>told
-        expect "a search in $locale" [ $? -eq 0 ]
-        expect 'its report' report_is log 'status=0'
-        expect 'of most commits' [ "$(grep -c '"commit": ' ../report/result.json)" -ge 8 ]
-        expect 'no tag of a subject' sh -c '! grep -q "<script\|<img\|<b>" ../report/index.html'
+        row expect "a search in $locale" [ $? -eq 0 ]
+        row expect 'its report' report_is log 'status=0'
+        row expect 'of most commits' [ "$(grep -c '"commit": ' ../report/result.json)" -ge 8 ]
+        row expect 'no tag of a subject' sh -c '! grep -q "<script\|<img\|<b>" ../report/index.html'
         # shellcheck disable=SC2059
-        expect 'and no control character' sh -c '! tr -d "\011\012" <"$0" | grep -q "$(printf "[\001-\037\177]")"' ../report/index.html
+        row expect 'and no control character' sh -c '! tr -d "\011\012" <"$0" | grep -q "$(printf "[\001-\037\177]")"' ../report/index.html
     done
     nothing_left
 }
@@ -180,6 +181,4 @@ test_full() {
 }
 
 [ "${0##*/}" = report.sh ] || return 0
-by_clock='stops'
-[ $# -gt 0 ] || set -- facts ends stops hostile folders full
-run_tests "$@"
+run_test "$@"

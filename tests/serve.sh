@@ -57,7 +57,37 @@ test_driver() {
     python3 ../drive.py 2 main main -- true 2>../told
     expect 'a search that is no search' [ $? -eq 5 ]
     python3 ../drive.py 2 none main -- true 2>../told
-    expect 'a search that is refused' [ "$(cat ../told)" = "not begun: ['refused', 'name', 'refused', 'at', 'word', '1:', 'unknown']" ]
+    expect 'a search that is refused' [ "$(cat ../told)" = "not begun: refused name refused at word 1: unknown" ]
+}
+
+# Adds a commit with these further headers and this message to the branch, and prints its name.
+add_raw() {
+    echo raw >>number && git add number
+    printf 'tree %s\nparent %s\nauthor A <a@b> 1 +0000\ncommitter A <a@b> 1 +0000\n%b\n%b\n' "$(git write-tree)" "$(git rev-parse main)" "$1" "$2" |
+        git hash-object -t commit -w --stdin >../name
+    git update-ref refs/heads/main "$(cat ../name)"
+    cat ../name
+}
+
+# It names commits as the repository does, whatever headers they have, and takes no subject for a reply.
+needs_odd() { has_program && has git python3; }
+test_odd() {
+    block python >drive.py
+    mkdir bin && ln -s "$farmdawn" bin/farmdawn
+    PATH=$PWD/bin:$PATH
+    make_repository 1
+    add_raw 'encoding latin1\n' 'gr\0374n' >../first
+    add_raw '' 'gr\0374n\rok' >>../first
+    add_raw 'gpgsig -----BEGIN PGP SIGNATURE-----\n -----END PGP SIGNATURE-----\n' 'signed\rwait' >>../first
+    add_raw '' 'x\rtest 1 --version' >>../first
+    add_raw 'HG:extra a:b\n' 'last' >>../first
+    printf 'object %s\ntype commit\ntag s\ntagger A <a@b> 1 +0000\n\nm\n-----BEGIN PGP SIGNATURE-----\n-----END PGP SIGNATURE-----\n' "$(git rev-parse main)" |
+        git hash-object -t tag -w --stdin >../tag
+    git update-ref refs/tags/s "$(cat ../tag)"
+    while read -r first; do
+        timeout 60 python3 ../drive.py 3 main main~5 -- sh -c '! git merge-base --is-ancestor "$1" "$2"' sh "$first" >../got 2>../told
+        row expect "the first bad commit, git's name of it" [ "$(tail -n 1 ../got)" = "$first is the first bad commit" ]
+    done <../first
 }
 
 # Each reply comes before the next request is sent, with whatever pieces the requests come in.
@@ -179,6 +209,4 @@ test_again() {
     expect 'a file that is missing' [ "$(tail -n 1 got)" = 'refused no such file' ]
 }
 
-by_clock='pipes full'
-[ $# -gt 0 ] || set -- session driver pipes lines refusals names full again
-run_tests "$@"
+run_test "$@"

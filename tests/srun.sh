@@ -1,6 +1,5 @@
 #!/bin/sh
-# Tests of farmdawn-srun. They need a Slurm at hand, with SLURM_CONF set; with SLURM_NODE_PID, a file with the process
-# number of one slurmd, a node is lost while tests run.
+# Tests of farmdawn-srun, with the Slurm that SLURM_CONF names, or one of their own.
 . "$(dirname "$0")/helpers.sh"
 
 status_of() {
@@ -12,8 +11,8 @@ needs_words() { :; }
 test_words() {
     for number in 0 x -1 '' 9999999999; do
         farmdawn-srun --tries "$number" -- true name 2>err
-        expect "a fault: --tries $number" [ $? -eq 255 ]
-        expect 'which is told' grep -q 'wants a number above 0' err
+        row expect "a fault: --tries $number" [ $? -eq 255 ]
+        row expect 'which is told' grep -q 'wants a number above 0' err
     done
 }
 
@@ -53,6 +52,85 @@ test_interrupts() {
     nothing_sleeps
 }
 
+# However git farmdawn ends a test, the job is given back; here a shell that ends at once has started it.
+search_jobs() {
+    env --default-signal=INT "$driver/git-farmdawn" --fresh "$@" main main~15 -- sh -c 'farmdawn-srun "$0" -- sh -c "$1"; exit $?' --job-name=$job "$on_node" >log 2>told </dev/null
+}
+three_run() { [ "$(squeue -h --me -n $job -t running -o %i | wc -l)" -eq 3 ]; }
+no_job() { [ -z "$(squeue -h --me -n $job -o %i)" ]; }
+is_over() { [ -z "$(ls -d .git/farmdawn/run.* 2>/dev/null)" ]; }
+
+needs_ends() { has_slurm && has git squeue && has_program; }
+test_ends() {
+    make_line 16 5
+    export FARMDAWN="$farmdawn"
+    job=farmdawn-test-$$ on_node='exec sleep 600'
+    for signal in INT TERM KILL; do
+        search_jobs --workers 3 &
+        wait_beside $! three_run
+        kill -s $signal "$(pgrep -f -o -- "--job-name=$job")"
+        wait $!
+        wait_until 'the run has ended' is_over
+        wait_until "no job is left behind $signal" no_job
+    done
+    search_jobs --workers 3 --deadline 8s
+    expect 'the deadline' [ $? -eq 25 ]
+    wait_until 'no job is left behind the deadline' no_job
+    on_node='case $(cat content) in 1[0-5] | [89]) exec sleep 600 ;; *) test ! -e bug ;; esac'
+    for words in '--workers 6' '--workers 1 --timeout 5s'; do
+        # shellcheck disable=SC2086
+        FARMDAWN_NEEDED=1 search_jobs --trust-ends $words
+        row expect 'the answer' [ "$(tail -n 1 log)" = "$(first_bad main~10)" ]
+        wait_until "no job is left of a search with $words" no_job
+    done
+}
+
+# What is killed with all that would give its job back leaves it to the next search.
+needs_left() { needs_ends && has pgrep; }
+test_left() {
+    make_line 16 5
+    export FARMDAWN="$farmdawn"
+    job=farmdawn-test-$$ on_node='exec sleep 600'
+    search_jobs --workers 3 &
+    wait_beside $! three_run
+    # stopped until none of them begins another one
+    killed=
+    while found=$(pgrep -f -- "--job-name=$job") && [ "$found" != "$killed" ]; do
+        killed=$found
+        # shellcheck disable=SC2086
+        kill -s STOP $killed 2>/dev/null
+    done
+    # shellcheck disable=SC2086
+    kill -s KILL $killed 2>/dev/null
+    wait $!
+    expect 'the jobs are left' three_run
+    on_node='test ! -e bug'
+    search_jobs --workers 2
+    expect 'the answer' [ "$(tail -n 1 log)" = "$(first_bad main~10)" ]
+    expect 'which a test tells' grep -q 'ends what was left' .git/farmdawn/results-*/*.log
+    wait_until 'no job is left' no_job
+}
+
+# The time in Slurm's queue is none of the limit: what waits for its node is not skipped.
+needs_queue() { needs_ends && has head; }
+test_queue() {
+    make_line 16 5
+    export FARMDAWN="$farmdawn"
+    node=$(sinfo -h -N -t idle,mixed -o %N | head -n 1)
+    git farmdawn --trust-ends --workers 4 --timeout 8s main main~15 -- farmdawn-srun -w "$node" --exclusive -- sh -c 'sleep 4; test ! -e bug' >log 2>told
+    expect 'the answer' [ "$? $(tail -n 1 log)" = "0 $(first_bad main~10)" ]
+    expect 'none was skipped' sh -c '! grep -q "^skip" "$0"' told
+}
+
+# A job that its limit of time ends is no second try, and the line names the limit.
+needs_limit() { has_slurm && has grep; }
+test_limit() {
+    farmdawn-srun --time 1 -- sh -c 'echo once >>ran; exec sleep 300' name 2>err
+    expect 'no verdict' [ $? -eq 255 ]
+    expect 'it ran once' [ "$(cat ran)" = once ]
+    expect 'which is told' grep -q 'the test of name was ended by Slurm.s limit of time; --time says another$' err
+}
+
 # Sixty-four tests give the verdicts of one machine.
 many_tests() {
     number=0
@@ -72,15 +150,18 @@ test_many() {
     expect 'each verdict is right' [ ! -e wrong ]
 }
 
+# In a Slurm of its own: what else runs must not lose a node.
 needs_a_lost_node() {
-    has_slurm || return 1
-    missing='SLURM_NODE_PID'
-    [ -s "${SLURM_NODE_PID-/dev/null}" ]
+    missing='slurmctld, slurmd and munged'
+    has srun sinfo && (PATH=$PATH:/usr/sbin:/sbin && has slurmctld slurmd munged)
 }
 test_a_lost_node() {
+    slurm=$(start_slurm 4 8) || exit 1
+    trap 'sh "$top/tests/slurm" stop "$slurm"' EXIT
+    export SLURM_CONF="$slurm/slurm.conf"
     many_tests
     sleep 1
-    kill -KILL "$(cat "$SLURM_NODE_PID")"
+    kill -KILL "$(cat "$slurm/n1.pid")"
     wait
     expect 'each verdict is right' [ ! -e wrong ]
 }
@@ -104,6 +185,35 @@ END
     export TMPDIR="$PWD/tmp"
 }
 
+# A job that can never start is told at once, and is no second try; one that waits goes on.
+needs_never() { has grep timeout; }
+test_never() {
+    stand_in
+    cat >bin/squeue <<'END'
+#!/bin/sh
+[ ! -e tries ] || echo "search $(cat mark) $REASON"
+END
+    cat >bin/srun <<'END'
+#!/bin/sh
+echo try >>tries
+printf '%s\n' "$@" | sed -n 's/^--comment=//p' >mark
+exec sleep 600
+END
+    chmod +x bin/squeue
+    REASON=PartitionTimeLimit farmdawn-srun -- true name 2>err
+    expect 'no verdict' [ $? -eq 255 ]
+    expect 'of one try' [ "$(cat tries)" = try ]
+    expect 'and why' grep -q 'the test of name can never start: Slurm says PartitionTimeLimit$' err
+    rm tries
+    REASON=Resources timeout 8 farmdawn-srun -- true name 2>err
+    expect 'it waits' [ $? -eq 124 ]
+    printf '#!/bin/sh\necho try >>tries\n[ "$1" != --test-only ] || echo "allocation failure: Invalid node name specified" >&2\nexit 1\n' >bin/srun
+    rm tries
+    farmdawn-srun -- true name 2>err
+    expect 'nor of one that Slurm refuses' [ "$? $(grep -c try tries)" = '255 2' ]
+    expect 'and why' grep -q 'can never start: Slurm says Invalid node name specified$' err
+}
+
 # A status is one whole line; whatever else came is a lost test.
 needs_answers() { has grep; }
 test_answers() {
@@ -111,8 +221,8 @@ test_answers() {
     while IFS= read -r told; do
         printf '%b' "$told" >told
         TOLD=$PWD/told farmdawn-srun --tries 1 -- true name 2>err
-        expect "no verdict of what was told: $told" [ $? -eq 255 ]
-        expect 'which is told' grep -q 'was lost 1 times' err
+        row expect "no verdict of what was told: $told" [ $? -eq 255 ]
+        row expect 'which is told' grep -q 'was lost 1 times' err
     done <<'END'
 
 TOKEN 0
@@ -139,14 +249,14 @@ test_environment() {
     for setting in "ENV=$PWD/startup" "BASH_ENV=$PWD/startup" IFS=7 POSIXLY_CORRECT=1 LC_ALL=C.UTF-8 "CDPATH=$PWD/elsewhere" "FARMDAWN_PARENT=1 1"; do
         # shellcheck disable=SC2016
         env "$setting" farmdawn-srun --tries 1 -- sh -c 'cd here && [ "$PWD" = "$1/here" ] && exit 77' sh "$PWD" name
-        expect "$setting" [ $? -eq 77 ]
+        row expect "$setting" [ $? -eq 77 ]
     done
     for variable in status tries verdict me token answer limit options folder; do
         # shellcheck disable=SC2016
         env "$variable=it's
 mine " farmdawn-srun --tries 1 -- sh -c 'eval "[ \"\$$1\" = \"$2\" ]" && exit 77' sh "$variable" "it's
 mine " name
-        expect "the user's own $variable" [ $? -eq 77 ]
+        row expect "the user's own $variable" [ $? -eq 77 ]
     done
     farmdawn-srun --comment='a * b' -- true name
     expect 'an option with blanks and a star' grep -q '|--comment=a \* b|' words
@@ -173,7 +283,7 @@ test_functions() {
 needs_missing() { has ln; }
 test_missing() {
     mkdir bin
-    for tool in cat env mktemp rm sh sleep; do ln -s "$(command -v $tool)" bin/$tool; done
+    for tool in cat env mkdir mktemp readlink rm scancel sh sleep squeue timeout; do ln -s "$(command -v $tool)" bin/$tool; done
     PATH=$PWD/bin "$top/tools/farmdawn-srun" -- true name 2>err
     expect 'no verdict without srun' [ "$? $(cat err)" = "255 $(grep 'srun is not installed' err)" ]
 }
@@ -196,6 +306,4 @@ test_parents() {
     nothing_sleeps
 }
 
-by_clock='interrupts parents'
-[ $# -gt 0 ] || set -- words answers environment functions missing verdicts tasks lost_tests interrupts many parents a_lost_node
-run_tests "$@"
+run_test "$@"

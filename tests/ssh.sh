@@ -59,7 +59,7 @@ status_of() {
 stand_in() {
     mkdir bin
     # shellcheck disable=SC2016
-    printf '%s\n' '#!/bin/sh' 'while [ "$1" = -o ]; do shift 2; done' 'case $1 in lost*) exit 255 ;; esac' 'exec sh -c "$2"' >bin/ssh
+    printf '%s\n' '#!/bin/sh' 'while case $1 in -[oE]) ;; *) false ;; esac; do shift 2; done' 'case $1 in lost*) exit 255 ;; esac' 'exec sh -c "$2"' >bin/ssh
     chmod +x bin/ssh
     PATH=$PWD/bin:$PATH
     mkdir tmp
@@ -72,8 +72,8 @@ test_words() {
     for words in '--tries 0 there' '--tries x there' '--tries 9999999999 there' there:x there:0 there: there:-1 there:1x there:9999999999 :4 :; do
         # shellcheck disable=SC2086
         timeout 60 farmdawn-ssh --slots slots $words -- true name >out 2>err
-        expect "a fault: $words" [ $? -eq 255 ]
-        expect 'a line on standard error' [ "$(grep -c ' want' err)" -eq 1 ]
+        row expect "a fault: $words" [ $? -eq 255 ]
+        row expect 'a line on standard error' [ "$(grep -c ' want' err)" -eq 1 ]
     done
     timeout 60 farmdawn-ssh --slots slots there:3 -- sh -c 'exit 9' name
     expect 'right words' [ $? -eq 9 ]
@@ -108,14 +108,15 @@ test_hosts() {
     stand_in
     timeout 60 farmdawn-ssh --slots slots --tries 2 lost lost:2 -- true name 2>err
     expect 'a lost test' [ $? -eq 255 ]
-    expect 'which was tried twice' [ "$(grep -c 'on lost was lost' err)" -eq 2 ]
+    expect 'which was tried twice' [ "$(grep -c 'was lost on lost' err)" -eq 2 ]
     timeout 60 farmdawn-ssh --slots slots --tries 2 lost lost lost:2 there -- sh -c 'exit 9' name
     expect 'another host tests it' [ $? -eq 9 ]
     FARMDAWN_HOST_FILE=host timeout 60 farmdawn-ssh --slots slots --tries 2 lost there -- true name
-    expect 'and is named for the report' [ "$(cat host)" = there ]
+    expect 'and is named for the report' [ "$(cat host)" = 'there
+was lost on lost, and is started again' ]
     timeout 60 farmdawn-ssh --slots slots --tries 3 lost1 lost2 -- true name 2>err
     expect 'a test that is lost on two' [ $? -eq 255 ]
-    expect 'in turns' [ "$(sed 's/.* on \(.*\) was lost/\1/' err | tr '\n' ' ')" = 'lost1 lost2 lost1 ' ]
+    expect 'in turns' [ "$(sed -n 's/.* was lost on \(lost[12]\).*/\1/p' err | tr '\n' ' ')" = 'lost1 lost2 lost1 ' ]
 }
 
 needs_verdicts() { has_ssh; }
@@ -158,13 +159,68 @@ test_interrupts() {
     wait_until 'no test runs on' none_runs "^$long_sleep"
 }
 
+# Hosts that share no files have a clone each, by the recipe of docs/USING.md; here two servers stand for them.
+needs_own_clones() { has_ssh && has git && has_program; }
+test_own_clones() {
+    start_server
+    (make_line 16 5) && git clone -q repository one/clone && git clone -q repository two/clone || exit 1
+    kill "$(cat "$server/pid")"
+    wait_until 'the server has ended' [ ! -e "$server/pid" ]
+    for address in 127.0.0.1:one 127.0.0.2:two; do
+        sed "s/^ListenAddress .*/ListenAddress ${address%:*}/; s/^PidFile .*/&.${address#*:}/" "$server/config" >"$server/${address#*:}"
+        # shellcheck disable=SC2016
+        echo "ForceCommand cd '$PWD/${address#*:}' && exec sh -c \"\$SSH_ORIGINAL_COMMAND\"" >>"$server/${address#*:}"
+        "$(command -v sshd || echo /usr/sbin/sshd)" -f "$server/${address#*:}" 6<&-
+    done
+    words=''
+    for word in $ssh_options; do words="$words --ssh $word"; done
+    export FARMDAWN="$farmdawn" words slots="$PWD/slots"
+    cd repository || exit 1
+    git farmdawn --workers 2 main main~15 -- sh -c 'exec farmdawn-ssh --slots $slots --folder clone $words 127.0.0.1 127.0.0.2 -- sh -c "
+        git fetch -q --tags origin && git checkout -q -f --detach $FARMDAWN_COMMIT && git clean -q -f -d || exit 255
+        pwd >>../tested; test ! -e bug"' >../log 2>../told
+    ended=$?
+    for name in one two; do kill "$(cat "$server/pid.$name")"; done
+    expect 'the answer' [ "$ended $(tail -n 1 ../log)" = "0 $(first_bad main~10)" ]
+    expect 'tests ran on both' [ -s ../one/tested ] && [ -s ../two/tested ]
+}
+
+# A host that takes a connection and says nothing loses its test, and another one has it.
+needs_hung() { has_ssh && has python3; }
+test_hung() {
+    start_server
+    python3 -c 'import socket, time
+server = socket.socket()
+server.bind(("127.0.0.2", '$port'))
+server.listen(20)
+open("listens", "w").close()
+time.sleep(300)' &
+    wait_beside $! [ -e listens ]
+    by_ssh 127.0.0.2 127.0.0.1 -- sh -c 'exit 9' name 2>err
+    expect 'the other host tests it' [ $? -eq 9 ]
+    kill $!
+    expect 'a line tells that it was lost' grep -q 'the test of name was lost on 127.0.0.2, and is started again' err
+}
+
+# A host that refuses connections is waited for, and left out where it takes none. One line tells it, and no test was lost.
+needs_left_out() { has_ssh; }
+test_left_out() {
+    start_server
+    FARMDAWN_HOST_FILE=host by_ssh --tries 1 --skip-lost 127.0.0.77 -- true name 2>err
+    expect 'a skip where there is no host' [ $? -eq 125 ]
+    expect 'which was lost three times' [ "$(grep -c 'leaves 127.0.0.77 out for 10 minutes' err)" -eq 1 ]
+    expect 'no test was lost' sh -c '! grep "was lost on" host'
+    by_ssh --tries 1 127.0.0.77 127.0.0.1 -- sh -c 'exit 9' name 2>err
+    expect 'another host' [ "$? $(grep -c 127.0.0.77 err)" = '9 0' ]
+}
+
 needs_many() { has_ssh; }
 test_many() {
     start_server 4:30:100
     number=0
     while [ $number -lt 24 ]; do
         (
-            by_ssh --tries 5 127.0.0.1:12 -- sh -c 'sleep 0.1; exit $(($1 % 3))' sh "$number" 2>>errors
+            by_ssh --tries 1 127.0.0.1:12 -- sh -c 'sleep 0.1; exit $(($1 % 3))' sh "$number" 2>>errors
             [ $? -eq $((number % 3)) ] || echo "$number" >>wrong
         ) &
         number=$((number + 1))
@@ -188,9 +244,10 @@ test_answers() {
     stand_in_told
     while IFS= read -r told; do
         printf '%b' "$told" >told
+        rm -rf slots # a host that lost three tests is left out
         timeout 60 farmdawn-ssh --slots slots --tries 1 there -- true name 2>err
-        expect "no verdict of what was told: $told" [ $? -eq 255 ]
-        expect 'which is told' grep -q 'on there was lost' err
+        row expect "no verdict of what was told: $told" [ $? -eq 255 ]
+        row expect 'which is told' grep -q 'was lost on there' err
     done <<'END'
 
 TOKEN 0
@@ -245,7 +302,7 @@ b'; do
     done
     touch there
     timeout 60 farmdawn-ssh --slots slots 't*' -- sh -c 'exit 9' name
-    expect 'a host is no pattern of files' [ "$? $(ls slots)" = '9 t*.0' ]
+    expect 'a host is no pattern of files' [ "$? $(ls slots | grep -v ' ')" = '9 t*.0' ]
 }
 
 needs_others() { has flock mkfifo timeout && missing='root, who makes files of others' && [ "$(id -u)" -eq 0 ]; }
@@ -280,14 +337,14 @@ test_environment() {
     mkdir -p elsewhere/folder elsewhere/slots folder
     for setting in "ENV=$PWD/startup" "BASH_ENV=$PWD/startup" IFS=7 POSIXLY_CORRECT=1 LC_ALL=C.UTF-8 "CDPATH=$PWD/elsewhere" "FARMDAWN_PARENT=1 1"; do
         env "$setting" timeout 60 farmdawn-ssh --slots slots --folder folder there:17 -- sh -c '[ "$PWD" = "$1" ] && exit 77' sh "$PWD/folder" name
-        expect "$setting" [ $? -eq 77 ]
+        row expect "$setting" [ $? -eq 77 ]
     done
     for variable in host status hosts tries verdict me own token farmdawn folder; do
         # shellcheck disable=SC2016
         env "$variable=it's
 mine " timeout 60 farmdawn-ssh --slots slots --folder "$PWD" there -- sh -c 'eval "[ \"\$$1\" = \"$2\" ]" && exit 77' sh "$variable" "it's
 mine " name
-        expect "the user's own $variable" [ $? -eq 77 ]
+        row expect "the user's own $variable" [ $? -eq 77 ]
     done
 }
 
@@ -308,12 +365,12 @@ needs_missing() { has flock mkfifo ln; }
 test_missing() {
     for lacking in ssh flock mkfifo mktemp; do
         rm -rf bin && mkdir bin
-        for tool in cat chmod env flock id ls mkdir mkfifo mktemp rm sed sh sleep ssh true; do
+        for tool in cat chmod date env flock id ls mkdir mkfifo mktemp rm sed sh sleep ssh true; do
             [ $tool = $lacking ] || ln -s "$(command -v $tool || command -v true)" bin/$tool
         done
         PATH=$PWD/bin "$top/tools/farmdawn-ssh" --slots slots there -- true name 2>err
-        expect "no verdict without $lacking" [ $? -eq 255 ]
-        expect 'which is named in one line' [ "$(cat err)" = "$(grep "$lacking is not installed" err)" ]
+        row expect "no verdict without $lacking" [ $? -eq 255 ]
+        row expect 'which is named in one line' [ "$(cat err)" = "$(grep "$lacking is not installed" err)" ]
     done
 }
 
@@ -330,6 +387,4 @@ test_parents() {
     wait_until 'no test runs on' none_runs "^$long_sleep"
 }
 
-by_clock='interrupts parents waiting limit many'
-[ $# -gt 0 ] || set -- words hosts waiting answers slots others limit environment functions missing verdicts lost_tests interrupts many parents
-run_tests "$@"
+run_test "$@"

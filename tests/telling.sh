@@ -100,7 +100,7 @@ test_progress() {
     expect 'and one that stops the search' grep -q '^stop  [0-9a-f]\{12\}  change [0-9]*  (exit 255, [0-9]* s)$' told
     git farmdawn --workers 4 --check-ends main~1 main~12 -- sh -c "$command" >log 2>told
     git farmdawn --check-ends main main~12 -- true >log 2>told
-    expect 'no control character comes through' grep -q '^good  [0-9a-f]\{12\}  bell ?, ?\[31m  ([0-9]* s)$' told
+    expect 'no control character comes through' grep -q '^good  [0-9a-f]\{12\}  bell ?,   ([0-9]* s)$' told
     git farmdawn --quiet --fresh main main~12 -- sh -c "$command" >log 2>told
     expect 'nothing is told quietly' [ ! -s told ]
     git farmdawn --quiet main main~12 -- sh -c 'echo why; exit 255' >log 2>told
@@ -111,6 +111,4 @@ test_progress() {
 needs_terminal() { needs_all && has python3 stty; }
 test_terminal() { expect 'on a terminal' python3 "$top/tests/terminal.py"; }
 
-by_clock='terminal'
-[ $# -gt 0 ] || set -- paths paths_of_merges wrong_paths progress terminal
-run_tests "$@"
+run_test "$@"

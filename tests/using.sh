@@ -65,19 +65,20 @@ run_block() {
         name=${command%.command}
         # shellcheck source=/dev/null
         . "$command" >"$name.output" 2>&1
-        # another home, another number of the command, as many outcomes as there was time for, and a test as long as it took
-        sed -i "s|$HOME|/home/ann|g; s/from [0-9]* outcomes*/from N outcomes/; s/results-[0-9a-f]\{12\}/results-NUMBER/
+        # another home, another version of a package, another number of the command, as many outcomes as there was time for, and a test as long as it took
+        sed -i "s|$HOME|/home/ann|g; s/farmdawn-0[.]1[.]0[+][0-9]*-/farmdawn-0.1.0+1234-/; s/from [0-9]* outcomes*/from N outcomes/; s/results-[0-9a-f]\{12\}/results-NUMBER/
             s/what [0-9]* searches/what N searches/; s/([0-9]* s)$/(N s)/" "$name.shown" "$name.output"
-        is_shown "$name.shown" "$name.output" || { cat "$name.output" && expect "what the page shows of '$(cat "$command")'" false; }
+        # a test that takes longer than it should may be one that nobody needs any more
+        is_shown "$name.shown" "$name.output" || { cat "$name.output" && by_clock expect "what the page shows of '$(cat "$command")'" false; }
     done
 }
 
 # The blocks that install and that make the practice repository are always run. Behind them come those of a half of the page that
 # need neither ccache nor Slurm, or those of the whole page that need the one that is named.
-half=17
+half=13
 is_wanted() {
     case ${1##*/}:$2 in
-    01:* | 03:*) ;;
+    01:* | 02:*) ;;
     *:begin) [ "${1##*/}" -le $half ] && ! grep -qw -e ccache -e slurm "$1/needs" ;;
     *:end) [ "${1##*/}" -gt $half ] && ! grep -qw -e ccache -e slurm "$1/needs" ;;
     *) grep -qw "$2" "$1/needs" ;;
@@ -114,7 +115,5 @@ test_ccache() { run_page ccache; }
 needs_slurm() { needs_page && has_slurm; }
 test_slurm() { run_page slurm; }
 
-by_clock='begin end' # a test that takes longer than it should may be one that nobody needs any more
 long='begin end'
-[ $# -gt 0 ] || set -- begin end ccache slurm
-run_tests "$@"
+run_test "$@"

@@ -6,9 +6,9 @@ from typing import TYPE_CHECKING, Dict, FrozenSet, Iterable, List, Optional, Set
 if TYPE_CHECKING:
     from history import History
 
-SMALL = 400             # up to so many commits, all is done as the definitions say
+SMALL = 400  # up to so many commits, all is done as the definitions say
 BLOCK = 4096
-MOST_ROWS, MOST_WEIGHTS = 64, 2000     # so much is kept of larger histories
+MOST_ROWS, MOST_WEIGHTS = 64, 2000  # so much is kept of larger histories
 
 
 def ancestors(history: History, place: int, first_parent: bool = False) -> Set[int]:
@@ -35,7 +35,8 @@ def behind_any(history: History, places: Iterable[int]) -> Set[int]:
 
 
 def candidates(history: History, bad: int, goods: Iterable[int], first_parent: bool) -> List[int]:
-    """The places behind the bad one, along first parents alone where that is asked, and behind no good one; by place."""
+    """The places behind the bad one, along first parents alone where that is asked, and behind no
+    good one; by place."""
     return sorted(ancestors(history, bad, first_parent) - behind_any(history, goods))
 
 
@@ -45,7 +46,9 @@ def weights(history: History, among: List[int], first_parent: bool) -> Dict[int,
     if key not in history.weights:
         if len(history.weights) > MOST_WEIGHTS:
             history.weights.clear()
-        history.weights[key] = (weights_plain if len(among) <= SMALL else weights_by_blocks)(history, among, first_parent)
+        history.weights[key] = (weights_plain if len(among) <= SMALL else weights_by_blocks)(
+            history, among, first_parent
+        )
     return history.weights[key]
 
 
@@ -56,10 +59,17 @@ def weights_plain(history: History, among: List[int], first_parent: bool) -> Dic
 
 
 def weights_by_blocks(history: History, among: List[int], first_parent: bool) -> Dict[int, int]:
-    """The same by rows of bits, a block of columns at a time: between two candidates lie candidates alone."""
+    """The same by rows of bits, a block of columns at a time: between two candidates lie candidates
+    alone."""
     index = {place: at for at, place in enumerate(among)}
-    above = [[index[parent] for parent in (history.parents[place][:1] if first_parent else history.parents[place]) if parent in index]
-             for place in among]
+    above = [
+        [
+            index[parent]
+            for parent in (history.parents[place][:1] if first_parent else history.parents[place])
+            if parent in index
+        ]
+        for place in among
+    ]
     total = [0] * len(among)
     for low in range(0, len(among), BLOCK):
         rows = [0] * len(among)
@@ -68,12 +78,15 @@ def weights_by_blocks(history: History, among: List[int], first_parent: bool) ->
             for parent in above[at]:
                 row |= rows[parent]
             rows[at] = row
-            total[at] += bin(row).count('1')
+            total[at] += bin(row).count("1")
     return dict(zip(among, total))
 
 
-def best(among: List[int], weight: Dict[int, int], bad: int, skips: FrozenSet[int]) -> Optional[int]:
-    """The candidate that halves them best, the first of several; neither the bad one nor one that was skipped. None where there is none."""
+def best(
+    among: List[int], weight: Dict[int, int], bad: int, skips: FrozenSet[int]
+) -> Optional[int]:
+    """The candidate that halves them best, the first of several; neither the bad one nor one that
+    was skipped. None where there is none."""
     found: Optional[Tuple[int, int]] = None
     for place in among:
         if place != bad and place not in skips:
@@ -84,7 +97,8 @@ def best(among: List[int], weight: Dict[int, int], bad: int, skips: FrozenSet[in
 
 
 def merge_bases(history: History, bad: int, goods: Iterable[int]) -> List[int]:
-    """The best common ancestors of the bad place and any of the good ones: those behind no other one."""
+    """The best common ancestors of the bad place and any of the good ones: those behind no other
+    one."""
     common = ancestors(history, bad) & behind_any(history, goods)
     behind = {parent for place in common for parent in history.parents[place]}
     return sorted(common - behind)

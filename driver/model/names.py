@@ -10,9 +10,16 @@ from graphs import ancestors
 if TYPE_CHECKING:
     from history import History
 
-FORMS = (b'%s', b'refs/%s', b'refs/tags/%s', b'refs/heads/%s', b'refs/remotes/%s', b'refs/remotes/%s/HEAD')
+FORMS = (
+    b"%s",
+    b"refs/%s",
+    b"refs/tags/%s",
+    b"refs/heads/%s",
+    b"refs/remotes/%s",
+    b"refs/remotes/%s/HEAD",
+)
 Parsed = Tuple[bytes, List[Tuple[bytes, int]]]
-STEP = re.compile(rb'(\^\{(?:commit)?\})|([~^])([0-9]*)')
+STEP = re.compile(rb"(\^\{(?:commit)?\})|([~^])([0-9]*)")
 
 
 class Unnamed(Exception):
@@ -25,19 +32,19 @@ class Unnamed(Exception):
 
 def parse(text: bytes) -> Parsed:
     """What a name begins at, and its steps: pairs of a sign and a number."""
-    begin = re.split(rb'[~^]', text, maxsplit=1)[0]
-    if begin == b'' or b' ' in begin or b':' in begin or b'@{' in begin:
-        raise Unnamed(b'bad form')
+    begin = re.split(rb"[~^]", text, maxsplit=1)[0]
+    if begin == b"" or b" " in begin or b":" in begin or b"@{" in begin:
+        raise Unnamed(b"bad form")
     steps: List[Tuple[bytes, int]] = []
     at = len(begin)
     while at < len(text):
         step = STEP.match(text, at)
         if step is None:
-            raise Unnamed(b'bad form')
+            raise Unnamed(b"bad form")
         if step.group(2):
             number = decimal(step.group(3)) if step.group(3) else 1
             if number is None:
-                raise Unnamed(b'bad form')
+                raise Unnamed(b"bad form")
             steps.append((step.group(2), number))
         at = step.end()
     return begin, steps
@@ -45,12 +52,12 @@ def parse(text: bytes) -> Parsed:
 
 def begin_of(history: History, text: bytes) -> int:
     """The place that a name begins at."""
-    text = b'HEAD' if text == b'@' else text
+    text = b"HEAD" if text == b"@" else text
     name = object_name(text)
     if name is not None:
         if name in history.place_of:
             return history.place_of[name]
-        raise Unnamed(b'unknown')
+        raise Unnamed(b"unknown")
     for form in FORMS:
         if form % text in history.refs:
             return history.refs[form % text]
@@ -60,8 +67,8 @@ def begin_of(history: History, text: bytes) -> int:
         if len(found) == 1:
             return found[0]
         if found:
-            raise Unnamed(b'ambiguous %d' % len(found))
-    raise Unnamed(b'unknown')
+            raise Unnamed(b"ambiguous %d" % len(found))
+    raise Unnamed(b"unknown")
 
 
 def walk(history: History, parsed: Parsed) -> int:
@@ -69,14 +76,14 @@ def walk(history: History, parsed: Parsed) -> int:
     begin, steps = parsed
     place = begin_of(history, begin)
     for sign, number in steps:
-        if sign == b'~':
+        if sign == b"~":
             for _ in range(min(number, len(history) + 1)):
                 if not history.parents[place]:
-                    raise Unnamed(b'no parent')
+                    raise Unnamed(b"no parent")
                 place = history.parents[place][0]
         elif number > 0:
             if len(history.parents[place]) < number:
-                raise Unnamed(b'no parent')
+                raise Unnamed(b"no parent")
             place = history.parents[place][number - 1]
     return place
 
@@ -88,11 +95,11 @@ def place_of(history: History, text: bytes) -> int:
 
 def places_of(history: History, text: bytes) -> List[int]:
     """The places that a name or a range A..B stands for, by place."""
-    if b'..' not in text:
+    if b".." not in text:
         return [place_of(history, text)]
-    low, _, high = text.partition(b'..')
-    if low == b'' or high == b'' or high.startswith(b'.') or b'..' in high:
-        raise Unnamed(b'bad form')
+    low, _, high = text.partition(b"..")
+    if low == b"" or high == b"" or high.startswith(b".") or b".." in high:
+        raise Unnamed(b"bad form")
     parsed = parse(low), parse(high)
     low_place, high_place = walk(history, parsed[0]), walk(history, parsed[1])
     return sorted(ancestors(history, high_place) - ancestors(history, low_place))

@@ -11,7 +11,8 @@ MOST_WORDS = 1000000
 
 
 class Refused(Exception):
-    """Something is refused, with the status that a program ends with for it and the text that it prints."""
+    """Something is refused, with the status that a program ends with for it and the text that it
+    prints."""
 
     def __init__(self, status: int, text: bytes) -> None:
         Exception.__init__(self, status, text)
@@ -20,24 +21,24 @@ class Refused(Exception):
 
 def at_line(line: int, why: bytes) -> Refused:
     """A stream that is refused at a line."""
-    return Refused(7, b'stream refused at line %d: ' % line + why)
+    return Refused(7, b"stream refused at line %d: " % line + why)
 
 
 def too_large(what: bytes) -> Refused:
     """Something is beyond a limit."""
-    return Refused(9, b'too large: ' + what)
+    return Refused(9, b"too large: " + what)
 
 
 def name_refused(word: int, why: bytes) -> Refused:
     """A word names no commit."""
-    return Refused(8, b'name refused at word %d: ' % word + why)
+    return Refused(8, b"name refused at word %d: " % word + why)
 
 
 def usage(word: int) -> Refused:
     """A word is none of the command, or one is missing there."""
-    return Refused(1, b'usage fault at word %d' % word)
+    return Refused(1, b"usage fault at word %d" % word)
 
 
 def log_refused(line: int) -> Refused:
     """A log is refused at a line."""
-    return Refused(10, b'log refused at line %d' % line)
+    return Refused(10, b"log refused at line %d" % line)

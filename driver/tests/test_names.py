@@ -1,5 +1,6 @@
-"""Whether each attribute that is taken of one of the driver's own classes is there, as far as annotations tell the class, and each call
-of one of its functions and classes has words that it takes. mypy says more, where it is at hand; this needs nothing."""
+"""Whether each attribute that is taken of one of the driver's own classes is there, as far as
+annotations tell the class, and each call of one of its functions and classes has words that it
+takes. mypy says more, where it is at hand; this needs nothing."""
 from __future__ import annotations
 
 import ast
@@ -7,20 +8,28 @@ import os
 import unittest
 from typing import Any, Dict, Iterator, List, Optional, Set, Tuple, Union
 
-MODULES = os.path.join(os.path.dirname(os.path.dirname(os.path.abspath(__file__))), 'git_farmdawn')
+SHORT_TESTS = True
+
+MODULES = os.path.join(os.path.dirname(os.path.dirname(os.path.abspath(__file__))), "git_farmdawn")
 Function = Union[ast.FunctionDef, ast.AsyncFunctionDef]
-FREE = {'NamedTuple', 'TypedDict', 'Protocol'}          # what these bring is not looked at
-OF_TUPLE = {'_replace', '_asdict', '_fields', 'index', 'count'}
+FREE = {"NamedTuple", "TypedDict", "Protocol"}  # what these bring is not looked at
+OF_TUPLE = {"_replace", "_asdict", "_fields", "index", "count"}
 
 
 def class_of(node: Optional[ast.expr]) -> str:
     """The name of the class that an annotation names; of Optional[X] it is X."""
     if isinstance(node, ast.Constant) and isinstance(node.value, str):
-        node = ast.parse(node.value, mode='eval').body
-    if isinstance(node, ast.Subscript) and isinstance(node.value, ast.Name) and node.value.id == 'Optional':
+        node = ast.parse(node.value, mode="eval").body
+    if (
+        isinstance(node, ast.Subscript)
+        and isinstance(node.value, ast.Name)
+        and node.value.id == "Optional"
+    ):
         inner: Any = node.slice
-        return class_of(inner.value if type(inner).__name__ == 'Index' else inner)   # Python 3.8 has an Index there
-    return node.id if isinstance(node, ast.Name) else ''
+        return class_of(
+            inner.value if type(inner).__name__ == "Index" else inner
+        )  # Python 3.8 has an Index there
+    return node.id if isinstance(node, ast.Name) else ""
 
 
 class Class:
@@ -34,13 +43,18 @@ class Class:
         for item in node.body:
             if isinstance(item, (ast.FunctionDef, ast.AsyncFunctionDef)):
                 self.attributes.add(item.name)
-                if any(isinstance(mark, ast.Name) and mark.id == 'property' for mark in item.decorator_list):
+                if any(
+                    isinstance(mark, ast.Name) and mark.id == "property"
+                    for mark in item.decorator_list
+                ):
                     self.types[item.name] = class_of(item.returns)
                 self.look_into(item)
             elif isinstance(item, ast.AnnAssign) and isinstance(item.target, ast.Name):
                 self.note(item.target.id, class_of(item.annotation))
             elif isinstance(item, ast.Assign):
-                self.attributes |= {target.id for target in item.targets if isinstance(target, ast.Name)}
+                self.attributes |= {
+                    target.id for target in item.targets if isinstance(target, ast.Name)
+                }
 
     def note(self, name: str, kind: str) -> None:
         """An attribute, and its class where it is known."""
@@ -55,7 +69,7 @@ class Class:
             if isinstance(node, ast.AnnAssign):
                 self.note(of_self(node.target), class_of(node.annotation))
             for target, value in pairs(node):
-                kind = kinds.get(value.id, '') if isinstance(value, ast.Name) else ''
+                kind = kinds.get(value.id, "") if isinstance(value, ast.Name) else ""
                 if isinstance(value, ast.Call) and isinstance(value.func, ast.Name):
                     kind = value.func.id
                 self.note(of_self(target), kind)
@@ -63,7 +77,13 @@ class Class:
 
 def of_self(node: ast.expr) -> str:
     """The name of an attribute of the object itself; empty where this is something else."""
-    return node.attr if isinstance(node, ast.Attribute) and isinstance(node.value, ast.Name) and node.value.id == 'self' else ''
+    return (
+        node.attr
+        if isinstance(node, ast.Attribute)
+        and isinstance(node.value, ast.Name)
+        and node.value.id == "self"
+        else ""
+    )
 
 
 def pairs(node: ast.AST) -> Iterator[Tuple[ast.expr, Optional[ast.expr]]]:
@@ -93,10 +113,11 @@ class Package:
     def __init__(self) -> None:
         self.trees: Dict[str, ast.Module] = {}
         self.classes: Dict[str, List[Class]] = {}
-        for name in sorted(os.listdir(MODULES)):
-            if name.endswith('.py'):
-                with open(os.path.join(MODULES, name), encoding='utf-8') as file:
-                    self.trees[name] = ast.parse(file.read())
+        for folder, _, names in sorted(os.walk(MODULES)):
+            for name in sorted(name for name in names if name.endswith(".py")):
+                path = os.path.join(folder, name)
+                with open(path, encoding="utf-8") as file:
+                    self.trees[os.path.relpath(path, MODULES)] = ast.parse(file.read())
         for tree in self.trees.values():
             for node in ast.walk(tree):
                 if isinstance(node, ast.ClassDef):
@@ -105,27 +126,38 @@ class Package:
     def known(self, name: str) -> Optional[Class]:
         """The class of a name that only one has, all of whose bases are known."""
         found = self.classes.get(name, [])
-        if len(found) != 1 or any(base not in FREE and self.known(base) is None for base in found[0].bases):
+        if len(found) != 1 or any(
+            base not in FREE and self.known(base) is None for base in found[0].bases
+        ):
             return None
         return found[0]
 
     def has(self, one: Class, attribute: str) -> bool:
         """Whether a class or one of its bases has it."""
-        if attribute in one.attributes or attribute.startswith('__') or 'TypedDict' in one.bases:
+        if attribute in one.attributes or attribute.startswith("__") or "TypedDict" in one.bases:
             return True
-        if 'NamedTuple' in one.bases and attribute in OF_TUPLE:
+        if "NamedTuple" in one.bases and attribute in OF_TUPLE:
             return True
         return any(self.has(base, attribute) for base in map(self.known, one.bases) if base)
 
     def type_of(self, one: Class, attribute: str) -> str:
         """The class of an attribute, where it is known."""
-        found = one.types.get(attribute, '')
-        return found or next((kind for kind in (self.type_of(base, attribute) for base in map(self.known, one.bases) if base) if kind), '')
+        found = one.types.get(attribute, "")
+        return found or next(
+            (
+                kind
+                for kind in (
+                    self.type_of(base, attribute) for base in map(self.known, one.bases) if base
+                )
+                if kind
+            ),
+            "",
+        )
 
     def resolve(self, node: ast.expr, kinds: Dict[str, str]) -> Optional[Class]:
         """The class of an expression."""
         if isinstance(node, ast.Name):
-            return self.known(kinds.get(node.id, ''))
+            return self.known(kinds.get(node.id, ""))
         if isinstance(node, ast.Attribute):
             outer = self.resolve(node.value, kinds)
             return self.known(self.type_of(outer, node.attr)) if outer else None
@@ -137,12 +169,17 @@ def functions_of(tree: ast.Module) -> Iterator[Tuple[Function, str]]:
     for node in ast.walk(tree):
         for item in ast.iter_child_nodes(node):
             if isinstance(item, (ast.FunctionDef, ast.AsyncFunctionDef)):
-                yield item, node.name if isinstance(node, ast.ClassDef) else ''
+                yield item, node.name if isinstance(node, ast.ClassDef) else ""
 
 
 def reassigned(function: Function) -> Set[str]:
     """Names that a function gives another value."""
-    return {target.id for node in ast.walk(function) for target, _ in pairs(node) if isinstance(target, ast.Name)}
+    return {
+        target.id
+        for node in ast.walk(function)
+        for target, _ in pairs(node)
+        if isinstance(target, ast.Name)
+    }
 
 
 class Names(unittest.TestCase):
@@ -154,7 +191,7 @@ class Names(unittest.TestCase):
         for module, tree in package.trees.items():
             for function, owner in functions_of(tree):
                 kinds = parameters(function)
-                kinds['self'] = owner
+                kinds["self"] = owner
                 for name in reassigned(function):
                     kinds.pop(name, None)
                 for node in ast.walk(function):
@@ -163,7 +200,9 @@ class Names(unittest.TestCase):
                     one = package.resolve(node.value, kinds)
                     looked += one is not None
                     if one is not None and not package.has(one, node.attr):
-                        wrong.append('%s: %d: %s has no %s' % (module, node.lineno, one.name, node.attr))
+                        wrong.append(
+                            "%s: %d: %s has no %s" % (module, node.lineno, one.name, node.attr)
+                        )
         self.assertEqual(wrong, [])
         self.assertGreater(looked, 1000)
 
@@ -173,19 +212,33 @@ class Names(unittest.TestCase):
         for module, tree in package.trees.items():
             for function, owner in functions_of(tree):
                 kinds = parameters(function)
-                kinds['self'] = owner
+                kinds["self"] = owner
                 for name in reassigned(function):
                     kinds.pop(name, None)
                 for node in ast.walk(function):
-                    called = self.called(package, node, kinds) if isinstance(node, ast.Call) else None
+                    called = (
+                        self.called(package, node, kinds) if isinstance(node, ast.Call) else None
+                    )
                     if called is None or not isinstance(node, ast.Call):
                         continue
                     looked += 1
                     least, most, names = self.takes(called)
                     given = len(node.args) + len([word for word in node.keywords if word.arg])
-                    starred = any(isinstance(word, ast.Starred) for word in node.args) or any(word.arg is None for word in node.keywords)
-                    if not starred and not least <= given <= most or any(word.arg and word.arg not in names and most < 99 for word in node.keywords):
-                        wrong.append('%s: %d: %s takes %d to %d words, and gets %d' % (module, node.lineno, called.name, least, most, given))
+                    starred = any(isinstance(word, ast.Starred) for word in node.args) or any(
+                        word.arg is None for word in node.keywords
+                    )
+                    if (
+                        not starred
+                        and not least <= given <= most
+                        or any(
+                            word.arg and word.arg not in names and most < 99
+                            for word in node.keywords
+                        )
+                    ):
+                        wrong.append(
+                            "%s: %d: %s takes %d to %d words, and gets %d"
+                            % (module, node.lineno, called.name, least, most, given)
+                        )
         self.assertEqual(wrong, [])
         self.assertGreater(looked, 300)
 
@@ -195,11 +248,18 @@ class Names(unittest.TestCase):
         if isinstance(node.func, ast.Attribute):
             one, name = package.resolve(node.func.value, kinds), node.func.attr
         elif isinstance(node.func, ast.Name):
-            one, name = package.known(node.func.id), '__init__'
+            one, name = package.known(node.func.id), "__init__"
         else:
             return None
         while one is not None:
-            found = next((item for item in one.node.body if isinstance(item, ast.FunctionDef) and item.name == name), None)
+            found = next(
+                (
+                    item
+                    for item in one.node.body
+                    if isinstance(item, ast.FunctionDef) and item.name == name
+                ),
+                None,
+            )
             if found is not None or len(one.bases) != 1:
                 return found
             one = package.known(one.bases[0])
@@ -210,11 +270,14 @@ class Names(unittest.TestCase):
         """The least and the most words of a method, and their names."""
         given = function.args
         names = [one.arg for one in given.posonlyargs + given.args + given.kwonlyargs]
-        static = any(isinstance(mark, ast.Name) and mark.id == 'staticmethod' for mark in function.decorator_list)
+        static = any(
+            isinstance(mark, ast.Name) and mark.id == "staticmethod"
+            for mark in function.decorator_list
+        )
         names = names if static else names[1:]
         defaults = len(given.defaults) + len([one for one in given.kw_defaults if one is not None])
         return len(names) - defaults, 99 if given.vararg or given.kwarg else len(names), set(names)
 
 
-if __name__ == '__main__':
+if __name__ == "__main__":
     unittest.main()

@@ -1,0 +1,1 @@
+"""The pipe to `farmdawn serve`, and what is said there."""

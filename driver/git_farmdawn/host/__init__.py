@@ -1,0 +1,1 @@
+"""This machine: files, children and their ends, timers and signals."""

@@ -1,0 +1,1 @@
+"""The words of a line, and what they mean in this repository."""

@@ -1,0 +1,1 @@
+"""The report: its facts, and what is made of them."""

@@ -1,0 +1,1 @@
+"""git's commands and names, and the history as a stream."""

@@ -1,0 +1,1 @@
+"""Who tests what, and when it ends; answers that are tested again."""
