@@ -57,6 +57,7 @@ search_jobs() {
     env --default-signal=INT "$driver/git-farmdawn" --fresh "$@" main main~15 -- sh -c 'farmdawn-srun "$0" -- sh -c "$1"; exit $?' --job-name=$job "$on_node" >log 2>told </dev/null
 }
 three_run() { [ "$(squeue -h --me -n $job -t running -o %i | wc -l)" -eq 3 ]; }
+three_began() { [ "$(cat ../began 2>/dev/null | wc -l)" -eq 3 ]; }
 no_job() { [ -z "$(squeue -h --me -n $job -o %i)" ]; }
 is_over() { [ -z "$(ls -d .git/farmdawn/run.* 2>/dev/null)" ]; }
 
@@ -90,9 +91,10 @@ needs_left() { needs_ends && has pgrep; }
 test_left() {
     make_line 16 5
     export FARMDAWN="$farmdawn"
-    job=farmdawn-test-$$ on_node='exec sleep 600'
+    job=farmdawn-test-$$ on_node="echo >>'$PWD/../began'; exec sleep 600"
     search_jobs --workers 3 &
-    wait_beside $! three_run
+    # before that Slurm gives up a job whose srun is killed
+    wait_beside $! three_began
     # stopped until none of them begins another one
     killed=
     while found=$(pgrep -f -- "--job-name=$job") && [ "$found" != "$killed" ]; do
@@ -103,7 +105,7 @@ test_left() {
     # shellcheck disable=SC2086
     kill -s KILL $killed 2>/dev/null
     wait $!
-    expect 'the jobs are left' three_run
+    wait_until 'the jobs are left' three_run
     on_node='test ! -e bug'
     search_jobs --workers 2
     expect 'the answer' [ "$(tail -n 1 log)" = "$(first_bad main~10)" ]
