@@ -4,6 +4,7 @@ from __future__ import annotations
 import fcntl
 import os
 import time
+from subprocess import DEVNULL
 from typing import TYPE_CHECKING, Dict, Generator, NamedTuple, Optional, Union
 
 from ..host.loop import Loop
@@ -60,10 +61,10 @@ class Shop:
         """Starts a command of git."""
         return Child(self.loop, self.keeper, Command([*PLAIN, *words], self.env, out=out))
 
-    def ask(self, words: list[str], given: str, out: int) -> Child:
+    def ask(self, words: list[str], given: int, out: int) -> Child:
         """Starts one whose output is read, without what it warns of, and which reads a file."""
-        script = ["sh", "-c", 'exec "$@" <"$0" 2>/dev/null', given, *PLAIN, *words]
-        return Child(self.loop, self.keeper, Command(script, self.env, out=out))
+        command = Command([*PLAIN, *words], self.env, out=DEVNULL, own_out=out, given=given)
+        return Child(self.loop, self.keeper, command)
 
 
 class Checkout:
@@ -140,9 +141,9 @@ class Checkout:
 
     def open(self) -> Folder:
         """The folder's files."""
-        scratch = os.path.join(self.shop.run.state, f"git-{self.number}")
-        kept = self.place.kept if self.place is not None else scratch
-        return Folder(self.shop, self.folder, kept, scratch)
+        state = self.shop.run.state
+        kept = os.path.join(state, f"git-{self.number}") if self.place is None else self.place.kept
+        return Folder(self.shop, self.folder, kept, state)
 
     def check_out(self, log: int, commit: str) -> Steps:
         """Makes the folder the commit's tree; files that git ignores stay, unless each commit is to

@@ -4,9 +4,10 @@ from __future__ import annotations
 
 import os
 import time
+from subprocess import DEVNULL
 from typing import TYPE_CHECKING, Dict, Generator, List, Optional, Union
 
-from ..host.files import content
+from ..host.files import open_unnamed
 from ..host.process import Child
 from ..repository.original import Original
 from .gitfolder import STAYS, GitFolder, Modules
@@ -24,7 +25,7 @@ if TYPE_CHECKING:
         def start(self, words: List[str], out: Optional[int]) -> Child:
             """A command of git."""
 
-        def ask(self, words: List[str], given: str, out: int) -> Child:
+        def ask(self, words: List[str], given: int, out: int) -> Child:
             """One whose output is read, and that reads a file."""
 
 
@@ -39,7 +40,8 @@ Moves = Generator[Union[Child, float], object, List[Change]]
 
 class Folder:
     """A folder with a git folder of its own, its files, and its submodules. What is known of them
-    is written to files whose names begin with `kept`, and what git is asked with `scratch`."""
+    is written to files whose names begin with `kept`. What git says is in files without a name in
+    the folder `scratch`."""
 
     def __init__(self, starts: Starts, path: str, kept: str, scratch: str) -> None:
         self.starts, self.path, self.kept, self.scratch = starts, path, kept, scratch
@@ -62,12 +64,17 @@ class Folder:
 
     def ask(self, words: List[str], at: str = "", given: bytes = b"") -> Answers:
         """What a command of git says, which gets this as its input."""
-        asked, said = self.scratch + ".asked", self.scratch + ".said"
-        with open(asked, "wb") as file:
-            file.write(given)
-        with open(said, "wb") as out:
-            yield from ended(self.starts.ask(["-C", self.path + at, *words], asked, out.fileno()))
-        return content(said)
+        whole = ["-C", self.path + at, *words]
+        with open(open_unnamed(self.scratch), "w+b") as said:
+            if not given:
+                yield from ended(self.starts.ask(whole, DEVNULL, said.fileno()))
+            else:
+                with open(open_unnamed(self.scratch), "w+b") as asked:
+                    asked.write(given)
+                    asked.seek(0)
+                    yield from ended(self.starts.ask(whole, asked.fileno(), said.fileno()))
+            said.seek(0)
+            return said.read()
 
     # -- what is not the commit's -------------------------------------------------
 

@@ -9,7 +9,7 @@ import time
 from typing import TYPE_CHECKING, Callable, Dict, Generator, List, Optional, Union
 
 from ..host.ended import Ended
-from ..host.files import NoRoom, content, has_room, is_scarce, kind_of_log
+from ..host.files import NoRoom, content, has_room, is_scarce, kind_of_log, one_a_disk
 from ..host.loop import Cancelled
 from ..host.process import GRACE, Child, Command, end_holders
 from ..telling.facts import FIRST_STOP, SKIP, turned
@@ -482,7 +482,7 @@ class Trials:
     def look_for_room(self, claim: Claim) -> None:
         """Raises NoRoom where a disk is full: a test gives no verdict there."""
         kept = claim.test.outcomes
-        for place in (self.run.state, kept.log_dir, kept.folder):
+        for place in one_a_disk((self.run.state, kept.log_dir, kept.folder)):
             if not has_room(place):
                 raise NoRoom(place)
         if claim.lacked_room:

@@ -7,7 +7,7 @@ import os
 import re
 from typing import Dict, Generator, Sequence, Union
 
-from ..host.files import write_whole
+from ..host.files import open_unnamed, write_whole
 from ..host.process import Child
 from ..line.versions import Own, Patch
 from ..telling.facts import NAME
@@ -52,7 +52,7 @@ class Versions:
     def bring(self, files: Folder, log: int, text: str) -> Steps:
         """Brings a patch, by the contents that it was made of where they are known: so a change
         that came otherwise comes once. What git says is told where it does not fit."""
-        with open(files.scratch + ".said", "w+b") as said:
+        with open(open_unnamed(files.scratch), "w+b") as said:
             words = [*APPLY, "--3way", *self.without, text]
             if (yield from files.git(said.fileno(), *words)):
                 return True
@@ -74,7 +74,8 @@ class Versions:
     def fits(self, files: Folder, log: int, text: str, *words: str) -> Steps:
         """Whether a patch could be applied."""
         asked = ["-C", files.path, *APPLY, "--check", *words, *self.without]
-        return (yield from ended(files.starts.ask(asked, text, log)))
+        with open(text, "rb") as patch:
+            return (yield from ended(files.starts.ask(asked, patch.fileno(), log)))
 
     # -- files of the work tree --------------------------------------------------------
 

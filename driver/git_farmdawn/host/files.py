@@ -4,7 +4,7 @@ from __future__ import annotations
 import errno
 import os
 import stat
-from typing import BinaryIO
+from typing import BinaryIO, Dict, Iterable, List
 
 from ..telling.status import Status
 from ..telling.voice import ME, Stop
@@ -63,7 +63,7 @@ def find_program() -> str:
 PROBE = 65536
 LEAST = 1 << 24  # bytes of a disk, or a quarter of a small one
 FIRST_RUN = ".run1.log"  # the output of a first run whose outcome was taken back
-NEW_FILE = os.O_WRONLY | os.O_CREAT | os.O_EXCL | os.O_CLOEXEC | os.O_NOFOLLOW
+NEW_FILE = os.O_CREAT | os.O_EXCL | os.O_CLOEXEC | os.O_NOFOLLOW
 
 
 class NoRoom(Exception):
@@ -86,12 +86,12 @@ def make_folder(folder: str) -> None:
         ) from None
 
 
-def open_new(path: str) -> int:
+def open_new(path: str, access: int = os.O_WRONLY) -> int:
     """A new file of that name, to which is appended; what had the name before is removed. Another
     search may make and remove files of this name meanwhile."""
     while True:
         try:
-            return os.open(path, NEW_FILE | os.O_APPEND, 0o666)
+            return os.open(path, NEW_FILE | access | os.O_APPEND, 0o666)
         except FileExistsError:
             try:
                 os.unlink(path)
@@ -152,15 +152,15 @@ def copy_state(source: str, target: str) -> None:
     shutil.copystat(source, target)
 
 
-def open_probe(folder: str) -> int:
+def open_unnamed(folder: str) -> int:
     """A file without a name, or where the disk has none, one that is removed at once."""
     try:
-        return os.open(folder, os.O_TMPFILE | os.O_WRONLY | os.O_CLOEXEC, 0o600)
+        return os.open(folder, os.O_TMPFILE | os.O_RDWR | os.O_CLOEXEC, 0o600)
     except OSError as fault:
         if fault.errno not in (errno.EOPNOTSUPP, errno.EISDIR, errno.EINVAL, errno.ENOENT):
             raise
-    path = os.path.join(folder, ".room.%d" % os.getpid())
-    fd = open_new(path)
+    path = os.path.join(folder, ".unnamed.%d" % os.getpid())
+    fd = open_new(path, os.O_RDWR)
     remove(path)
     return fd
 
@@ -175,10 +175,21 @@ def is_scarce(folder: str) -> bool:
     return whole > 0 and left < min(LEAST, whole // 4)
 
 
+def one_a_disk(folders: Iterable[str]) -> List[str]:
+    """Of these folders one for each disk that they are on; one that is gone is none's."""
+    found: Dict[object, str] = {}
+    for folder in folders:
+        try:
+            found[os.stat(folder).st_dev] = folder
+        except OSError:
+            found[folder] = folder
+    return list(found.values())
+
+
 def has_room(folder: str) -> bool:
     """Whether there is room for more than a line."""
     try:
-        fd = open_probe(folder)
+        fd = open_unnamed(folder)
     except OSError:
         return False
     try:

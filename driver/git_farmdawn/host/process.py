@@ -149,7 +149,8 @@ def end_holders(lock: str, exact: bool = False) -> Generator[float, None, bool]:
 class Command(NamedTuple):
     """What is run: its words and environment, its folder, the file for all that it prints, and the
     files that it keeps open. `lock` is the name of one of these, by which it is known whether
-    something of it runs on. Its standard output may have a file of its own."""
+    something of it runs on. Its standard output may have a file of its own, and its standard input
+    one that is given."""
 
     words: Sequence[str]
     env: Mapping[str, str]
@@ -158,6 +159,7 @@ class Command(NamedTuple):
     keep: Sequence[int] = ()
     lock: str = ""
     own_out: Optional[int] = None
+    given: int = subprocess.DEVNULL
 
 
 class Child:
@@ -174,7 +176,7 @@ class Child:
             list(command.words),
             cwd=command.cwd,
             env=dict(command.env),
-            stdin=subprocess.DEVNULL,
+            stdin=command.given,
             stdout=command.out if command.own_out is None else command.own_out,
             stderr=command.out,
             start_new_session=True,
