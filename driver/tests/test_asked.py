@@ -12,11 +12,13 @@ import termios
 import unittest
 from collections import Counter
 from typing import Callable, List, NamedTuple, Tuple
+from unittest import mock
 
 from helpers import ENV, SECONDS, Repository, needs_engine, needs_program, wait_until
 
 sys.path.insert(0, os.path.dirname(os.path.dirname(os.path.abspath(__file__))))
 
+from git_farmdawn.checkouts.asking import Asking  # noqa: E402
 from git_farmdawn.line.named import NamedFiles  # noqa: E402
 from git_farmdawn.repository.repository import Repository as SourceRepository  # noqa: E402
 from git_farmdawn.telling.voice import Telling  # noqa: E402
@@ -123,7 +125,8 @@ class LooksBack(unittest.TestCase):
             with self.subTest(row):
                 if not row.has_tags:
                     repo.sh("git tag | xargs git tag -d")
-                words = [*row.words.split(), "--workers", "3", "--", "sh", "-c", NUMBER + row.test]
+                line = ["--fresh", "--workers", "3", *row.words.split(), "--"]
+                words = [*line, "sh", "-c", NUMBER + row.test]
                 done = repo.search(*words)
                 self.assertEqual(done.returncode, row.status, done.stderr)
                 self.assertIn(row.told, done.stderr)
@@ -302,6 +305,24 @@ class ByHand(unittest.TestCase):
         self.assertEqual(status, 0, told)
         self.assertIn(f"{repo.name('c7')} is the first bad commit", printed)
         self.assertGreater(len(folders), 1)
+
+    def test_turns(self) -> None:
+        """A commit whose turn comes by an answer is not asked about at once: the answer may have
+        made it needless."""
+        with mock.patch("git_farmdawn.checkouts.asking.Terminal") as terminal:
+            terminal.return_value.typed.side_effect = [None, "good", None]
+            asking = Asking(mock.Mock(), mock.Mock(), ("bad", "good"))
+        with mock.patch.object(asking, "show") as show:
+            first, second = [asking.ask(mock.Mock(), mock.Mock(), {}) for _ in range(2)]
+            for steps in (first, second, first, second):
+                next(steps)
+            with self.assertRaises(StopIteration) as end:
+                next(first)
+            self.assertEqual(end.exception.value, 0)
+            next(second)
+            show.assert_called_once()
+            next(second)
+            self.assertEqual(show.call_count, 2)
 
     def test_nobody(self) -> None:
         """Without a terminal a command is wanted."""

@@ -35,10 +35,11 @@ class Asking:
     def ask(self, slot: Slot, claim: Claim, env: Dict[str, str]) -> Steps:
         """What a person says of a commit, as the status of a test; for a task."""
         self.waiting.append(claim)
+        was_first = False
         try:
-            yield LOOK  # behind an answer the search goes on first
-            while self.waiting[0] is not claim:
-                yield LOOK
+            while not was_first or self.waiting[0] is not claim:
+                was_first = self.waiting[0] is claim
+                yield LOOK  # behind an answer the search goes on first
             self.show(slot, claim)
             while True:
                 typed = self.terminal.typed()
