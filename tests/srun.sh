@@ -37,6 +37,20 @@ test_lost_tests() {
     expect 'a missing folder is no verdict' [ $? = 255 ]
 }
 
+# Where srun ends at once, so does what watches it, whatever comes first.
+needs_ended_at_once() { has timeout; }
+test_ended_at_once() {
+    mkdir bin
+    for tool in srun squeue scancel; do printf '#!/bin/sh\nexit 1\n' >bin/$tool && chmod +x bin/$tool; done
+    number=0
+    while [ $number -lt 60 ]; do
+        (PATH=$PWD/bin:$PATH timeout 300 farmdawn-srun --tries 1 -- true name 2>/dev/null; echo $? >>ended) &
+        number=$((number + 1))
+    done
+    wait
+    expect 'each ends, without a verdict' [ "$(sort ended | uniq -c | tr -s ' ')" = ' 60 255' ]
+}
+
 needs_interrupts() { has_slurm && has squeue pgrep; }
 test_interrupts() {
     job=farmdawn-test-$$
