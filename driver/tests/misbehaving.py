@@ -176,8 +176,9 @@ class Misbehaving:
         """Something of git, which writes behind mounts, and behind some links."""
         if mounts_here() or not all(is_ours(os.path.realpath(name)) for name in FOLLOWED):
             return
-        words = self.random.choice(GIT).split()
-        os.spawnvp(os.P_WAIT, "git", ["git", *words])
+        # git waits forever at a pipe that has a name which it reads
+        words = ["timeout", "5", "git", *self.random.choice(GIT).split()]
+        os.spawnvp(os.P_WAIT, "timeout", words)
         head = ["git", "update-ref", "--no-deref", "HEAD", os.environ["FARMDAWN_COMMIT"]]
         os.spawnvp(os.P_WAIT, "git", head)
 
