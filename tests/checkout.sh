@@ -133,7 +133,7 @@ test_folders_stay() {
     done
 }
 
-# A folder that a process writes to all the time is left in the end, and told of.
+# A folder that a process writes to all the time is left in the end, and told of. On a busy machine it writes now and then.
 needs_left() { has_program && has python3; }
 test_left() {
     numbers >stream
@@ -147,12 +147,15 @@ while os.path.exists("go"):
     except OSError:
         pass
 X
-    : >go
     # shellcheck disable=SC2016 # the words are those of the inner shell
     writes='[ "$(cat "$1/n")" -le 7 ]; status=$?; mkdir begun && { python3 writer.py "$1" & while [ ! -e "$1/x" ]; do sleep 0.01; done; }; exit $status'
-    FARMDAWN_QUIET=1 "$farmdawn" checkout run m m~15 -- sh -c "$writes" sh <stream >log 2>told
-    expect 'a run ends well' [ $? -eq 0 ]
-    rm go
+    for _ in 1 2 3 4 5 6 7 8 9 10; do
+        : >go
+        FARMDAWN_QUIET=1 "$farmdawn" checkout run m m~15 -- sh -c "$writes" sh <stream >log 2>told
+        expect 'a run ends well' [ $? -eq 0 ]
+        rm -r go begun
+        ! grep -q '^farmdawn: the folder' told || break
+    done
     expect "its answer: $(tail -n 1 log)" grep -q '^# first bad commit: .* c08$' log
     expect "a folder is told of: $(cat told)" grep -q '^farmdawn: the folder bisect-trees/[0-9]* is left: ' told
 }

@@ -51,6 +51,36 @@ test_ended_at_once() {
     expect 'each ends, without a verdict' [ "$(sort ended | uniq -c | tr -s ' ')" = ' 60 255' ]
 }
 
+# What watches srun ends when the test has begun. Its number may be that of another process then, which is left alone.
+needs_numbers() {
+    missing='root, and a kernel that lets the next number of a process be chosen'
+    has timeout unshare pgrep && unshare --pid --fork --mount-proc sh -c 'echo 40 >/proc/sys/kernel/ns_last_pid' 2>/dev/null
+}
+test_numbers() {
+    mkdir bin
+    for tool in squeue scancel; do printf '#!/bin/sh\nexit 1\n' >bin/$tool && chmod +x bin/$tool; done
+    printf '#!/bin/sh\nuntil [ -e go ]; do sleep 0.1; done\nwhile [ "$1" != sh ]; do shift; done\nexec "$@"\n' >bin/srun && chmod +x bin/srun
+    # shellcheck disable=SC2016 # the words are those of the inner shell
+    PATH=$PWD/bin:$PATH timeout 300 unshare --pid --fork --mount-proc sh -c '
+        farmdawn-srun --tries 1 -- sh -c "while [ ! -e on ]; do sleep 0.1; done; exit 3" name 2>told &
+        test=$!
+        until watch=$(ps -o ppid= -p "$(pgrep -f "^sleep [0-9]+$")" 2>/dev/null); do sleep 0.1; done
+        touch go
+        while [ -e /proc/$((watch)) ]; do sleep 0.1; done
+        other=0
+        until [ "$other" -eq "$watch" ]; do
+            echo $((watch - 1)) >/proc/sys/kernel/ns_last_pid
+            sleep 100 &
+            other=$!
+        done
+        touch on
+        wait $test
+        echo $? >status
+        ps -o comm= -p $other >other'
+    expect 'its status' [ "$(cat status)" = 3 ]
+    expect 'another process that has the number lives on' [ "$(cat other)" = sleep ]
+}
+
 needs_interrupts() { has_slurm && has squeue pgrep; }
 test_interrupts() {
     job=farmdawn-test-$$

@@ -280,8 +280,8 @@ class Hosts(unittest.TestCase):
         repo = Repository(self)
         command = (
             'echo >"$FARMDAWN_HOST_FILE"; test "$FARMDAWN_TIMEOUT" = 2 || exit 9; sleep 4; '
-            'echo node >"$FARMDAWN_HOST_FILE"; n=$(cat number); [ $n -ne 6 ] || sleep 60; '
-            "test $n -lt 8"
+            f"n=$(cat number); date +%s.%N >{repo.room}/at.$n; "
+            'echo node >"$FARMDAWN_HOST_FILE"; [ $n -ne 6 ] || sleep 60; test $n -lt 8'
         )
         words: Tuple[str, ...] = ("--trust-ends", "--timeout", "2s", "--workers", "1")
         words += ("--report", repo.room + "/report", *repo.ends())
@@ -295,7 +295,8 @@ class Hosts(unittest.TestCase):
         for one in tests:
             is_late = one["subject"] == "change 6"
             self.assertEqual(one["outcome"] == "skipped", is_late, one)
-            self.assertLess(one["ended"] - one["began"], 3.9 + 60 * is_late, one)
+            with open(f"{repo.room}/at.{one['subject'].split()[1]}", encoding="ascii") as file:
+                self.assertGreater(one["began"] + 0.01, float(file.read()), one)
         self.assertTrue(any(one["outcome"] == "skipped" for one in tests))
 
     def test_lost(self) -> None:
