@@ -37,7 +37,8 @@ test_paths() {
     cd ../.. || exit 1
     expect 'outcomes are kept for all paths' [ -z "$(find ../logs -name '*.log' | sed 's|.*/||' | sort | uniq -d)" ]
     git farmdawn --path in/odd main~3 main~9 -- sh -c "$command" >log
-    expect 'git takes the log' sh -c 'git bisect replay log | grep -q "is the first bad commit"'
+    # newer ones put the term in quotes
+    expect 'git takes the log' sh -c 'git bisect replay log | grep -qE "is the first .?bad.? commit"'
     git bisect reset >/dev/null 2>&1
     expect 'the bad end is what is left' [ "$(answer_of git farmdawn --path in/side main~4 main~9 -- sh -c "$command")" = "$(first_bad main~4)" ]
     expect 'which is told' grep -q "none of the commits that change these paths is bad, and $(git rev-parse main~4) changes none of them" told
