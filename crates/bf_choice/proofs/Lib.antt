@@ -6,6 +6,7 @@ pub mod Checked
 pub mod Counting
 pub mod Steps
 pub mod Rows
+pub mod SharedNumbers
 pub mod MergeCounts
 pub mod Numbered
 pub mod Cutting

@@ -1,25 +1,31 @@
 -- Lemmas on the rows of a block.
 use Rattle.std.proofs.Common.{◌≡◌, ℕ, zero, suc, ◌+◌, ◌<◌, ◌≤◌, Bool, true, false, cond, ◌||◌, ◌==◌, List, [], ◌∷◌, length, get_or, set, take, map, replicate}
-use Rattle.std.proofs.Common.{refl, ap, sym, ◌∙◌, subst, ⊎_elim, eq-eqb, arith}
+use Rattle.std.proofs.Common.{refl, ap, sym, ◌∙◌, eq-eqb, arith}
 use Rattle.std.proofs.Math.Bool.{or_assoc}
-use Rattle.std.proofs.lemmas.Bool.{cases_eq, ne_eqb}
-use Rattle.std.proofs.lemmas.List.{length-set, get_or-set_same, get_or-set_other, get_or-replicate, length-replicate, set-set}
-use Rattle.std.proofs.lemmas.List.Elements.{All-head, All-tail}
-use Rattle.std.proofs.lemmas.List.Sums.{sum_by-cons, fold_more}
+use Rattle.std.proofs.lemmas.Bool.{ne_eqb}
+use Rattle.std.proofs.lemmas.List.Folds.{list_any_more, sum_by-replicate}
+use Rattle.std.proofs.lemmas.List.Sums.{sum_by-cons}
 use Rattle.std.proofs.lemmas.Simd.{zip2_of_maps}
-use Rattle.std.specs.List.{All, list_any, count_by, range_with_len}
+use Rattle.std.proofs.lemmas.List.FromFn.{length-map-range_with_len}
+use Rattle.std.specs.List.{list_any, count_by, range_with_len}
 use Rattle.std.specs.Simd.Lanes.{zip2}
 use Rattle.bf_graph.specs.Graph.{parents_of, IsGraph}
-use Rattle.bf_reach.specs.Blocks.{row_at, empty_row}
+use Rattle.bf_reach.specs.Blocks.{empty_row}
 use Rattle.bf_search.specs.Reach.{reaches}
 use Rattle.bf_choice.specs.Counted.{count_below}
-use Rattle.bf_choice.specs.BlockRows.{columns, block_row, own_row, or_rows, HasBlockRows}
+use Rattle.bf_choice.specs.Sizes.{parentage_of}
+use Rattle.bf_choice.specs.declared.parents.Parentage.TheVariants.{Single}
+use Rattle.bf_choice.specs.BlockRows.{columns, block_row, own_row, joined_row}
 use Rattle.bf_choice.proofs.Counting.{count_by-range_with_len}
-use Rattle.bf_choice.proofs.Steps.{reaches_step, reaches_later}
+use Rattle.bf_choice.proofs.Steps.{reaches_step, reaches_later, reaches_single}
 
 pub map-same : (f g : ℕ → Bool) → ((q : ℕ) → f q ≡ g q) → (qs : List ℕ) → map f qs ≡ map g qs
 map-same f g h [] = refl
 map-same f g h (q ∷ qs) = rw (h q, map-same f g h qs)
+
+map-same_in : (a k : ℕ) (f g : ℕ → Bool) → ((q : ℕ) → a ≤ q → q < a + k → f q ≡ g q) → map f (range_with_len a k) ≡ map g (range_with_len a k)
+map-same_in a zero f g h = refl
+map-same_in a (suc k) f g h = rw (h a (omega arith) (omega arith), map-same_in (a + 1) k f g (λ q low high. h q (omega arith) (omega arith)))
 
 -- ---- an empty row, and a row with one place
 
@@ -61,6 +67,18 @@ pub own_row-past : (start p : ℕ) → start + 512 ≤ p → empty_row ≡ own_r
 unfolding own_row
 own_row-past start p l = empty_row-is ∙ none_in_short p start columns (omega (arith, columns-is))
 
+-- an empty row joins nothing
+or_none : (row : List Bool) (k : ℕ) → length row ≡ k → zip2 ◌||◌ row (replicate k false) ≡ row
+or_none [] zero e = refl
+or_none [] (suc k) e = absurd (omega (arith, e))
+or_none (b ∷ row) zero e = absurd (omega (arith, e))
+or_none (b ∷ row) (suc k) e =
+    ap (λ (rest : List Bool). (b || false) ∷ rest) (or_none row k (omega (arith, e)))
+    ∙ ap (λ (first : Bool). first ∷ row) (elim b as (λ b. (b || false) ≡ b) [ true ↦ refl | false ↦ refl ])
+
+pub or_empty : (row : List Bool) → length row ≡ 512 → zip2 ◌||◌ row empty_row ≡ row
+or_empty row e = ap (λ (other : List Bool). zip2 ◌||◌ row other) empty_row-is ∙ or_none row columns (e ∙ sym columns-is)
+
 -- a place before the block reaches none of it
 pub block_row-before : (graph : List (List ℕ)) (start p : ℕ) → IsGraph graph → p < start → empty_row ≡ block_row graph start p
 unfolding block_row
@@ -68,69 +86,59 @@ block_row-before graph start p g l = empty_row-is ∙ none_from (reaches graph p
 
 -- ---- a row joined with the rows of its parents
 
-or_rows-maps : (qs : List ℕ) (blocks : List (List Bool)) (g : ℕ → ℕ → Bool) (f : ℕ → Bool) (row : List Bool) (ps : List ℕ) → row ≡ map f qs
-    → All (λ p. row_at blocks p ≡ map (g p) qs) ps
-    → or_rows blocks row ps ≡ map (λ q. f q || list_any (λ p. g p q) ps) qs
-or_rows-maps qs blocks g f row [] e all = e ∙ map-same f (λ q. f q || false) (λ q. elim (f q) as (λ b. b ≡ (b || false)) [ true ↦ refl | false ↦ refl ]) qs
-or_rows-maps qs blocks g f row (p ∷ ps) e all =
-    or_rows-maps qs blocks g (λ q. f q || g p q) (zip2 ◌||◌ row (row_at blocks p)) ps
-    (zip2_of_maps ◌||◌ f (g p) qs e (All-head (λ r. row_at blocks r ≡ map (g r) qs) p ps all))
-    (All-tail (λ r. row_at blocks r ≡ map (g r) qs) p ps all)
-    ∙ map-same (λ q. (f q || g p q) || list_any (λ r. g r q) ps) (λ q. f q || (g p q || list_any (λ r. g r q) ps))
-    (λ q. or_assoc (f q) (g p q) (list_any (λ r. g r q) ps)) qs
+-- without a parent there is the place itself
+pub joined_row-start : (graph : List (List ℕ)) (start p : ℕ) → own_row start p ≡ joined_row graph start p []
+unfolding own_row joined_row
+joined_row-start graph start p = map-same (λ q. p == q) (λ q. (p == q) || false)
+    (λ q. elim (p == q) as (λ b. b ≡ (b || false)) [ true ↦ refl | false ↦ refl ]) (range_with_len start columns)
 
--- the row of a place is its own with those of its parents
-pub block_row-from_parents : (graph : List (List ℕ)) (start p : ℕ) (blocks : List (List Bool)) → IsGraph graph
-    → All (λ r. row_at blocks r ≡ block_row graph start r) (parents_of graph p)
-    → or_rows blocks (own_row start p) (parents_of graph p) ≡ block_row graph start p
-unfolding block_row own_row
-block_row-from_parents graph start p blocks g all =
-    or_rows-maps (range_with_len start columns) blocks (reaches graph) (λ q. p == q) (map (λ q. p == q) (range_with_len start columns)) (parents_of graph p)
-    refl all
-    ∙ map-same (λ q. (p == q) || list_any (λ r. reaches graph r q) (parents_of graph p)) (reaches graph p) (λ q. sym (reaches_step graph p q g))
+-- a parent more
+pub joined_row-more : (graph : List (List ℕ)) (start p : ℕ) (parents : List ℕ) (k : ℕ) → k < length parents
+    → zip2 ◌||◌ (joined_row graph start p (take k parents)) (block_row graph start (get_or parents k 0)) ≡ joined_row graph start p (take (k + 1) parents)
+unfolding joined_row block_row
+joined_row-more graph start p parents k l =
+    zip2_of_maps ◌||◌ (λ q. (p == q) || list_any (λ r. reaches graph r q) (take k parents)) (reaches graph (get_or parents k 0)) (range_with_len start columns)
+    refl refl
+    ∙ map-same (λ q. ((p == q) || list_any (λ r. reaches graph r q) (take k parents)) || reaches graph (get_or parents k 0) q)
+    (λ q. (p == q) || list_any (λ r. reaches graph r q) (take (k + 1) parents))
+    (λ q. or_assoc (p == q) (list_any (λ r. reaches graph r q) (take k parents)) (reaches graph (get_or parents k 0) q)
+    ∙ ap (λ (b : Bool). (p == q) || b) (sym (list_any_more (λ r. reaches graph r q) parents k 0 l)))
     (range_with_len start columns)
 
--- What filling one more row leaves: first the place is marked in it, then the rows of its parents are joined to it.
-pub HasBlockRows-more : (graph : List (List ℕ)) (start p : ℕ) (blocks own filled : List (List Bool)) → IsGraph graph → p < length graph
-    → HasBlockRows graph start p blocks
-    → own ≡ set blocks p (own_row start p) → filled ≡ set own p (or_rows own (row_at own p) (parents_of graph p)) → HasBlockRows graph start (p + 1) filled
-HasBlockRows-more graph start p blocks own filled g l has own-is filled-is = record {
-  rows = ap (λ (b : List (List Bool)). length b) filled-is ∙ length-set own p _ ∙ own_long;
-  filled = λ q below within.
-      ⊎_elim
-      (λ (e : q ≡ p). subst (λ (x : ℕ). row_at filled x ≡ block_row graph start x) (sym e) here)
-      (λ (n : q ≡ p → ⊥). other q n ∙ has.filled q (omega arith) within)
-      (cases_eq q p);
-  empty = λ q above within. other q (λ e. omega arith) ∙ has.empty q (omega arith) within;
-}
-  where
-    own_long : length own ≡ length graph
-    own_long = ap (λ (b : List (List Bool)). length b) own-is ∙ length-set blocks p _ ∙ has.rows
+length-joined_row : (graph : List (List ℕ)) (start p : ℕ) (parents : List ℕ) → length (joined_row graph start p parents) ≡ 512
+unfolding joined_row
+length-joined_row graph start p parents =
+    length-map-range_with_len (λ (q : ℕ). (p == q) || list_any (λ r. reaches graph r q) parents) start columns ∙ columns-is
 
-    own_other : (q : ℕ) → (q ≡ p → ⊥) → row_at own q ≡ row_at blocks q
-    own_other q n = ap (λ (b : List (List Bool)). row_at b q) own-is ∙ get_or-set_other blocks p q _ [] n
+-- a parent that reaches no place of the block adds none
+pub joined_row-none : (graph : List (List ℕ)) (start p : ℕ) (parents : List ℕ) (k : ℕ) → k < length parents
+    → empty_row ≡ block_row graph start (get_or parents k 0) → joined_row graph start p (take k parents) ≡ joined_row graph start p (take (k + 1) parents)
+joined_row-none graph start p parents k l none =
+    sym (or_empty (joined_row graph start p (take k parents)) (length-joined_row graph start p (take k parents)))
+    ∙ ap (λ (row : List Bool). zip2 ◌||◌ (joined_row graph start p (take k parents)) row) none
+    ∙ joined_row-more graph start p parents k l
 
-    other : (q : ℕ) → (q ≡ p → ⊥) → row_at filled q ≡ row_at blocks q
-    other q n = ap (λ (b : List (List Bool)). row_at b q) filled-is ∙ get_or-set_other own p q _ [] n ∙ own_other q n
+-- with all of its parents it is the row of the place
+pub joined_row-whole : (graph : List (List ℕ)) (start p : ℕ) → IsGraph graph → joined_row graph start p (parents_of graph p) ≡ block_row graph start p
+unfolding joined_row block_row
+joined_row-whole graph start p g = map-same (λ q. (p == q) || list_any (λ r. reaches graph r q) (parents_of graph p)) (reaches graph p)
+    (λ q. sym (reaches_step graph p q g)) (range_with_len start columns)
 
-    own_here : row_at own p ≡ own_row start p
-    own_here = ap (λ (b : List (List Bool)). row_at b p) own-is ∙ get_or-set_same blocks p (own_row start p) [] (omega (arith, has.rows))
-
-    parents_filled : All (λ r. row_at own r ≡ block_row graph start r) (parents_of graph p)
-    parents_filled = λ k d within. let below : get_or (parents_of graph p) k d < p = g.earlier p k d within in own_other _ (λ e. omega arith) ∙ has.filled _
-        below (omega arith)
-
-    here : row_at filled p ≡ block_row graph start p
-    here =
-        ap (λ (b : List (List Bool)). row_at b p) filled-is ∙ get_or-set_same own p _ [] (omega (arith, own_long))
-        ∙ ap (λ (row : List Bool). or_rows own row (parents_of graph p)) own_here
-        ∙ block_row-from_parents graph start p own g parents_filled
+-- past the block the row of a place with a single parent is that of its parent
+pub block_row-shared : (graph : List (List ℕ)) (start p only : ℕ) → IsGraph graph → start + 512 ≤ p → parentage_of (parents_of graph p) ≡ Single only
+    → block_row graph start only ≡ block_row graph start p
+unfolding block_row
+block_row-shared graph start p only g l single = map-same_in start columns (reaches graph only) (reaches graph p)
+    (λ q low high. sym (reaches_single graph p only q g single (omega (arith, columns-is))))
 
 pub count_by-map : (f : ℕ → Bool) (qs : List ℕ) → count_by (λ v. v) (map f qs) ≡ count_by f qs
 count_by-map f [] = refl
 count_by-map f (q ∷ qs) =
     sum_by-cons (λ (v : Bool). cond v 1 0) (f q) (map f qs) ∙ ap (λ (n : ℕ). cond (f q) 1 0 + n) (count_by-map f qs) ∙ sym
     (sum_by-cons (λ x. cond (f x) 1 0) q qs)
+
+pub count_by-empty : count_by (λ v. v) empty_row ≡ 0
+count_by-empty = ap (λ (row : List Bool). count_by (λ v. v) row) empty_row-is ∙ sum_by-replicate (λ (v : Bool). cond v 1 0) columns false ∙ omega arith
 
 -- what a place reaches before a block and in it
 pub count_below-block : (graph : List (List ℕ)) (start p : ℕ)
@@ -140,34 +148,3 @@ count_below-block graph start p =
     ap (λ (n : ℕ). count_below (reaches graph p) start + n) (count_by-map (reaches graph p) (range_with_len start columns)) ∙ count_by-range_with_len
     (reaches graph p) start columns
     ∙ ap (λ (n : ℕ). count_below (reaches graph p) (start + n)) columns-is
-
--- before any row is filled
-pub HasBlockRows-start : (graph : List (List ℕ)) (start n : ℕ) → IsGraph graph → n ≡ length graph → HasBlockRows graph start start (replicate n empty_row)
-HasBlockRows-start graph start n g long = record {
-  rows = length-replicate n empty_row ∙ long;
-  filled = λ p below within. get_or-replicate n p empty_row [] (omega arith) ∙ block_row-before graph start p g below;
-  empty = λ p above within. get_or-replicate n p empty_row [] (omega arith);
-}
-
--- one more parent is joined
-pub or_rows-more : (blocks now : List (List Bool)) (place : ℕ) (ps : List ℕ) (k : ℕ) → place < length blocks → k < length ps → All (λ p. p < place) ps
-    → now ≡ set blocks place (or_rows blocks (row_at blocks place) (take k ps))
-    → set now place (zip2 ◌||◌ (row_at now place) (row_at now (get_or ps k 0))) ≡ set blocks place (or_rows blocks (row_at blocks place) (take (k + 1) ps))
-or_rows-more blocks now place ps k within l earlier is =
-    ap (λ (b : List (List Bool)). set b place (zip2 ◌||◌ (row_at now place) (row_at now (get_or ps k 0)))) is
-    ∙ set-set blocks place _ _
-    ∙ ap (λ (row : List Bool). set blocks place row) joined
-  where
-    here : row_at now place ≡ or_rows blocks (row_at blocks place) (take k ps)
-    here = ap (λ (b : List (List Bool)). row_at b place) is ∙ get_or-set_same blocks place _ [] within
-
-    parent : row_at now (get_or ps k 0) ≡ row_at blocks (get_or ps k 0)
-    parent =
-        let below : get_or ps k 0 < place = earlier k 0 l in
-        ap (λ (b : List (List Bool)). row_at b (get_or ps k 0)) is ∙ get_or-set_other blocks place (get_or ps k 0) _ [] (λ e. omega arith)
-
-    joined : zip2 ◌||◌ (row_at now place) (row_at now (get_or ps k 0)) ≡ or_rows blocks (row_at blocks place) (take (k + 1) ps)
-    joined =
-        ap (λ (row : List Bool). zip2 ◌||◌ row (row_at now (get_or ps k 0))) here
-        ∙ ap (λ (row : List Bool). zip2 ◌||◌ (or_rows blocks (row_at blocks place) (take k ps)) row) parent
-        ∙ sym (fold_more (λ (row : List Bool) (p : ℕ). zip2 ◌||◌ row (row_at blocks p)) (row_at blocks place) ps k 0 l)

@@ -1,7 +1,7 @@
 -- Lemmas on what a place reaches through its parents.
 use Rattle.std.proofs.Common.{◌≡◌, ℕ, ◌+◌, ◌<◌, ◌≤◌, Bool, true, false, cond, ◌||◌, ◌==◌, List, [], ◌∷◌, length, refl, ap, sym, ◌∙◌, subst, ⊎_elim, eqb-true}
 use Rattle.std.proofs.Common.{eq-eqb, arith}
-use Rattle.std.proofs.lemmas.Bool.{cases_Bool, or_cases, or_left, or_right, and_parts, false_from_ne_true}
+use Rattle.std.proofs.lemmas.Bool.{cases_Bool, or_cases, or_left, or_right, and_parts, false_from_ne_true, ne_eqb}
 use Rattle.std.proofs.lemmas.Bool.Decides.{same_from_decides}
 use Rattle.std.proofs.lemmas.List.Elements.{All-head}
 use Rattle.std.proofs.lemmas.List.Folds.{Any-from_list_any, list_any-from_Any}
@@ -85,6 +85,14 @@ pub single-earlier : (graph : List (List ℕ)) (p only : ℕ) → IsGraph graph 
 single-earlier graph p only g h =
     let o = only_of_single (parents_of graph p) only h in
     All-head (λ parent. parent < p) only o.first (subst (λ (xs : List ℕ). All (λ parent. parent < p) xs) o.is (g.earlier p))
+
+-- a place with one parent reaches what that reaches, and itself
+pub reaches_single : (graph : List (List ℕ)) (p only q : ℕ) → IsGraph graph → parentage_of (parents_of graph p) ≡ Single only → q < p
+    → reaches graph p q ≡ reaches graph only q
+reaches_single graph p only q g h l =
+    reaches_step graph p q g
+    ∙ ap (λ (b : Bool). b || list_any (λ parent. reaches graph parent q) (parents_of graph p)) (ne_eqb p q (λ e. absurd (omega (arith, e))))
+    ∙ (only_of_single (parents_of graph p) only h).any (λ parent. reaches graph parent q)
 
 pub reach_size-root : (graph : List (List ℕ)) (p : ℕ) → IsGraph graph → p < length graph → parentage_of (parents_of graph p) ≡ Root → reach_size graph p ≡ 1
 unfolding reach_size

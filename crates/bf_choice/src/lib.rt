@@ -16,6 +16,7 @@ mod parents;
 mod pieces;
 mod plain;
 mod ranking;
+mod sharing;
 mod sizes;
 mod weighing;
 
