@@ -1,9 +1,11 @@
 -- The history of a board: one event more, and the claims that stand then.
 use Rattle.std.proofs.Common.{◌≡◌, inl, inr, ℕ, ◌<◌, ◌≤◌, ◌+◌, suc, Bool, true, false, not, ◌&&◌, ◌||◌, ◌==◌, cond, List, [], ◌∷◌, ◌++◌, length, All, Option, Some, None}
-use Rattle.std.proofs.Common.{refl, sym, subst, ◌∙◌, arith, length-append, eqb-true}
+use Rattle.std.proofs.Common.{refl, sym, ap, subst, ◌∙◌, arith, length-append, eqb-true}
 use Rattle.std.specs.List.{find}
 use Rattle.std.specs.Option.{option_map}
 use Rattle.std.proofs.lemmas.Bool.{and_parts, or_cases}
+use Rattle.std.proofs.lemmas.Grind.{flat_map-append}
+use Rattle.std.proofs.lemmas.List.{append-nil}
 use Rattle.std.proofs.lemmas.List.Elements.{All-nil, All-push, All-head, All-tail, All-filter}
 use Rattle.std.proofs.lemmas.List.Filters.{length-filter_both}
 use Rattle.bf_search.specs.declared.farm.Claim.{Claim}
@@ -16,6 +18,7 @@ use Rattle.bf_core.specs.declared.answers.Pick.{Pick}
 use Rattle.bf_core.specs.declared.answers.Pick.TheVariants.{Work}
 use Rattle.bf_farm.specs.Boards.{BoardView, LeadsTo, unclaimed, claimed_by, Does, DoesIf, IsLed, is_claimed}
 use Rattle.bf_farm.specs.Doers.{AreDoneBy, IsOneOf, worker_of}
+use Rattle.bf_farm.specs.Posts.{post_in, posts_of}
 use Rattle.bf_farm.specs.Sound.{IsSoundEvent, GivesBack}
 
 -- what follows one event more
@@ -167,7 +170,7 @@ give_keeps_table setting farm next worker p e =
     subst (λ (f : Farm). f.table ≡ farm.table) (chosen (stands farm.claims worker p) (record farm { claims = without farm.claims worker }) next e) refl
 
 pub gives_none : (b : BoardView) → GivesBack b b
-gives_none b = record { start = record { setting = refl; first = refl }; first = refl; table = refl; posts = λ told names answers h. h; workers = λ workers h. h }
+gives_none b = record { start = record { setting = refl; first = refl }; first = refl; table = refl; posts = λ told names answers h. h; workers = λ workers h. h; same_posts = refl }
 
 pub gives_more : (a b c : BoardView) (worker p : ℕ) → IsLed b → is_claimed b worker p ≡ true → GivesBack a b → Does b c (events.Give worker p) → GivesBack a c
 gives_more a b c worker p led here given does = record {
@@ -180,6 +183,8 @@ gives_more a b c worker p led here given does = record {
   workers = λ workers h.
       let before = given.workers workers h in
       done_more workers b c (events.Give worker p) (claimed_by_one workers b worker p led before here) does before;
+  same_posts = ap (λ (l : List Event). posts_of l) does.noted ∙ flat_map-append post_in b.events (events.Give worker p ∷ [])
+      ∙ append-nil (posts_of b.events) ∙ given.same_posts;
 }
 
 pub fewer_given : (a b : BoardView) (worker p : ℕ) → Does a b (events.Give worker p) → stands a.core.farm.claims worker p ≡ true

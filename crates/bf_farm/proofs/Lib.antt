@@ -7,8 +7,10 @@ pub mod Marking
 pub mod Noted
 pub mod Parts
 pub mod Planned
+pub mod Posting
 pub mod Promised
 pub mod Reporting
+pub mod Redone
 pub mod Rests
 pub mod Seen
 pub mod Sending

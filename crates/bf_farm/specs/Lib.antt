@@ -5,6 +5,7 @@ pub mod Cores
 pub mod Doers
 pub mod Ends
 pub mod Gains
+pub mod Posts
 pub mod Reports
 pub mod Used
 pub mod Sound

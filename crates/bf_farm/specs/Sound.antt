@@ -10,6 +10,7 @@ use Rattle.bf_tester.specs.Replies.{FollowsPlan}
 use Rattle.bf_farm.specs.Boards.{BoardView}
 use Rattle.bf_farm.specs.Cores.{IsSameStart}
 use Rattle.bf_farm.specs.Doers.{AreDoneBy}
+use Rattle.bf_farm.specs.Posts.{posts_of}
 use Rattle.bf_farm.specs.Reports.{IsAnswered, AnswersFollow, AreAmong}
 
 -- the outcome of a place is among the answers and, where a plan is told, is the plan's
@@ -32,12 +33,19 @@ abbrev pub KeepsSound : BoardView → BoardView → Type 0
 KeepsSound old new =
     (told : Option (List Outcome)) (names : List Oid) (answers : List Answer) → IsSound told names answers old → IsSound told names answers new
 
+-- where some events tell of answers alone, a board that did still does
+abbrev pub KeepsSoundWith : List Event → BoardView → BoardView → Type 0
+KeepsSoundWith es old new =
+    (told : Option (List Outcome)) (names : List Oid) (answers : List Answer) → All (λ e. IsSoundEvent told names answers e) es
+    → IsSound told names answers old → IsSound told names answers new
+
 -- some answers, which follow the plan, are among these
 pub record ArePartOf (told : Option (List Outcome)) (answers part : List Answer) : Type 0 where
   pub planned : AnswersFollow told part
   pub among : AreAmong answers part
 
--- Claims were given back, and nothing else has changed: the events still tell of answers alone, and of the same workers.
+-- Claims were given back, and nothing else has changed: the events still tell of answers alone, of the same workers and of
+-- the same posts.
 pub record GivesBack (old new : BoardView) : Type 0 where
   pub start : IsSameStart old.core new.core
   pub first : new.first ≡ old.first
@@ -45,3 +53,4 @@ pub record GivesBack (old new : BoardView) : Type 0 where
   pub posts : (told : Option (List Outcome)) (names : List Oid) (answers : List Answer)
       → All (λ e. IsSoundEvent told names answers e) old.events → All (λ e. IsSoundEvent told names answers e) new.events
   pub workers : (workers : ℕ) → AreDoneBy workers old.events → AreDoneBy workers new.events
+  pub same_posts : posts_of new.events ≡ posts_of old.events

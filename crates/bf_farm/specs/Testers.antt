@@ -9,6 +9,7 @@ use Rattle.bf_farm.specs.Answering.{HasFault, IsSoundReport, ReportsTests, lacki
 use Rattle.bf_farm.specs.Boards.{BoardView}
 use Rattle.bf_farm.specs.Ends.{EndsWith, TurnEnds, TestsOn, TurnTests, TestsClaimed}
 use Rattle.bf_farm.specs.Gains.{GainsMore}
+use Rattle.bf_farm.specs.Posts.{GainsPosts}
 use Rattle.bf_farm.specs.Reports.{Manner, manner_by, AnswersFollow, AreAmong}
 use Rattle.bf_farm.specs.Sound.{IsSound}
 
@@ -77,3 +78,7 @@ module _ {T : Type 0} (by : Ghosts T) (old new : T) where
   -- the tester gained the used answers that a table lacks, in order
   abbrev pub GainsLacking : List (Option Outcome) → Report → Type 0
   GainsLacking table report = by.answers new ≡ by.answers old ++ lacking table report.used.items
+
+  -- the answers that the tester gained are the posts of the report
+  abbrev pub GainsPostsBy : List Oid → Report → Type 0
+  GainsPostsBy names report = GainsPosts names (by.answers old) (by.answers new) report.events.items

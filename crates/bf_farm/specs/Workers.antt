@@ -1,5 +1,5 @@
 -- Workers, each with a tester of its own.
-use Rattle.std.specs.Prelude.{ℕ, ◌<◌, List, length, All, Option}
+use Rattle.std.specs.Prelude.{◌≡◌, ℕ, ◌<◌, suc, List, ◌++◌, flat_map, length, All, Option}
 use Rattle.std.specs.List.{slice_index_or}
 use Rattle.bf_oid.specs.declared.object.Oid.{Oid}
 use Rattle.bf_search.specs.declared.farm.Event.{Event}
@@ -7,9 +7,9 @@ use Rattle.bf_search.specs.declared.outcomes.Outcome.{Outcome}
 use Rattle.bf_tester.specs.declared.answer.Answer.{Answer}
 use Rattle.bf_tester.specs.declared.tester.Tester.{Ghosts}
 use Rattle.bf_farm.specs.declared.worker.Worker.{Worker}
-use Rattle.bf_farm.specs.Boards.{BoardView}
 use Rattle.bf_farm.specs.Doers.{AreDoneBy}
-use Rattle.bf_farm.specs.Sound.{IsSound, IsSoundPost, IsSoundEvent, ArePartOf}
+use Rattle.bf_farm.specs.Posts.{ArePostsInOrder, posts_by}
+use Rattle.bf_farm.specs.Sound.{ArePartOf}
 use Rattle.bf_farm.specs.Testers.{KeepsManner, IsPart, HasAnswersOf}
 
 -- the answers of all workers, which follow the plan, are among these
@@ -33,24 +33,20 @@ abbrev pub TestedMore : {T : Type 0} → Ghosts T → List (Worker T) → List (
 TestedMore by old new =
     (k : ℕ) (d : Worker _) → k < length old → IsPart by (slice_index_or old k d).tester (slice_index_or new k d).tester
 
--- a board whose events they did alone still is one
-abbrev pub KeepsDoneBy : {T : Type 0} → List (Worker T) → BoardView → BoardView → Type 0
-KeepsDoneBy workers old new = AreDoneBy (length workers) old.events → AreDoneBy (length workers) new.events
+-- the answers of all workers, those of the first one first
+abbrev pub answers_of : {T : Type 0} → Ghosts T → List (Worker T) → List Answer
+answers_of by workers = flat_map (λ w. by.answers w.tester) workers
 
--- ---- whatever answers theirs are among
+-- a tester gained the answers of all workers, and no others
+abbrev pub GainsAnswersOf : {T : Type 0} → Ghosts T → T → T → List (Worker T) → Type 0
+GainsAnswersOf by old new workers = by.answers new ≡ by.answers old ++ answers_of by workers
 
--- a post, as a place with its outcome, is of these
-abbrev pub IsPostBy : {T : Type 0} → Ghosts T → List (Worker T) → List Oid → ℕ × Outcome → Type 0
-IsPostBy by workers names post =
-    (told : Option (List Outcome)) (answers : List Answer) → AreWorkersOf by told answers workers → IsSoundPost told names answers post.0 post.1
+-- The answers of each worker are its posts, in order. The first so many workers are looked at.
+abbrev pub AnswersArePosts : {T : Type 0} → Ghosts T → List (Worker T) → List Oid → List Event → ℕ → Type 0
+AnswersArePosts by workers names es count =
+    (k : ℕ) (d : Worker _) → k < count → ArePostsInOrder names (posts_by (suc k) es) (by.answers (slice_index_or workers k d).tester)
 
--- an event, where it is a post, is of these
-abbrev pub IsEventBy : {T : Type 0} → Ghosts T → List (Worker T) → List Oid → Event → Type 0
-IsEventBy by workers names event =
-    (told : Option (List Outcome)) (answers : List Answer) → AreWorkersOf by told answers workers → IsSoundEvent told names answers event
-
--- a board that told of these alone still does
-abbrev pub KeepsSoundBy : {T : Type 0} → Ghosts T → List (Worker T) → List Oid → BoardView → BoardView → Type 0
-KeepsSoundBy by workers names old new =
-    (told : Option (List Outcome)) (answers : List Answer) → AreWorkersOf by told answers workers
-    → IsSound told names answers old → IsSound told names answers new
+-- Workers did these events, and the answers of each are its posts, in order.
+pub record AreAllPosted {T : Type 0} (by : Ghosts T) (workers : List (Worker T)) (names : List Oid) (es : List Event) : Type 0 where
+  pub done : AreDoneBy (length workers) es
+  pub each : AnswersArePosts by workers names es (length workers)

@@ -1,7 +1,7 @@
 //! The answers of the workers come home.
-ghost use Rattle.std.specs.Prelude.{◌≡◌, OnOk};
+ghost use Rattle.std.specs.Prelude.{◌≡◌, ◌++◌, OnOk};
 ghost use Rattle.bf_farm.specs.Testers.{KeepsManner, HasAnswersOf};
-ghost use Rattle.bf_farm.specs.Workers.{AreOfManner, HasAllAnswersOf};
+ghost use Rattle.bf_farm.specs.Workers.{AreOfManner, HasAllAnswersOf, GainsAnswersOf};
 
 use crate::worker::Worker;
 use bf_tester::Tester;
@@ -18,6 +18,7 @@ pub(crate) fn absorb_all<T: Tester>(
     ensures faults { T.faults tester.new ≡ T.faults tester.old }
     ensures own { HasAnswersOf T.Tester tester.new tester.old }
     ensures absorbed { OnOk result (HasAllAnswersOf T.Tester tester.new workers.items) }
+    ensures gained { OnOk result (GainsAnswersOf T.Tester tester.old tester.new workers.items) }
 {
     for worker in workers {
         absorb(tester, worker.tester)?;
@@ -33,6 +34,7 @@ fn absorb<T: Tester>(tester: &mut T, other: T) -> Result<(), AllocError>
     ensures faults { T.faults tester.new ≡ T.faults tester.old }
     ensures own { HasAnswersOf T.Tester tester.new tester.old }
     ensures absorbed { OnOk result (HasAnswersOf T.Tester tester.new other) }
+    ensures gained { OnOk result (T.answers tester.new ≡ T.answers tester.old ++ T.answers other) }
 {
     match tester.absorb(other) {
         Ok(()) => Ok(()),

@@ -8,7 +8,7 @@ ghost use Rattle.bf_farm.specs.Reports.{TableIn, TableFollows};
 ghost use Rattle.bf_farm.specs.Sound.{IsSound, KeepsSound};
 ghost use Rattle.bf_farm.specs.Testers.{KeepsManner, HasAnswersOf, StaysSound, GainsBy, EndsBy, TurnEndsBy};
 ghost use Rattle.bf_farm.specs.Testers.{TestsOnBy, TurnTestsBy, TestsClaimedBy, ReportsTestsBy};
-ghost use Rattle.bf_farm.specs.Testers.{IsSoundBy, HasFaultBy, GainsLacking};
+ghost use Rattle.bf_farm.specs.Testers.{IsSoundBy, HasFaultBy, GainsLacking, GainsPostsBy};
 ghost use Rattle.bf_state.specs.Ends.{HasEnds};
 
 use crate::board::Board;
@@ -211,6 +211,8 @@ pub fn run_alone<R: Host, T: Tester>(
     ensures lacking { IfOk result (GainsLacking T.Tester tester.old tester.new case.entry.table) }
     ensures halving { IfOk result (Halves (setting_of case.entry)) }
     ensures alone { IfOk result (IsAlone case.entry.table) }
+    ensures posted { IfOk result
+        (GainsPostsBy T.Tester tester.old tester.new case.entry.names.now) }
     ensures manner { KeepsManner T.Tester tester.old tester.new }
     ensures own { HasAnswersOf T.Tester tester.new tester.old }
     ensures is_split { T.is_split tester.new ≡ false }

@@ -6,16 +6,17 @@ ghost use Rattle.std.specs.Prelude.{◌≡◌, false, ◌≤◌, [], length, IfO
 ghost use Rattle.bf_farm.specs.Answering.{IsByWorkers};
 ghost use Rattle.bf_farm.specs.Cases.{setting_of, IsReportOn, HasHistoryOn, IsSoundAgain};
 ghost use Rattle.bf_farm.specs.Doers.{AreDoneBy};
+ghost use Rattle.bf_farm.specs.Posts.{posts_of, ArePosts};
 ghost use Rattle.bf_farm.specs.Reports.{TableIn, TableFollows};
-ghost use Rattle.bf_farm.specs.Testers.{KeepsManner, HasAnswersOf, IsSoundBy, HasFaultBy};
-ghost use Rattle.bf_farm.specs.Workers.{ArePartsOf};
+ghost use Rattle.bf_farm.specs.Testers.{KeepsManner, HasAnswersOf, IsSoundBy, HasFaultBy, GainsPostsBy};
+ghost use Rattle.bf_farm.specs.Workers.{ArePartsOf, answers_of};
 ghost use Rattle.bf_state.specs.Ends.{HasEnds};
 
 use crate::absorb::absorb_all;
 use crate::alone::finish;
 use crate::board::Board;
 use crate::case::Case;
-use crate::replay::replay;
+use crate::replay::{are_all_posted, replay};
 use crate::report::Report;
 use crate::share::{lowered, run_workers, split_all};
 use crate::worker::Worker;
@@ -71,15 +72,8 @@ fn work_apart<R: Host, T: Tester>(
     Ok(Team { workers, events })
 }
 
-/// So many counts, all zero.
-fn zeros(alloc: Global, count: usize) -> Result<Vec<usize>, AllocError> {
-    let mut counts = Vec::new(alloc);
-    counts.resize(count, 0)?;
-    Ok(counts)
-}
-
-/// A board on which the events of the workers are done again, each post only where the worker's tester
-/// has the answer. No claim stands on it.
+/// A board on which the events of the workers are done again. No claim stands on it. Where the answers of a worker are
+/// not its posts there was want of memory.
 fn board_again<'r, T: Tester>(
     alloc: Global,
     case: Case<'r>,
@@ -96,6 +90,8 @@ fn board_again<'r, T: Tester>(
     ensures sound { IfOk result (IsSoundAgain T.Tester team.now.workers.items case.entry) }
     ensures workers { IfOk result (λ board.
         AreDoneBy (length team.now.workers.items) board.events) }
+    ensures posted { IfOk result (λ board. ArePosts case.entry.names.now
+        (posts_of board.events) (answers_of T.Tester team.now.workers.items)) }
 {
     let Case {
         reach,
@@ -104,15 +100,12 @@ fn board_again<'r, T: Tester>(
         table,
         leg,
     } = case;
+    let events = team.events.as_slice();
+    if !are_all_posted(team.workers.as_slice(), names, events) {
+        return Err(AllocError);
+    }
     let mut board = Board::start(alloc, reach, state, table, leg)?;
-    let mut seen = zeros(alloc, team.workers.len())?;
-    replay(
-        &mut board,
-        team.events.as_slice(),
-        team.workers.as_slice(),
-        seen.as_mut_slice(),
-        names,
-    )?;
+    replay(&mut board, events)?;
     board.give_all();
     Ok(board)
 }
@@ -143,6 +136,8 @@ pub fn run_farm<R: Host, T: Tester>(
     ensures history { IfOk result (HasHistoryOn case.entry) }
     ensures sound { IfOk result (IsSoundBy T.Tester tester.old tester.new case.entry.names.now) }
     ensures workers { IfOk result (IsByWorkers workers) }
+    ensures posted { IfOk result
+        (GainsPostsBy T.Tester tester.old tester.new case.entry.names.now) }
     ensures fault { IfOk result (HasFaultBy T.Tester tester.old tester.new) }
     // Whatever comes: the tester is of its manner, and keeps its answers.
     ensures later { T.faults tester.old ≤ T.faults tester.new }

@@ -1,11 +1,14 @@
 //! The replay of what the workers did, on a board of one's own.
 //!
 //! A thread is handed the lock of a board, and knows its type alone. So nothing is known of what the threads did. The
-//! calling thread does the stored events again, before it absorbs the testers: only then can it ask each for its answers.
-ghost use Rattle.std.specs.Prelude.{◌≡◌, true, OnOk};
+//! calling thread looks at the stored events before it absorbs the testers: only then can it ask each for its answers. Then
+//! it does these events again.
+ghost use Rattle.std.specs.Prelude.{◌≡◌, ◌++◌, true, length, IfSome, OnOk};
 ghost use Rattle.bf_farm.specs.Cores.{IsSameStart, IsSameLength};
-ghost use Rattle.bf_farm.specs.Reports.{IsAnswered};
-ghost use Rattle.bf_farm.specs.Workers.{IsPostBy, IsEventBy, KeepsDoneBy, KeepsSoundBy};
+ghost use Rattle.bf_farm.specs.Doers.{AreDoneBy};
+ghost use Rattle.bf_farm.specs.Posts.{posts_by, ArePostsInOrder, IsNextAnswer, SeesEvent};
+ghost use Rattle.bf_farm.specs.Sound.{KeepsSoundWith};
+ghost use Rattle.bf_farm.specs.Workers.{AnswersArePosts, AreAllPosted};
 
 use crate::board::Board;
 use crate::doers::is_by_one_of;
@@ -23,7 +26,8 @@ fn has_answer<T: Tester>(
     place: u32,
     outcome: Outcome,
 ) -> bool
-    ensures { result ≡ true → IsAnswered names.now (T.answers worker.now.tester) place outcome }
+    ensures { result ≡ true →
+        IsNextAnswer names.now (T.answers worker.now.tester) seen place outcome }
 {
     let (Some(answer), Some(name)) = (worker.tester.answer(seen), names.get(place as usize)) else {
         return false;
@@ -35,74 +39,98 @@ fn has_answer<T: Tester>(
     })
 }
 
-/// Whether the next answer of this worker is this outcome of this place. Of each worker, `seen` counts
-/// the answers that were looked at.
-fn is_answered<T: Tester>(
-    workers: &[Worker<T>],
-    seen: &mut [usize],
-    names: &[Oid],
-    worker: u32,
-    answer: (u32, Outcome),
-) -> bool
-    ensures { result ≡ true → IsPostBy T.Tester workers.now names.now answer }
-{
-    let index = (worker as usize).saturating_sub(1);
-    let (Some(worker), Some(count)) = (workers.get(index), seen.get_mut(index)) else {
-        return false;
-    };
-    let (place, outcome) = answer;
-    let found = has_answer(worker, *count, names, place, outcome);
-    *count = count.saturating_add(1);
-    found
-}
-
-/// The event itself, but a giving back in place of a post that its worker's tester did not answer.
-fn checked<T: Tester>(
-    workers: &[Worker<T>],
-    seen: &mut [usize],
+/// How many answers of a worker were seen as its posts after an event, where `seen` were before. It is `None` where
+/// the worker posted what is not its next answer.
+fn seen_after<T: Tester>(
+    worker: &Worker<T>,
+    number: usize,
+    seen: usize,
     names: &[Oid],
     event: Event,
-) -> Event
-    ensures { IsEventBy T.Tester workers.now names.now result }
+) -> Option<usize>
+    ensures { IfSome result
+        (SeesEvent names.now (T.answers worker.now.tester) number event seen) }
 {
     match event {
         Event::Post {
-            worker,
+            worker: poster,
             place,
             outcome,
         } => {
-            if is_answered(workers, seen, names, worker, (place, outcome)) {
-                event
-            } else {
-                Event::Give { worker, place }
+            if poster as usize != number {
+                return Some(seen);
             }
+            if !has_answer(worker, seen, names, place, outcome) {
+                return None;
+            }
+            seen.checked_add(1)
         }
-        Event::Claim { .. } | Event::Give { .. } => event,
+        Event::Claim { .. } | Event::Give { .. } => Some(seen),
     }
 }
 
-/// Does the events of the workers again, each post only where the worker's tester has that answer. It
-/// stops at the first event that is not legal, or that names no worker.
-pub(crate) fn replay<T: Tester>(
-    board: &mut Board<'_>,
-    events: &[Event],
+/// Whether the answers of a worker are its posts, in order, and no others.
+fn is_posted<T: Tester>(worker: &Worker<T>, number: usize, names: &[Oid], events: &[Event]) -> bool
+    ensures { result ≡ true → ArePostsInOrder names.now (posts_by number events.now)
+        (T.answers worker.now.tester) }
+{
+    let mut seen: usize = 0;
+    for event in events {
+        match seen_after(worker, number, seen, names, *event) {
+            Some(now) => seen = now,
+            None => return false,
+        }
+    }
+    worker.tester.answer(seen).is_none()
+}
+
+/// Whether the answers of each worker are its posts.
+fn is_each_posted<T: Tester>(workers: &[Worker<T>], names: &[Oid], events: &[Event]) -> bool
+    ensures { result ≡ true → AnswersArePosts T.Tester workers.now names.now events.now (length workers.now) }
+{
+    for index in 0..workers.len() {
+        if !is_posted(&workers[index], index + 1, names, events) {
+            return false;
+        }
+    }
+    true
+}
+
+/// Whether so many workers did these events.
+fn are_done_by(workers: usize, events: &[Event]) -> bool
+    ensures { result ≡ true → AreDoneBy workers events.now }
+{
+    for event in events {
+        if !is_by_one_of(workers, *event) {
+            return false;
+        }
+    }
+    true
+}
+
+/// Whether these workers did the events, and the answers of each are its posts. A post that finds no memory leaves an answer
+/// that is none.
+pub(crate) fn are_all_posted<T: Tester>(
     workers: &[Worker<T>],
-    seen: &mut [usize],
     names: &[Oid],
-) -> Result<(), AllocError>
+    events: &[Event],
+) -> bool
+    ensures { result ≡ true → AreAllPosted T.Tester workers.now names.now events.now }
+{
+    are_done_by(workers.len(), events) && is_each_posted(workers, names, events)
+}
+
+/// Does events again. A board has none that is not legal, so one that is not is taken for want of memory.
+pub(crate) fn replay(board: &mut Board<'_>, events: &[Event]) -> Result<(), AllocError>
     ensures start { OnOk result (IsSameStart board.old.core board.new.core) }
     ensures first { OnOk result (board.new.first ≡ board.old.first) }
     ensures len { OnOk result (IsSameLength board.old.core board.new.core) }
-    ensures sound { OnOk result (KeepsSoundBy T.Tester workers.now names.now board.old board.new) }
-    ensures workers { OnOk result (KeepsDoneBy workers.now board.old board.new) }
+    ensures sound { OnOk result (KeepsSoundWith events.now board.old board.new) }
+    ensures done { OnOk result (board.new.events ≡ board.old.events ++ events.now) }
 {
     for event in events {
-        let event = checked(workers, seen, names, *event);
-        if !is_by_one_of(workers.len(), event) {
-            return Ok(());
-        }
-        if !board.redo(event)? {
-            return Ok(());
+        if !board.redo(*event)? {
+            return Err(AllocError);
         }
     }
     Ok(())

@@ -3,5 +3,6 @@ pub mod Fewer
 pub mod Fresh
 pub mod Known
 pub mod Places
+pub mod Posted
 pub mod Ran
 pub mod Sequences

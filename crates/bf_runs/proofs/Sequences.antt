@@ -16,6 +16,7 @@ use Rattle.bf_farm.specs.Cores.{setting_at}
 use Rattle.bf_farm.specs.Doers.{AreByWorkers}
 use Rattle.bf_farm.specs.Ends.{awaited, failed_test, test_at, test_of}
 use Rattle.bf_farm.specs.declared.report.Report.{Report}
+use Rattle.bf_farm.specs.Posts.{GainsPosts}
 use Rattle.bf_farm.specs.Reports.{TableIn}
 use Rattle.bf_oid.specs.declared.object.Oid.{Oid}
 use Rattle.bf_graph.specs.Graph.{IsGraph}
@@ -52,6 +53,7 @@ use Rattle.bf_runs.specs.Legs.{Course, Stand, first_stand, setting_of, leg_run, 
 use Rattle.bf_runs.specs.Legs.{GoesOnFrom, IsBetween, IsReady, IsLegRun, LeadsOn}
 use Rattle.bf_search.specs.Within.{IsEndingWithin}
 use Rattle.bf_runs.proofs.Fewer.{leg_leaves_fewer}
+use Rattle.bf_runs.proofs.Posted.{tested_more}
 use Rattle.bf_runs.proofs.Ran.{IsEndWithin, run_is_within}
 
 -- ---- a leg that did not end after its marks is the run without legs
@@ -311,6 +313,7 @@ pub record Reported (course : Course) (told : Option (List Outcome)) (before aft
   pub lacks : course.workers ≤ 1 → after ≡ before ++ lacking table report.used.items
   pub own : course.workers ≤ 1 → IsAlone table report
   pub workers : AreByWorkers course.workers report.events.items
+  pub posted : GainsPosts course.names before after report.events.items
   pub sorted : IsGraph course.graph
   pub over : IsSearchOver course.graph session.search
 
@@ -391,6 +394,7 @@ module _ (course : Course) (told : Option (List Outcome)) (before after : List A
           ended = leg_ended e;
           goes_on = goes;
           known = known;
+          tested = tested_more course.names before after whole report.events.items between.tested h.posted;
           alone = alone whole so_far between (one_at_a_time course.graph ran.search (outcomes_of_table report.table) 0).used
               (differ (outcomes_of_table report.table) _ _ (goes (outcomes_of_table report.table) (part_same (outcomes_of_table report.table)))
               (append_assoc so_far.used ran.used _) first);
@@ -401,6 +405,7 @@ module _ (course : Course) (told : Option (List Outcome)) (before after : List A
           are = record { stand = stand; whole = between.legs; last = is_leg; ended = not_leg other };
           is = is;
           known = known;
+          tested = tested_more course.names before after whole report.events.items between.tested h.posted;
           alone = alone whole so_far between []
               (differ (outcomes_of_table report.table) _ _ (sym is) (ap (λ (ps : List Pair). so_far.used ++ ps) (sym (append-nil ran.used))) first);
         };
@@ -452,6 +457,7 @@ module _ (search : RunSettings) (session : Session) (table : List (Option Outcom
     (lacks : search.workers ≤ 1 → after ≡ before ++ lacking table report.used.items)
     (own : search.workers ≤ 1 → IsAlone table report)
     (workers : AreByWorkers search.workers report.events.items)
+    (posted : GainsPosts names before after report.events.items)
     (sorted : IsGraph search.reach.now) (below : IsSearchBelow session.len session.search)
     (ready : IsReady search.history.now.parents search.history.now.names told before session table) where
   reported : (first : Search) → Reported (course_from search first) told before after session table report
@@ -464,6 +470,7 @@ module _ (search : RunSettings) (session : Session) (table : List (Option Outcom
     lacks = lacks;
     own = own;
     workers = workers;
+    posted = subst (λ (ns : List Oid). GainsPosts ns before after report.events.items) named posted;
     sorted = subst (λ (graph : List (List ℕ)). IsGraph graph) reach sorted;
     over = over_graph search.history.now.parents session.len session.search below ready.len;
   }

@@ -6,6 +6,7 @@ use Rattle.bf_farm.specs.Answering.{pair_of}
 use Rattle.bf_farm.specs.Boards.{LeadsTo, unclaimed}
 use Rattle.bf_farm.specs.Doers.{AreByWorkers}
 use Rattle.bf_farm.specs.Ends.{awaited, failed_test, test_at}
+use Rattle.bf_farm.specs.Posts.{ArePosts, posts_of}
 use Rattle.bf_farm.specs.Reports.{TableIn, TableFollows}
 use Rattle.bf_farm.specs.declared.report.Report.{Report}
 use Rattle.bf_oid.specs.declared.object.Oid.{Oid}
@@ -93,6 +94,10 @@ pub record IsTestedAlone (answers : List Answer) (run : Run) (legs : List (List 
   pub given : map pair_of answers ≡ run.used
   pub tested : AreTestsOf run legs
 
+-- The tester's answers, each with the name of its commit, are the posts of all legs, each as often, whoever tested.
+abbrev pub IsTestedBy : List Oid → List Answer → List (List Event) → Type 0
+IsTestedBy names answers legs = ArePosts names (posts_of (flat_map (λ events. events) legs)) answers
+
 -- whatever more is known, the run without legs goes on from here
 abbrev pub GoesOnFrom : Course → Run → Outcomes → Type 0
 GoesOnFrom course run known =
@@ -105,6 +110,7 @@ pub record IsBetween (course : Course) (told : Option (List Outcome)) (answers :
   pub ended : run.end ≡ Leg
   pub goes_on : GoesOnFrom course run (outcomes_of_table stand.table)
   pub known : IsKnown course.names told answers stand.table
+  pub tested : IsTestedBy course.names answers whole
   pub alone : course.workers ≤ 1 → IsTestedAlone answers run whole
 
 -- A run has ended: it is the run without legs on all that is known.
@@ -112,6 +118,7 @@ pub record IsOver (course : Course) (told : Option (List Outcome)) (answers : Li
   pub are : AreLegs course legs table
   pub is : run ≡ one_at_a_time course.graph course.first (outcomes_of_table table) 0
   pub known : IsKnown course.names told answers table
+  pub tested : IsTestedBy course.names answers (all_of legs)
   pub alone : course.workers ≤ 1 → IsTestedAlone answers run (all_of legs)
 
 -- ---- a leg

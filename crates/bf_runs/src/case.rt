@@ -3,7 +3,7 @@ ghost use Rattle.std.specs.Prelude.{◌≡◌, ◌≤◌, false, length, IfOk};
 ghost use Rattle.bf_farm.specs.Answering.{IsAlone, IsByWorkers};
 ghost use Rattle.bf_farm.specs.Cases.{IsReportOn, HasHistoryOn};
 ghost use Rattle.bf_farm.specs.Reports.{TableIn, TableFollows};
-ghost use Rattle.bf_farm.specs.Testers.{KeepsManner, HasAnswersOf, IsSoundBy, HasFaultBy, GainsLacking};
+ghost use Rattle.bf_farm.specs.Testers.{KeepsManner, HasAnswersOf, IsSoundBy, HasFaultBy, GainsLacking, GainsPostsBy};
 ghost use Rattle.bf_state.specs.Ends.{HasEnds};
 
 use bf_farm::{Case, Report, run_alone, run_farm};
@@ -45,6 +45,8 @@ pub fn run_case<R: Host, T: Tester>(
     ensures history { IfOk result (HasHistoryOn case.entry) }
     ensures sound { IfOk result (IsSoundBy T.Tester tester.old tester.new case.entry.names.now) }
     ensures workers { IfOk result (IsByWorkers workers) }
+    ensures posted { IfOk result
+        (GainsPostsBy T.Tester tester.old tester.new case.entry.names.now) }
     ensures fault { IfOk result (HasFaultBy T.Tester tester.old tester.new) }
     ensures later { T.faults tester.old ≤ T.faults tester.new }
     ensures alone { workers ≤ 1 → IfOk result (IsAlone case.entry.table) }

@@ -1,8 +1,10 @@
-use Rattle.std.proofs.Common.{◌≡◌, List, length, refl, sym, subst, ◌∙◌, arith}
+use Rattle.std.proofs.Common.{◌≡◌, List, ◌++◌, length, refl, sym, ap, subst, ◌∙◌, arith}
+use Rattle.std.proofs.lemmas.List.{append-nil, flat_map_more}
 use Rattle.std.proofs.lemmas.List.Elements.{All-push}
+use Rattle.bf_tester.specs.declared.answer.Answer.{Answer}
 use Rattle.bf_farm.specs.declared.worker.Worker.{Worker}
 use Rattle.bf_farm.specs.Testers.{KeepsManner, HasAnswersOf}
-use Rattle.bf_farm.specs.Workers.{HasAllAnswersOf}
+use Rattle.bf_farm.specs.Workers.{HasAllAnswersOf, GainsAnswersOf}
 use Rattle.bf_farm.proofs.Rests.{next_of_rest, one_taken, all_taken}
 use Rattle.bf_farm.proofs.Soundness.{among_itself, among_then}
 use Rattle.bf_farm.proofs.absorb.absorb_all.Goals as goal
@@ -14,6 +16,7 @@ loop-worker-init g c = record {
   faults = refl;
   own = among_itself (g.T.Tester.answers c.args.tester.now);
   absorbed = λ k d l. absurd (omega arith);
+  gained = sym (append-nil (g.T.Tester.answers c.args.tester.now));
   rest = c.into_iter-worker-iterator.ensures.into_iter_gives.0;
 }
 
@@ -36,6 +39,9 @@ loop-worker-preserved g c = record {
       (λ k d l. among_then _ (g.T.Tester.answers c.loop-worker.tester) (g.T.Tester.answers c.absorb.new.tester) c.absorb.ensures.own
       (c.loop-worker.invariant.absorbed k d l))
       c.in_ok-absorb.ensures.absorbed;
+  gained = c.in_ok-absorb.ensures.gained ∙ ap (λ (l : List Answer). l ++ g.T.Tester.answers c.in-Some.worker.tester) c.loop-worker.invariant.gained
+      ∙ flat_map_more (λ (w : Worker g.row.T.Denot). g.T.Tester.answers w.tester) (g.T.Tester.answers c.args.tester.now) c.loop-worker.yielded
+      c.in-Some.worker;
   rest = one_taken c.args.workers.items c.loop-worker.yielded c.loop-worker.worker-iterator.rest.items c.next.new.self.rest.items c.in-Some.worker
       c.loop-worker.invariant.rest c.in-Some.ensures.steps.0;
 }
@@ -51,3 +57,10 @@ returns-clause-absorbed g c =
     subst (λ (l : List (Worker g.row.T.Denot)). HasAllAnswersOf g.T.Tester c.loop-worker.tester l)
     (all_taken c.args.workers.items c.loop-worker.yielded c.loop-worker.worker-iterator.rest.items c.loop-worker.invariant.rest none)
     c.loop-worker.invariant.absorbed
+
+pub returns-clause-gained : goal.returns-clause-gained
+returns-clause-gained g c =
+    let none : length c.loop-worker.worker-iterator.rest.items ≡ 0 = omega (arith, c.in-None.ensures.steps.0, c.loop-worker.worker-iterator.rest.ok.0) in
+    subst (λ (l : List (Worker g.row.T.Denot)). GainsAnswersOf g.T.Tester c.args.tester.now c.loop-worker.tester l)
+    (all_taken c.args.workers.items c.loop-worker.yielded c.loop-worker.worker-iterator.rest.items c.loop-worker.invariant.rest none)
+    c.loop-worker.invariant.gained

@@ -5,6 +5,7 @@ use Rattle.bf_state.specs.Session.{Session}
 use Rattle.bf_farm.specs.Answering.{IsReport, HasHistory, Halves}
 use Rattle.bf_farm.specs.Testers.{GainsLacking}
 use Rattle.bf_farm.proofs.Noted.{alone_told}
+use Rattle.bf_farm.proofs.Posting.{gains_no_posts, posts_then_tests}
 use Rattle.bf_farm.proofs.Reporting.{sound_start}
 use Rattle.bf_farm.proofs.Soundness.{among_itself}
 use Rattle.bf_farm.proofs.alone.run_alone.Goals as goal
@@ -42,3 +43,11 @@ returns-clause-halving g c =
 
 pub returns-in_err-board-clause-own : goal.returns-in_err-board-clause-own
 returns-in_err-board-clause-own g c = among_itself (g.T.Tester.answers c.args.tester.now)
+
+pub returns-clause-posted : goal.returns-clause-posted
+returns-clause-posted g c =
+    posts_then_tests c.args.case.names.now (g.T.Tester.answers c.args.tester.now) (g.T.Tester.answers c.args.tester.now)
+    (g.T.Tester.answers c.finish.new.tester) c.in_ok-report.report.used.items c.args.case.table c.in_ok-board.board.events
+    c.in_ok-report.report.events.items _
+    (gains_no_posts c.args.case.names.now (g.T.Tester.answers c.args.tester.now) c.in_ok-board.board.events c.in_ok-board.ensures.events)
+    c.in_ok-report.ensures.alone (returns-clause-lacking g c) c.in_ok-report.ensures.report.named

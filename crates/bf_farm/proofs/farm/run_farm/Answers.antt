@@ -4,7 +4,9 @@ use Rattle.bf_farm.specs.Answering.{HasFault}
 use Rattle.bf_farm.specs.Doers.{AreDoneBy}
 use Rattle.bf_farm.specs.Reports.{Manner}
 use Rattle.bf_farm.specs.Sound.{IsSound}
+use Rattle.bf_farm.specs.Workers.{answers_of}
 use Rattle.bf_farm.proofs.Noted.{tests_are_own}
+use Rattle.bf_farm.proofs.Posting.{posts_then_tests}
 use Rattle.bf_farm.proofs.Soundness.{among_itself, among_then, table_wider}
 use Rattle.bf_farm.proofs.Teams.{parts_of_team}
 use Rattle.bf_farm.proofs.farm.run_farm.Goals as goal
@@ -50,3 +52,15 @@ pub returns-clause-own : goal.returns-clause-own
 returns-clause-own g c =
     among_then (g.T.Tester.answers c.args.tester.now) (g.T.Tester.answers c.absorb_all.new.tester) (g.T.Tester.answers c.finish.new.tester)
     c.finish.ensures.own c.in_ok-absorb_all.ensures.own
+
+pub returns-clause-posted : goal.returns-clause-posted
+returns-clause-posted g c =
+    posts_then_tests c.args.case.names.now (g.T.Tester.answers c.args.tester.now) (g.T.Tester.answers c.absorb_all.new.tester)
+    (g.T.Tester.answers c.finish.new.tester) c.in_ok-report.report.used.items c.in_ok-board.board.core.farm.table c.in_ok-board.board.events
+    c.in_ok-report.report.events.items _
+    (record {
+      gained = answers_of g.T.Tester c.in_ok-team.team.workers.items;
+      added = c.in_ok-absorb_all.ensures.gained;
+      posted = c.in_ok-board.ensures.posted;
+    })
+    c.in_ok-report.ensures.alone c.in_ok-report.ensures.lacking c.in_ok-report.ensures.report.named
