@@ -24,7 +24,7 @@ use Rattle.bf_search.specs.declared.outcomes.Outcome.{Outcome}
 use Rattle.bf_farm.specs.Answering.{pair_of}
 use Rattle.bf_farm.specs.Doers.{IsOneOf, worker_of}
 use Rattle.bf_farm.specs.Ends.{awaited, failed_test, test_at}
-use Rattle.bf_farm.specs.Posts.{ArePosts}
+use Rattle.bf_farm.specs.Posts.{ArePosts, posts_of}
 use Rattle.bf_farm.proofs.Noted.{all_own, failed_leads}
 use Rattle.bf_farm.proofs.Posting.{posts_of_tests}
 use Rattle.bf_runs.specs.Legs.{Legs, LegsLead, setting_of}
@@ -180,7 +180,8 @@ nothing_tested request tested history first none = record {
       answered = fresh_in history.names tested.answers (length history.parents) (nothing history) refl;
       planned = fresh_follows tested.plan (length history.parents) (nothing history) refl;
     };
-    tested = subst (λ (ps : List (ℕ × Outcome)). ArePosts history.names ps tested.answers) (sym (posts_of_tests [] (asked_first history first)))
+    tested = subst (λ (ps : List (ℕ × Outcome)). ArePosts history.names ps tested.answers)
+        (sym (ap posts_of (append-nil (failed_test (asked_first history first))) ∙ posts_of_tests [] (asked_first history first)))
         (nothing_posted history.names tested.answers none);
     alone = λ one. record {
       given = ap (λ (xs : List Answer). map pair_of xs) none ∙ sym (unused history first);
