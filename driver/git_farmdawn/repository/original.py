@@ -162,6 +162,8 @@ class Original:
     def conditional(self, rows: List[Tuple[bytes, bytes]]) -> Iterator[Pair]:
         """What the user's own files of configuration include for this repository alone, by its
         place: `includeIf "gitdir:..."`."""
+        if not any(row.startswith(b"includeif.") for _, row in rows):
+            return
         plain = ("config", "--list", "-z", "--show-scope", "--includes")
         always = rows_of(self.repo.run(*plain, cwd="/", check=False, env=self.repo.checkout_env))
         for scope, row in rows:
