@@ -218,6 +218,13 @@ class Repository:
             raise Stop(Status.NO_COMMIT, word + ": no commit of that name")
         return found
 
+    def commits(self, words: Sequence[str]) -> List[str]:
+        """The whole names of the commits that words name, nothing for one that names none."""
+        asked = os.fsencode("".join(word + "^{commit}\n" for word in words))
+        said = self.text("cat-file", "--batch-check=%(objectname)", input=asked, check=False)
+        found = [line if is_name(line) else "" for line in said.split("\n")]
+        return found if len(found) == len(words) else ["" for _ in words]
+
     def is_commit(self, word: str) -> bool:
         """Whether a word names a commit."""
         return self.succeeds("rev-parse", "--verify", "-q", "--end-of-options", word + "^{commit}")
