@@ -202,6 +202,8 @@ class Original:
         else:
             refs = list_refs(self.ask)
         self.files["packed-refs"] = Stored(refs.packed)
+        base = os.fsencode(self.repo.env.get("GIT_REPLACE_REF_BASE", "refs/replace/"))
+        self.has_replaced = b" " + base in refs.packed
         for name, leads in refs.symbolic.items():
             self.files[os.fsdecode(name)] = Stored(b"ref: " + leads + b"\n")
 
