@@ -60,11 +60,14 @@ class Shop:
 
     def start(self, words: list[str], out: Optional[int]) -> Child:
         """Starts a command of git."""
-        return Child(self.loop, self.keeper, Command([*PLAIN, *words], self.env, out=out))
+        return Child(
+            self.loop, self.keeper, Command([self.repo.git, *PLAIN, *words], self.env, out=out)
+        )
 
     def ask(self, words: list[str], given: int, out: int) -> Child:
         """Starts one whose output is read, without what it warns of, and which reads a file."""
-        command = Command([*PLAIN, *words], self.env, out=DEVNULL, own_out=out, given=given)
+        words = [self.repo.git, *PLAIN, *words]
+        command = Command(words, self.env, out=DEVNULL, own_out=out, given=given)
         return Child(self.loop, self.keeper, command)
 
     def close(self) -> None:

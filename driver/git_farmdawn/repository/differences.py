@@ -21,7 +21,7 @@ class Differences:
 
     def __init__(self, original: Original) -> None:
         repo = original.repo
-        self.words = ("git", "--git-dir=" + repo.own_gitdir, *DIFFER, "--stdin")
+        self.words = (repo.git, "--git-dir=" + repo.own_gitdir, *DIFFER, "--stdin")
         self.env = dict(repo.env, GIT_NO_REPLACE_OBJECTS="1")
         self.git: Optional[subprocess.Popen[bytes]] = None
         self.is_free = not original.has_replaced and not original.is_partial

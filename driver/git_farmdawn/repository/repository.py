@@ -30,7 +30,6 @@ EVERYWHERE = (
     "GIT_REPLACE_REF_BASE",
 )
 PLAIN = (
-    "git",
     "-c",
     "core.hooksPath=/dev/null",
     "-c",
@@ -86,6 +85,17 @@ def original_environment() -> Dict[str, str]:
     return env
 
 
+def path_of_git(env: Mapping[str, str]) -> str:
+    """Where git is, for all of a search; its name where that depends on the folder at hand."""
+    for folder in os.get_exec_path(env):
+        path = folder + "/git"
+        if not folder.startswith("/"):
+            break
+        if os.path.isfile(path) and os.access(path, os.X_OK):
+            return path
+    return "git"
+
+
 def is_name(text: str) -> bool:
     """Whether it is the whole name of a commit."""
     return re.fullmatch("[0-9a-f]{40}|[0-9a-f]{64}", text) is not None
@@ -98,7 +108,7 @@ class Repository:
 
     def __init__(self) -> None:
         self.user_env = original_environment()
-        self.env = dict(self.user_env, LC_ALL="C")
+        self.env, self.git = dict(self.user_env, LC_ALL="C"), path_of_git(self.user_env)
         for name in ODD:
             self.env.pop(name, None)
         self.find()
@@ -174,7 +184,7 @@ class Repository:
     ) -> bytes:
         """What a command of git prints."""
         done = subprocess.run(
-            ("git",) + words,
+            (self.git,) + words,
             input=input,
             stdin=subprocess.DEVNULL if input is None else None,
             stdout=subprocess.PIPE,
@@ -197,7 +207,7 @@ class Repository:
         """Whether a command of git ends with 0."""
         return (
             subprocess.run(
-                ("git",) + words,
+                (self.git,) + words,
                 stdin=subprocess.DEVNULL,
                 stdout=subprocess.DEVNULL,
                 stderr=subprocess.DEVNULL,
