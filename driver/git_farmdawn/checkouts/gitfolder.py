@@ -11,7 +11,8 @@ from ..host.files import content, first_line
 from ..host.trees import remove_tree
 from ..repository.original import ALTERNATES, Files, Original, Stored
 
-FOLDERS = ("objects", "objects/info", "objects/pack", "refs", "refs/heads", "refs/tags", "info")
+FOLDERS = {"objects", "objects/info", "objects/pack", "refs", "refs/heads", "refs/tags", "info"}
+FOLDERS.add("logs")  # which git makes at the first checkout
 STAYS = {"index", "lfs"}  # what is looked at elsewhere, or may have been fetched
 NEW = os.O_WRONLY | os.O_CREAT | os.O_EXCL | os.O_NOFOLLOW | os.O_CLOEXEC
 MORE = os.O_WRONLY | os.O_CREAT | os.O_APPEND | os.O_NOFOLLOW | os.O_CLOEXEC
@@ -56,11 +57,16 @@ class GitFolder:
             while name:
                 name = os.path.dirname(name)
                 folders.add(name)
-        self.folders: List[str] = sorted(folders)
+        self.folders = dict.fromkeys(sorted(folders))
 
     def is_ours(self) -> bool:
         """Whether it is there, and leads to the objects of its repository."""
-        return is_folder(self.path) and leads_to(self.path) == first_store(self.files)
+        if not is_folder(self.path):
+            return False
+        signs = signs_of(os.path.join(self.path, ALTERNATES))
+        if signs is not None and signs == self.signs.get(ALTERNATES):
+            return True  # it is as it was left here
+        return leads_to(self.path) == first_store(self.files)
 
     def put_back(self, head: bytes) -> None:
         """Makes it what it was at first, with this head. Raises OSError where it cannot be."""
@@ -68,7 +74,7 @@ class GitFolder:
             self.make_folder(self.path)
         files = {**self.files, "HEAD": Stored(head)}
         for folder in self.folders:
-            path = os.path.join(self.path, folder)
+            path = f"{self.path}/{folder}"
             if is_folder(path):
                 self.remove_others(folder, files)
             else:
@@ -81,10 +87,11 @@ class GitFolder:
         """Removes what a folder has that was not there at first; objects of tests, too."""
         if folder.split("/")[0] in self.stays:
             return
-        for name in os.listdir(os.path.join(self.path, folder)):
-            path = os.path.join(folder, name)
+        above = folder + "/" if folder else ""
+        for name in os.listdir(f"{self.path}/{folder}"):
+            path = above + name
             if path not in files and path not in self.folders and path not in self.stays:
-                self.remove(os.path.join(self.path, path))
+                self.remove(f"{self.path}/{path}")
 
     @classmethod
     def make_folder(cls, path: str) -> None:
@@ -103,7 +110,7 @@ class GitFolder:
 
     def put_file(self, name: str, stored: Stored) -> None:
         """Writes a file anew, unless it is as it was left here, or has all the same."""
-        path = os.path.join(self.path, name)
+        path = f"{self.path}/{name}"
         signs = signs_of(path)
         if signs is not None and signs == self.signs.get(name) and name != "HEAD":
             return

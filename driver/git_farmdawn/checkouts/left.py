@@ -45,7 +45,11 @@ class Before:
 
     def list_left(self) -> List[str]:
         """What of git's is there that a fresh checkout has not."""
-        return [name for name in LEFT if os.path.lexists(os.path.join(self.own.path, name))]
+        try:
+            found = os.listdir(self.own.path)
+        except OSError:
+            return []
+        return [name for name in LEFT if name in found]
 
     def changed(self) -> str:
         """What is not as it was, so that what the test told is not believed; or nothing."""
