@@ -502,7 +502,12 @@ class Trials:
                 job.lacks_room(place)
         child = job.child
         if child is not None and child.status is None and not job.lacked_room:
-            slot.shop.loop.later(LOOKS, self.watch_room, slot, job)
+            slot.shop.loop.later(LOOKS, self.watch_on, slot, job, child)
+
+    def watch_on(self, slot: Slot, job: Job, child: Child) -> None:
+        """The same again, where that command still runs."""
+        if child.status is None:
+            self.watch_room(slot, job)
 
 
 def status_of(child: Child) -> int:
