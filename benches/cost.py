@@ -1,7 +1,8 @@
 #!/usr/bin/env python3
 """What `git farmdawn` costs of its own for each test, beside what git needs to check a commit out.
 
-Usage: benches/cost.py [--commits N,..] [--workers N,..] [--runs N] [--lengths SECONDS,..] [--names] [--own] [--program FILE] [--driver FOLDER]
+Usage: benches/cost.py [--commits N,..] [--workers N,..] [--runs N] [--lengths SECONDS,..] [--names] [--own] [--beside FOLDER]
+                       [--program FILE] [--driver FOLDER]
 
 Makes lines of so many commits with one file each in a temporary folder, and searches them with a test of nothing, `true`:
 so each test is good, and nearly all that is measured is the search's own. Another search over the same commits is stopped by
@@ -18,6 +19,10 @@ which length of a test on several workers are faster, and means something on a q
 With --own, the process of the driver alone is watched, without git, the program and the tests that it starts: what it takes up to the
 first test, for each test from there on, and at most in memory. Its time counts while it runs, so that others on the machine add little.
 
+With --beside, another driver in a folder of its own, as an installed one (`PREFIX/bin`), and this one search in turns, over two commits and
+over all, none of which can be tested: what a start takes, and what each test more does, of the driver's process alone and with
+all that it waits for, and how many times what the other one takes. Of so many runs the medians count.
+
 With --names, the processes of a whole search are sampled by `perf`, and told apart by their names: those of the driver, with the
 tests that it starts, divided by the number of tests, and those of the program and of git, most of which a search has at its start. So
 what grows with the commits stands beside what a test costs.
@@ -33,6 +38,7 @@ import ctypes
 import os
 import resource
 import shutil
+import statistics
 import subprocess
 import sys
 import tempfile
@@ -45,6 +51,7 @@ TOP = os.path.dirname(os.path.dirname(os.path.abspath(__file__)))
 PR_SET_CHILD_SUBREAPER = 36
 SAMPLES = 1000  # a second
 STOPPING = ["sh", "-c", "exit 255"]
+SKIPPING = ["sh", "-c", "exit 125"]
 
 
 @dataclass
@@ -146,6 +153,26 @@ def tell_own(searches, workers, runs):
         print(f"  {count} workers: {start:.0f} ms up to the first test, {each:.1f} ms a test ({found[0][3]}), {most:.0f} MB", flush=True)
 
 
+def taken(few, many):
+    """The medians of a start and of a test more, alone and with all that was waited for."""
+    starts = [statistics.median(row[at] for row in few) for at in range(2)]
+    tests = [statistics.median((more[at] - less[at]) / (more[2] - less[2]) for less, more in zip(few, many)) for at in range(2)]
+    return starts, tests
+
+
+def tell_beside(both, workers, runs):
+    """Tells what this driver took beside another one."""
+    for count in workers:
+        rows = [([], []) for _ in both]
+        for _ in range(runs):
+            for (few, many), searches in zip(rows, both):
+                few.append(searches.whole(count, count + 1))
+                many.append(searches.whole(count))
+        for what, ours, theirs in zip(("a start", "a test"), *(taken(few, many) for few, many in rows)):
+            print(f"  {count} workers: {what} {ours[0]:.2f} ms, with all {ours[1]:.2f}; beside {theirs[0]:.2f} and {theirs[1]:.2f}: "
+                  f"{ours[0] / theirs[0]:.2f} and {ours[1] / theirs[1]:.2f} times", flush=True)
+
+
 def write_line(path, commits):
     """A stream of a line of commits, each of which changes the one file."""
     with open(path, "w") as stream:
@@ -190,10 +217,23 @@ class Searches:
             costs.append(Cost(processor, late, len(os.listdir(self.logs))))
         return min(costs, key=lambda cost: cost.late)
 
-    def line(self, workers, command):
+    def line(self, workers, command, back=None):
         """The words of a search; its ends are not tested, as the test of nothing is good at the bad one, too."""
         return ["git-farmdawn", "--fresh", "--trust-ends", "--workers", str(workers), "--log-dir", self.logs, "main",
-                f"main~{self.commits - 1}", "--", *command]
+                f"main~{back or self.commits - 1}", "--", *command]
+
+    def whole(self, workers, back=None):
+        """Milliseconds of the driver's process, and with all that it waited for, in a search without an answer; and the tests."""
+        shutil.rmtree(self.logs, ignore_errors=True)
+        done = subprocess.Popen(self.line(workers, SKIPPING, back), cwd=self.folder, env=self.environment, stdin=subprocess.DEVNULL,
+                                stdout=subprocess.DEVNULL, stderr=subprocess.DEVNULL)
+        os.waitid(os.P_PID, done.pid, os.WEXITED | os.WNOWAIT)
+        own = own_time(done.pid)
+        _, status, usage = os.wait4(done.pid, 0)
+        done.returncode = os.WEXITSTATUS(status)
+        if done.returncode != 2:
+            sys.exit(f"a search that skips all ended with status {done.returncode}")
+        return own, 1000 * (usage.ru_utime + usage.ru_stime), len(os.listdir(self.logs))
 
     def own(self, workers, command):
         """What the driver's process took: milliseconds up to the first test, and for each test; megabytes at most; and the tests."""
@@ -287,6 +327,7 @@ def main():
     parser.add_argument("--lengths", type=lambda text: text.split(","))
     parser.add_argument("--names", action="store_true")
     parser.add_argument("--own", action="store_true")
+    parser.add_argument("--beside")
     parser.add_argument("--program", default=os.environ.get("FARMDAWN", os.path.join(TOP, "crates", "farmdawn", "out", "farmdawn")))
     parser.add_argument("--driver", default=os.path.join(TOP, "driver", "bin"))
     words = parser.parse_args()
@@ -299,7 +340,7 @@ def main():
     group = Group()
     atexit.register(group.remove)
     with tempfile.TemporaryDirectory() as work:
-        if not words.lengths and not words.names and not words.own:
+        if not words.lengths and not words.names and not words.own and not words.beside:
             print("own cost of a test beside git's checkout, of processors; the whole search (and its tests)", flush=True)
         for commits in words.commits:
             folder, stream = os.path.join(work, f"line{commits}"), os.path.join(work, "stream")
@@ -308,6 +349,12 @@ def main():
             if words.lengths:
                 print(f"{commits} commits, by the clock", flush=True)
                 compare(Searches(folder, stream, commits, environment, 1, group), words.workers, words.lengths)
+                continue
+            if words.beside:
+                print(f"{commits} commits, beside {words.beside}", flush=True)
+                other = {**environment, "PATH": os.path.abspath(words.beside) + os.pathsep + os.environ["PATH"]}
+                both = [Searches(folder, stream, commits, one, 1, group) for one in (environment, other)]
+                tell_beside(both, words.workers, words.runs)
                 continue
             if words.own:
                 print(f"{commits} commits, the driver's own process", flush=True)

@@ -32,7 +32,7 @@ at_most() {
     expect "a test is no more than $4 runs of $3 ($shorter and $longer)" [ $((longer - shorter)) -le $(($4 * more)) ]
 }
 
-# A test starts two programs, whether there are few commits or many: those of git that check out. All else it does by itself.
+# A test starts one program, whether there are few commits or many: the git that checks out. All else it does by itself.
 needs_few_programs() { needs_all; }
 test_few_programs() {
     make_line 60 99
@@ -42,7 +42,7 @@ test_few_programs() {
     search_counted 59
     more=$((tests - few_tests))
     expect 'more tests' [ $more -ge 3 ]
-    for due in git:2 date:0 sed:0 awk:0 flock:0 mv:0 rm:0 cat:0 ls:0 setpriv:0 setsid:0 env:0; do at_most "$few" "$runs" "${due%:*}" "${due#*:}"; done
+    for due in git:1 date:0 sed:0 awk:0 flock:0 mv:0 rm:0 cat:0 ls:0 setpriv:0 setsid:0 env:0; do at_most "$few" "$runs" "${due%:*}" "${due#*:}"; done
 }
 
 run_test "$@"

@@ -715,7 +715,8 @@ test_tools() {
     FARMDAWN=$PWD/../old git farmdawn --fresh main main~3 -- touch ../tested >log 2>told
     expect 'a program of another version is named' [ "$? $(grep -c 'is of another version: git farmdawn needs its `serve --original-names`' told)" = '1 1' ]
     expect 'in one line' [ "$(grep -vc 'commits* to search' told)" -eq 1 ]
-    mv ../bin/git ../aside && printf '#!/bin/sh\n[ "$1" != version ] || { echo git version 2.30.9; exit; }\nexec "%s" "$@"\n' "$(readlink ../aside)" >../bin/git && chmod +x ../bin/git
+    # which repeats what it does not know
+    mv ../bin/git ../aside && printf '#!/bin/sh\ncase $1 in version) echo git version 2.30.9 && exit ;; rev-parse) printf "%%s\\n" "$@" | grep path-format ;; esac\nexec "%s" "$@"\n' "$(readlink ../aside)" >../bin/git && chmod +x ../bin/git
     "$driver/git-farmdawn" main main~3 -- touch ../tested >log 2>told
     expect 'an old git is named' [ "$? $(cat told)" = '1 git farmdawn: git from 2.31 on is needed, and this is git version 2.30.9' ]
     expect 'nothing was tested' [ ! -e ../tested ]

@@ -3,6 +3,7 @@ from __future__ import annotations
 
 import errno
 import fcntl
+import gc
 import os
 import subprocess
 import sys
@@ -382,6 +383,8 @@ class Program:
         from .search.watch import Deadline
 
         assert self.results is not None
+        gc.freeze()  # what is there stays
+        gc.enable()
         try:
             does()
         except NoRoom as fault:

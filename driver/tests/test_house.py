@@ -28,8 +28,8 @@ Function = Union[ast.FunctionDef, ast.AsyncFunctionDef]
 # the standard library, as far as it is at hand in the smallest installs, and quick to import
 MAY_IMPORT = set(
     (
-        "__future__ collections difflib enum errno fcntl hashlib heapq html json math os re select selectors"
-        " shlex shutil signal stat struct subprocess sys termios time typing xml"
+        "__future__ collections difflib enum errno fcntl gc hashlib heapq html json math os re select"
+        " selectors shlex shutil signal stat struct subprocess sys termios time typing xml"
     ).split()
 )
 

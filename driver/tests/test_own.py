@@ -5,6 +5,8 @@ from __future__ import annotations
 import os
 import random
 import sys
+import tempfile
+import time
 import unittest
 from typing import Dict, List, NamedTuple, Optional, Tuple
 
@@ -12,6 +14,8 @@ from folders import sum_of
 from helpers import ENV, TOP, Repository, begins_first, needs_engine
 
 sys.path.insert(0, os.path.join(TOP, "driver"))
+from git_farmdawn.checkouts.gitfolder import GitFolder  # noqa: E402
+from git_farmdawn.repository.original import ALTERNATES, Stored  # noqa: E402
 from git_farmdawn.repository.original import escaped, pair_of, written  # noqa: E402
 from git_farmdawn.repository.refs import PRIVATE, list_refs, place_of, read_refs  # noqa: E402
 
@@ -379,6 +383,25 @@ class Submodules(unittest.TestCase):
                 got = repo.search(*words, "--trust-ends", "c5", "c3", "--", "sh", "-c", test)
                 self.assertEqual(got.returncode, 0, got)
                 self.assertIn(" is the first bad commit", got.stdout)
+
+
+class Folders(unittest.TestCase):
+    """The git folder of a checkout, by itself."""
+
+    def test_soon(self) -> None:
+        """What comes at once behind what was put back goes, too, however coarse the times of folders
+        are; and so does what comes later."""
+        with tempfile.TemporaryDirectory() as room:
+            own = GitFolder({ALTERNATES: Stored(b"/x\n")}, room + "/git", room + "/kept", set())
+            for number in range(100):
+                own.put_back(b"%040d\n" % number)
+                with self.subTest(number):
+                    self.assertEqual(os.listdir(room + "/git/refs/heads"), [])
+                    self.assertEqual(sorted(os.listdir(room + "/git/objects")), ["info", "pack"])
+                if number % 3:
+                    open(room + "/git/refs/heads/new", "w", encoding="ascii").close()
+                if not number % 7:
+                    time.sleep(0.01)
 
 
 if __name__ == "__main__":

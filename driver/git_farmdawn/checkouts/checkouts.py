@@ -10,6 +10,7 @@ from typing import TYPE_CHECKING, Dict, Generator, NamedTuple, Optional, Union
 from ..host.loop import Loop
 from ..host.process import Child, Command
 from ..host.trees import mounts_below, remove_tree
+from ..repository.differences import Differences
 from ..repository.original import Original
 from ..repository.repository import PLAIN
 from .built import Built
@@ -49,7 +50,7 @@ class Shop:
     def __init__(
         self, loop: Loop, keeper: Keeper, run: Run, original: Original, brings: Brings
     ) -> None:
-        self.original = original
+        self.original, self.differences = original, Differences(original)
         self.loop, self.keeper, self.repo, self.run = loop, keeper, run.repo, run
         self.copies, self.versions, self.clean, self.pool, self.private = brings
         # what a partial clone lacks is fetched once, and stays with the user
@@ -59,12 +60,19 @@ class Shop:
 
     def start(self, words: list[str], out: Optional[int]) -> Child:
         """Starts a command of git."""
-        return Child(self.loop, self.keeper, Command([*PLAIN, *words], self.env, out=out))
+        return Child(
+            self.loop, self.keeper, Command([self.repo.git, *PLAIN, *words], self.env, out=out)
+        )
 
     def ask(self, words: list[str], given: int, out: int) -> Child:
         """Starts one whose output is read, without what it warns of, and which reads a file."""
-        command = Command([*PLAIN, *words], self.env, out=DEVNULL, own_out=out, given=given)
+        words = [self.repo.git, *PLAIN, *words]
+        command = Command(words, self.env, out=DEVNULL, own_out=out, given=given)
         return Child(self.loop, self.keeper, command)
+
+    def close(self) -> None:
+        """Ends what was begun for all of them."""
+        self.differences.close()
 
 
 class Checkout:

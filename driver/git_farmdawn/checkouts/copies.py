@@ -38,6 +38,8 @@ class Copies:
         `brought` has those that stand there from an earlier time, with the signs of what was
         copied: one that was changed since is copied anew. `has` says what the commit has: what an
         earlier build left in the place of a link gives way."""
+        if not self.paths:
+            return []
         root, linked = os.path.realpath(checkout), []
         for path in self.paths:
             target, is_link = self.find_target(checkout, path), path in self.links

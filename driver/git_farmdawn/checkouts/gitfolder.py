@@ -5,13 +5,16 @@ from __future__ import annotations
 
 import os
 import stat
+import time
 from typing import Dict, List, Optional, Set, Tuple
 
-from ..host.files import content, first_line
+from ..host.files import content, first_line, write_all
 from ..host.trees import remove_tree
 from ..repository.original import ALTERNATES, Files, Original, Stored
+from .tree import COARSE
 
-FOLDERS = ("objects", "objects/info", "objects/pack", "refs", "refs/heads", "refs/tags", "info")
+FOLDERS = {"objects", "objects/info", "objects/pack", "refs", "refs/heads", "refs/tags", "info"}
+FOLDERS.add("logs")  # which git makes at the first checkout
 STAYS = {"index", "lfs"}  # what is looked at elsewhere, or may have been fetched
 NEW = os.O_WRONLY | os.O_CREAT | os.O_EXCL | os.O_NOFOLLOW | os.O_CLOEXEC
 MORE = os.O_WRONLY | os.O_CREAT | os.O_APPEND | os.O_NOFOLLOW | os.O_CLOEXEC
@@ -50,17 +53,23 @@ class GitFolder:
     def __init__(self, files: Files, path: str, kept: str, stays: Set[str]) -> None:
         self.files, self.path, self.kept, self.stays = files, path, kept, stays
         self.signs: Dict[str, Signs] = {}
+        self.listed: Dict[str, Signs] = {}  # folders that have nothing else
         self.index: Signs = None
         folders = set(FOLDERS)
         for name in files:
             while name:
                 name = os.path.dirname(name)
                 folders.add(name)
-        self.folders: List[str] = sorted(folders)
+        self.folders = dict.fromkeys(sorted(folders))
 
     def is_ours(self) -> bool:
         """Whether it is there, and leads to the objects of its repository."""
-        return is_folder(self.path) and leads_to(self.path) == first_store(self.files)
+        if not is_folder(self.path):
+            return False
+        signs = signs_of(os.path.join(self.path, ALTERNATES))
+        if signs is not None and signs == self.signs.get(ALTERNATES):
+            return True  # it is as it was left here
+        return leads_to(self.path) == first_store(self.files)
 
     def put_back(self, head: bytes) -> None:
         """Makes it what it was at first, with this head. Raises OSError where it cannot be."""
@@ -68,11 +77,13 @@ class GitFolder:
             self.make_folder(self.path)
         files = {**self.files, "HEAD": Stored(head)}
         for folder in self.folders:
-            path = os.path.join(self.path, folder)
-            if is_folder(path):
-                self.remove_others(folder, files)
-            else:
+            path = f"{self.path}/{folder}"
+            signs = signs_of(path)
+            if signs is None or not stat.S_ISDIR(signs[0]):
                 self.make_folder(path)
+            elif signs != self.listed.get(folder):
+                self.remove_others(folder, files)
+                self.note_listed(folder)
         for name, stored in files.items():
             self.put_file(name, stored)
         self.put_index()
@@ -81,10 +92,18 @@ class GitFolder:
         """Removes what a folder has that was not there at first; objects of tests, too."""
         if folder.split("/")[0] in self.stays:
             return
-        for name in os.listdir(os.path.join(self.path, folder)):
-            path = os.path.join(folder, name)
+        above = folder + "/" if folder else ""
+        for name in os.listdir(f"{self.path}/{folder}"):
+            path = above + name
             if path not in files and path not in self.folders and path not in self.stays:
-                self.remove(os.path.join(self.path, path))
+                self.remove(f"{self.path}/{path}")
+
+    def note_listed(self, folder: str) -> None:
+        """Notes a folder that has nothing else, where what comes later would give it another time
+        than it has."""
+        signs = signs_of(f"{self.path}/{folder}")
+        is_old = signs is not None and time.clock_gettime_ns(COARSE) > signs[3]
+        self.listed[folder] = signs if is_old else None
 
     @classmethod
     def make_folder(cls, path: str) -> None:
@@ -103,15 +122,14 @@ class GitFolder:
 
     def put_file(self, name: str, stored: Stored) -> None:
         """Writes a file anew, unless it is as it was left here, or has all the same."""
-        path = os.path.join(self.path, name)
+        path = f"{self.path}/{name}"
         signs = signs_of(path)
         if signs is not None and signs == self.signs.get(name) and name != "HEAD":
             return
-        if signs is None or not self.has(path, stored, signs[0]):
+        if signs is None or name == "HEAD" or not self.has(path, stored, signs[0]):
             if signs is not None:
                 self.remove(path)
-            with open(os.open(path, NEW, stored.mode), "wb") as file:
-                file.write(stored.text)
+            write_new(path, stored.text, stored.mode)
             signs = signs_of(path)
         self.signs[name] = signs
 
@@ -151,6 +169,7 @@ class GitFolder:
     def forget(self) -> None:
         """Forgets what is known of a folder that is made anew."""
         self.signs.clear()
+        self.listed.clear()
         self.index = None
         self.remove(self.kept)
 
@@ -249,10 +268,18 @@ def read_files(folder: str) -> Files:
     return files
 
 
+def write_new(path: str, text: bytes, mode: int = 0o666) -> None:
+    """A new file."""
+    fd = os.open(path, NEW, mode)
+    try:
+        write_all(fd, text)
+    finally:
+        os.close(fd)
+
+
 def copy(source: str, target: str) -> None:
     """Copies a file with its time, by which git sees what was changed just behind it."""
-    with open(os.open(target, NEW, 0o666), "wb") as file:
-        file.write(content(source))
+    write_new(target, content(source))
     found = os.lstat(source)
     os.utime(target, ns=(found.st_atime_ns, found.st_mtime_ns))
 

@@ -12,12 +12,18 @@ UNFINISHED = ("BISECT_START", "BISECT_LOG", "rebase-merge", "rebase-apply", "seq
 LEFT = (*UNFINISHED, "MERGE_HEAD", "CHERRY_PICK_HEAD", "REVERT_HEAD")
 
 
+def names_in(own: str) -> List[str]:
+    """What a git folder has; nothing where there is none."""
+    try:
+        return os.listdir(own)
+    except OSError:
+        return []
+
+
 def unfinished(own: str) -> str:
     """What git has not ended: the name of its file, or nothing."""
-    for name in UNFINISHED:
-        if os.path.lexists(os.path.join(own, name)):
-            return name
-    return ""
+    found = names_in(own)
+    return next((name for name in UNFINISHED if name in found), "")
 
 
 def head_of(own: str) -> str:
@@ -45,7 +51,8 @@ class Before:
 
     def list_left(self) -> List[str]:
         """What of git's is there that a fresh checkout has not."""
-        return [name for name in LEFT if os.path.lexists(os.path.join(self.own.path, name))]
+        found = names_in(self.own.path)
+        return [name for name in LEFT if name in found]
 
     def changed(self) -> str:
         """What is not as it was, so that what the test told is not believed; or nothing."""

@@ -9,6 +9,7 @@ from typing import TYPE_CHECKING, Dict, Generator, List, Optional, Union
 
 from ..host.files import open_unnamed
 from ..host.process import Child
+from ..repository.differences import DIFFER, Differences
 from ..repository.original import Original
 from .gitfolder import STAYS, GitFolder, Modules
 from .left import head_of
@@ -21,6 +22,7 @@ if TYPE_CHECKING:
         """Who starts git, and knows how a git folder begins."""
 
         original: Original
+        differences: Differences
 
         def start(self, words: List[str], out: Optional[int]) -> Child:
             """A command of git."""
@@ -93,8 +95,10 @@ class Folder:
         self.remove_caches()
         if before == commit:
             return []
-        words = ["diff-tree", "-r", "-z", "--no-renames", before, commit]
-        changes = changes_of((yield from self.ask(words)))
+        said = yield from self.starts.differences.between(before, commit)
+        if said is None:
+            said = yield from self.ask([*DIFFER, before, commit])
+        changes = changes_of(said)
         for change in changes:
             if MODULE in change[1:]:
                 self.clear_module(change)

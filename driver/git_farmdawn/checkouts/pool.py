@@ -106,7 +106,7 @@ class Pool:
                 self.folder + " is another user's; --pool wants a folder of your own",
             )
         self.base = os.path.join(self.folder, os.path.basename(repo.top or repo.gitdir) or "root")
-        words = [FORM, repo.gitdir, str(submodules), original.sign(), repo.version]
+        words = [FORM, repo.gitdir, str(submodules), original.sign(), repo.text("version")]
         words += sorted("=".join(pair) for pair in repo.checkout_env.items() if turns(pair[0]))
         self.sign = hashlib.sha256(os.fsencode("\0".join(words))).hexdigest()[:16]
 

@@ -269,10 +269,11 @@ class Trials:
         cwd = os.path.normpath(os.path.join(slot.folder, self.repo.prefix))
         if not os.path.isdir(slot.folder):
             raise OSError(f"{slot.folder} was removed")
-        if not os.path.isdir(cwd):
+        if cwd != slot.folder and not os.path.isdir(cwd):
             self.note(log, f"no folder {self.repo.prefix} in this commit")
             return SKIP
-        os.makedirs(slot.build, exist_ok=True)
+        if not os.path.isdir(slot.build):
+            os.makedirs(slot.build, exist_ok=True)
         env = self.environment(slot, job, cwd)
         if os.path.lexists(self.host_file(job)):
             os.unlink(self.host_file(job))
@@ -502,7 +503,12 @@ class Trials:
                 job.lacks_room(place)
         child = job.child
         if child is not None and child.status is None and not job.lacked_room:
-            slot.shop.loop.later(LOOKS, self.watch_room, slot, job)
+            slot.shop.loop.later(LOOKS, self.watch_on, slot, job, child)
+
+    def watch_on(self, slot: Slot, job: Job, child: Child) -> None:
+        """The same again, where that command still runs."""
+        if child.status is None:
+            self.watch_room(slot, job)
 
 
 def status_of(child: Child) -> int:

@@ -82,7 +82,7 @@ class Versions:
     def put(self, files: Folder, brought: Dict[str, str], when: int) -> None:
         """Puts the files in place of the commit's. Their time is the one when they first came into
         this checkout: what was built of other ones is older, and what is built of them is newer."""
-        root = os.path.realpath(files.path)
+        root = os.path.realpath(files.path) if self.owns else ""
         for own in self.owns:
             for path in [one for one in files.tree.signs if is_at(one, own.path)]:
                 self.copies.remove(files.path, os.path.join(root, path))

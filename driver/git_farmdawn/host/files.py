@@ -4,7 +4,7 @@ from __future__ import annotations
 import errno
 import os
 import stat
-from typing import BinaryIO, Dict, Iterable, List
+from typing import BinaryIO, Dict, Iterable, List, Optional
 
 from ..telling.status import Status
 from ..telling.voice import ME, Stop
@@ -12,20 +12,31 @@ from ..telling.voice import ME, Stop
 
 def first_line(path: str) -> str:
     """The first line of a file, without its end; nothing where there is no such file."""
-    try:
-        with open(path, "rb") as file:
-            return os.fsdecode(file.readline(65536)).rstrip("\n")
-    except OSError:
-        return ""
+    return os.fsdecode(content(path, 65536).partition(b"\n")[0])
 
 
-def content(path: str) -> bytes:
-    """All of a file; nothing where there is no such file."""
+def content(path: str, most: Optional[int] = None) -> bytes:
+    """All of a file, or its first part; nothing where there is no such file."""
     try:
-        with open(path, "rb", buffering=0) as file:
-            return file.read()
+        fd = os.open(path, os.O_RDONLY | os.O_CLOEXEC)
     except OSError:
         return b""
+    try:
+        parts = [os.read(fd, most or 65536)]
+        while parts[-1] and most is None:
+            parts.append(os.read(fd, 1 << 20))
+        return b"".join(parts)
+    except OSError:
+        return b""
+    finally:
+        os.close(fd)
+
+
+def write_all(fd: int, data: bytes) -> None:
+    """Writes all of it into an open file."""
+    left = memoryview(data)
+    while left:
+        left = left[os.write(fd, left) :]
 
 
 # names of the standard input
@@ -103,11 +114,13 @@ def write_whole(path: str, data: bytes, lasts: bool = False) -> None:
     """A whole file under its name, or none. One that `lasts` stays when the power fails, too."""
     new = "%s.new.%d" % (path, os.getpid())
     try:
-        with open(open_new(new), "wb") as file:
-            file.write(data)
+        fd = open_new(new)
+        try:
+            write_all(fd, data)
             if lasts:
-                file.flush()
-                os.fsync(file.fileno())
+                os.fsync(fd)
+        finally:
+            os.close(fd)
         os.replace(new, path)
     except OSError:
         remove(new)

@@ -38,8 +38,11 @@ def tell_left(left: List[Left], say: Callable[[str], object]) -> None:
 def mounts_below(folder: str) -> List[str]:
     """The places at or below a folder where something is mounted."""
     top = os.fsencode(os.path.realpath(folder))
-    found = []
-    for line in content("/proc/self/mountinfo").split(b"\n"):
+    found: List[str] = []
+    text = content("/proc/self/mountinfo")
+    if b" " + top not in text and b"\\" not in text:  # by which some names are written otherwise
+        return found
+    for line in text.split(b"\n"):
         words = line.split(b" ", 5)
         if len(words) > 4:
             path = words[4]

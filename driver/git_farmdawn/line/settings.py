@@ -393,7 +393,9 @@ class Filler:
             else:
                 words.append(end.text)
         words = words or ["HEAD"]
-        names = [self.commit(word, number) for number, word in enumerate(words)]
+        names = self.repo.commits(words)
+        for number, (word, name) in enumerate(zip(words, names)):
+            names[number] = name or self.commit(word, number)
         self.settings.take_ends(names)
         if not self.settings.goods:
             self.settings.look_back(words[0])

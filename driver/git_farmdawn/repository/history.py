@@ -113,7 +113,7 @@ class History(Commits):
     def list_candidates(self) -> Iterator[Tuple[str, List[str]]]:
         """Names and parents of what lies between the ends, parents first, as git finds them."""
         words = [
-            "git",
+            self.repo.git,
             "-c",
             "log.showSignature=false",
             "rev-list",

@@ -12,7 +12,7 @@ from ..host.files import content
 from ..telling.status import Status
 from ..telling.voice import Stop
 from .refs import list_refs, read_refs
-from .repository import Repository
+from .repository import ABSOLUTE, COPIED, FILES, FORMAT, PATHS, Repository
 
 # what says where a repository is, and how it is stored: that is said anew for each checkout
 PLACES = (
@@ -26,7 +26,6 @@ PLACES = (
     "extensions.relativeworktrees",
     "lfs.storage",  # `git lfs prune` of a test would remove the user's files; git finds them anyway
 )
-COPIED = ("shallow", "info/exclude", "info/attributes", "info/grafts", "info/sparse-checkout")
 ALTERNATES = "objects/info/alternates"
 LARGEST_HOOK = 1 << 20
 Pair = Tuple[str, Optional[str]]  # a name alone has no value, and is true
@@ -79,12 +78,12 @@ class Original:
 
     def __init__(self, repo: Repository, own: str = "", modules: bool = False) -> None:
         self.repo, self.own, self.is_module = repo, own or repo.own_gitdir, bool(own)
-        named = ("config", "refs", "packed-refs", *COPIED)
-        words = [word for name in ("objects", *named) for word in ("--git-path", name)]
-        said = self.ask("rev-parse", "--path-format=absolute", "--show-object-format", *words)
-        self.format, objects, *rows = os.fsdecode(said).split("\n")
-        self.objects = os.path.realpath(objects)
-        self.found = dict(zip(named, rows))
+        self.format, self.found = repo.format, repo.files
+        if self.is_module:
+            said = self.ask("rev-parse", ABSOLUTE, *FILES, FORMAT)
+            *rows, self.format = os.fsdecode(said).split("\n")[:-1]
+            self.found = dict(zip(PATHS, rows))
+        self.objects = os.path.realpath(self.found["objects"])
         self.files: Files = {}
         self.modules: Dict[str, Original] = {}
         self.stores = list(dict.fromkeys(self.list_stores()))
@@ -163,6 +162,8 @@ class Original:
     def conditional(self, rows: List[Tuple[bytes, bytes]]) -> Iterator[Pair]:
         """What the user's own files of configuration include for this repository alone, by its
         place: `includeIf "gitdir:..."`."""
+        if not any(row.startswith(b"includeif.") for _, row in rows):
+            return
         plain = ("config", "--list", "-z", "--show-scope", "--includes")
         always = rows_of(self.repo.run(*plain, cwd="/", check=False, env=self.repo.checkout_env))
         for scope, row in rows:
@@ -201,6 +202,8 @@ class Original:
         else:
             refs = list_refs(self.ask)
         self.files["packed-refs"] = Stored(refs.packed)
+        base = os.fsencode(self.repo.env.get("GIT_REPLACE_REF_BASE", "refs/replace/"))
+        self.has_replaced = b" " + base in refs.packed
         for name, leads in refs.symbolic.items():
             self.files[os.fsdecode(name)] = Stored(b"ref: " + leads + b"\n")
 

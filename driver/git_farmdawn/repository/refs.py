@@ -58,14 +58,15 @@ def read_refs(folder: str, packed: str, ask: Ask) -> Refs:
 
 
 def peeled_rows(values: Dict[bytes, bytes], ask: Ask) -> Dict[bytes, bytes]:
-    """The rows of refs, with what tags lead to."""
-    asked = b"".join(value + b"^{}\n" for value in values.values())
+    """The rows of refs, with what tags lead to. Git has a branch lead to nothing but a commit."""
+    rows = {name: value + b" " + name + b"\n" for name, value in values.items()}
+    others = [name for name in values if not name.startswith(b"refs/heads/")]
+    asked = b"".join(values[name] + b"^{}\n" for name in others)
     words = ("cat-file", "--batch-check=%(objectname)")
-    said = ask(*words, input=asked, check=False).split(b"\n") if values else []
-    rows = {}
-    for (name, value), found in zip(values.items(), said):
-        peeled = b"^" + found + b"\n" if VALUE.fullmatch(found) and found != value else b""
-        rows[name] = value + b" " + name + b"\n" + peeled
+    said = ask(*words, input=asked, check=False).split(b"\n") if others else []
+    for name, found in zip(others, said):
+        if VALUE.fullmatch(found) and found != values[name]:
+            rows[name] += b"^" + found + b"\n"
     return rows
 
 

@@ -30,7 +30,6 @@ EVERYWHERE = (
     "GIT_REPLACE_REF_BASE",
 )
 PLAIN = (
-    "git",
     "-c",
     "core.hooksPath=/dev/null",
     "-c",
@@ -42,6 +41,13 @@ PLAIN = (
     "-c",
     "submodule.recurse=false",
 )
+# what turns how commits are checked out, of the files of a git folder
+COPIED = ("shallow", "info/exclude", "info/attributes", "info/grafts", "info/sparse-checkout")
+PATHS = ("objects", "config", "refs", "packed-refs", *COPIED)
+ABSOLUTE = "--path-format=absolute"  # git from 2.31 on knows it; an older one repeats it
+PLACE = ("--git-common-dir", "--absolute-git-dir", "--show-prefix")
+FILES = tuple(word for name in PATHS for word in ("--git-path", name))
+FORMAT = "--show-object-format"
 SHORT = 40  # digits of a name that the engine knows
 MOST_REFS = 2000  # so many are looked through for a name that may have been meant
 
@@ -79,6 +85,17 @@ def original_environment() -> Dict[str, str]:
     return env
 
 
+def path_of_git(env: Mapping[str, str]) -> str:
+    """Where git is, for all of a search; its name where that depends on the folder at hand."""
+    for folder in os.get_exec_path(env):
+        path = folder + "/git"
+        if not folder.startswith("/"):
+            break
+        if os.path.isfile(path) and os.access(path, os.X_OK):
+            return path
+    return "git"
+
+
 def is_name(text: str) -> bool:
     """Whether it is the whole name of a commit."""
     return re.fullmatch("[0-9a-f]{40}|[0-9a-f]{64}", text) is not None
@@ -91,11 +108,10 @@ class Repository:
 
     def __init__(self) -> None:
         self.user_env = original_environment()
-        self.env = dict(self.user_env, LC_ALL="C")
-        self.check_version()
-        self.find()
+        self.env, self.git = dict(self.user_env, LC_ALL="C"), path_of_git(self.user_env)
         for name in ODD:
             self.env.pop(name, None)
+        self.find()
         self.test_env = {
             name: value
             for name, value in self.user_env.items()
@@ -116,47 +132,44 @@ class Repository:
                 self.gitdir + " cannot be written, or has no room; nothing was tested",
             ) from None
 
-    def check_version(self) -> None:
-        """git must be there, and not too old."""
+    def find(self) -> None:
+        """Asks git where the repository and its files are, and has the environment name it in full.
+        Where there is no work tree, git says all but that."""
+        words = ("--local-env-vars", ABSOLUTE, *PLACE, *FILES, FORMAT)
+        said = self.ask_where(*words, "--show-toplevel", FORMAT)
+        local = [line for line in said if re.fullmatch("GIT_[A-Z_]+", line)]
+        self.local = [name for name in local if name not in EVERYWHERE]
+        found, count = said[len(local) :], len(PLACE) + len(PATHS) + 1
+        if len(found) < count:
+            try:
+                self.run("rev-parse", *words, loud=True)
+            except subprocess.CalledProcessError:
+                raise Stop(Status.NO_COMMIT) from None
+        has_top = len(found) == count + 2 and found[-1] == found[count - 1]
+        if len(found) != count and not has_top:
+            raise Stop(Status.REFUSED, "the path of this repository has a line break")
+        common, self.own_gitdir, self.prefix, *files, self.format = found[:count]
+        self.gitdir, self.files = os.path.realpath(common), dict(zip(PATHS, files))
+        self.top = os.path.realpath(found[count]) if has_top else ""
+        if self.env.get("GIT_DIR"):
+            self.env["GIT_DIR"] = self.own_gitdir
+        if self.env.get("GIT_WORK_TREE"):
+            self.env["GIT_WORK_TREE"] = self.top
+
+    def ask_where(self, *words: str) -> List[str]:
+        """What git says of the repository. It must be there, and not too old."""
         try:
-            self.version = self.text("version")
-            found = self.version.split()[2]
+            said = self.text("rev-parse", *words, check=False).split("\n")
         except FileNotFoundError:
             raise Stop(
                 Status.REFUSED,
                 "git is not installed (needed are Linux, git from 2.31 on, and farmdawn)",
             ) from None
-        if [int(part) for part in re.findall("[0-9]+", found)[:2]] < [2, 31]:
+        if ABSOLUTE in said:
             raise Stop(
-                Status.REFUSED, "git from 2.31 on is needed, and this is git version " + found
+                Status.REFUSED, "git from 2.31 on is needed, and this is " + self.text("version")
             )
-
-    def find(self) -> None:
-        """Asks git where the repository is, and has the environment name it in full."""
-        try:
-            said = self.text(
-                "rev-parse",
-                "--local-env-vars",
-                "--path-format=absolute",
-                "--git-common-dir",
-                "--absolute-git-dir",
-                "--show-prefix",
-                loud=True,
-            ).split("\n")
-        except subprocess.CalledProcessError:
-            raise Stop(Status.NO_COMMIT) from None
-        local = [line for line in said if re.fullmatch("GIT_[A-Z_]+", line)]
-        self.local = [name for name in local if name not in EVERYWHERE]
-        paths = said[len(local) :]
-        top = self.text("rev-parse", "--show-toplevel", check=False)
-        if len(paths) != 3 or "\n" in top:
-            raise Stop(Status.REFUSED, "the path of this repository has a line break")
-        self.gitdir, self.own_gitdir, self.prefix = os.path.realpath(paths[0]), paths[1], paths[2]
-        self.top = os.path.realpath(top) if top else ""
-        if self.env.get("GIT_DIR"):
-            self.env["GIT_DIR"] = self.own_gitdir
-        if self.env.get("GIT_WORK_TREE"):
-            self.env["GIT_WORK_TREE"] = self.top
+        return said
 
     # -- commands ------------------------------------------------------------
 
@@ -171,7 +184,7 @@ class Repository:
     ) -> bytes:
         """What a command of git prints."""
         done = subprocess.run(
-            ("git",) + words,
+            (self.git,) + words,
             input=input,
             stdin=subprocess.DEVNULL if input is None else None,
             stdout=subprocess.PIPE,
@@ -194,7 +207,7 @@ class Repository:
         """Whether a command of git ends with 0."""
         return (
             subprocess.run(
-                ("git",) + words,
+                (self.git,) + words,
                 stdin=subprocess.DEVNULL,
                 stdout=subprocess.DEVNULL,
                 stderr=subprocess.DEVNULL,
@@ -214,6 +227,13 @@ class Repository:
         if not is_name(found):
             raise Stop(Status.NO_COMMIT, word + ": no commit of that name")
         return found
+
+    def commits(self, words: Sequence[str]) -> List[str]:
+        """The whole names of the commits that words name, nothing for one that names none."""
+        asked = os.fsencode("".join(word + "^{commit}\n" for word in words))
+        said = self.text("cat-file", "--batch-check=%(objectname)", input=asked, check=False)
+        found = [line if is_name(line) else "" for line in said.split("\n")]
+        return found if len(found) == len(words) else ["" for _ in words]
 
     def is_commit(self, word: str) -> bool:
         """Whether a word names a commit."""

@@ -156,8 +156,9 @@ class Search:
                 time.sleep(pause)
 
     def close(self) -> None:
-        """Ends the engine."""
+        """Ends the engine, and the git of the checkouts."""
         self.dialogue.close()
+        self.shop.close()
 
     # -- what the engine says ----------------------------------------------------
 
