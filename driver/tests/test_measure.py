@@ -225,6 +225,8 @@ class Simulated(unittest.TestCase):
         spec.loader.exec_module(slower)
         found = re.search("^[|] 4 [|] (.*?) [|]", text, re.M)
         self.assertEqual(found and found.group(1), slower.cell(4, 0, 4, 1000))
+        drift = slower.drifting_cell(2, (2, 0), (True, False), 1000)
+        self.assertIn("| is 2 slower, a third of the time | %s |" % drift, text)
         ways, wrong = {0: 1.0}, 0.0  # of so much of a lead
         for run in range(1, measured.MOST_RUNS + 1):
             further: Dict[int, float] = {}
