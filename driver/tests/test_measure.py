@@ -225,6 +225,8 @@ class Simulated(unittest.TestCase):
         spec.loader.exec_module(slower)
         found = re.search("^[|] 4 [|] (.*?) [|]", text, re.M)
         self.assertEqual(found and found.group(1), slower.cell(4, 0, 4, 1000))
+        drift = slower.drifting_cell(2, (2, 0), (True, False), 1000)
+        self.assertIn("| is 2 slower, a third of the time | %s |" % drift, text)
         ways, wrong = {0: 1.0}, 0.0  # of so much of a lead
         for run in range(1, measured.MOST_RUNS + 1):
             further: Dict[int, float] = {}
@@ -392,6 +394,31 @@ class Searches(unittest.TestCase):
                 self.check(got, answer)
                 self.assertIn(told, got.stderr)
                 self.assertEqual("confirmed: " in got.stderr, bool(told))
+
+    def test_in_turns(self) -> None:
+        """The answer and its parent are measured in turns, in the same minutes, with one worker and
+        with a build, too: each is built once more, in a checkout that stays."""
+        room = self.repo.room
+        script = 'n=$(cat number); echo $n >>"$0/order"; echo $((100 + 20 * (n >= 7)))'
+        build = "echo $(cat number) >>%s/built" % room
+        for words in ([], ["--build", build]):
+            with self.subTest(words):
+                for name in ("order", "built"):
+                    with open(os.path.join(room, name), "w", encoding="utf-8"):
+                        pass
+                line = ["--fresh", "--measure", "-j", "1", *words, *self.repo.ends()]
+                got = self.repo.search(*line, "--", "sh", "-c", script, room)
+                self.check(got, "c7")
+                self.assertIn("confirmed: %s bad 4 of 4" % self.repo.name("c7")[:12], got.stderr)
+                with open(os.path.join(room, "order"), encoding="utf-8") as file:
+                    runs = file.read().split()[-30:]
+                due = [n for turn in range(3) for n in ("7", "6") for _ in range(5)]
+                self.assertEqual(runs, due)
+                with open(os.path.join(room, "built"), encoding="utf-8") as file:
+                    built = file.read().split()
+                often = {n for n in built if built.count(n) > 1 + (n in ("6", "7"))}
+                self.assertEqual(often, set())
+        self.repo.check_left()
 
     def test_lines(self) -> None:
         """What does not go together with it."""

@@ -265,11 +265,24 @@ class Places:
         slot = self.slot_anew(claim.commit)
         if slot is None:
             others = [one for one in self.slots if one.anew and one.anew == one.wants]
-            slot = self.idle_slot(claim.commit, others if self.settings.build else ())
+            slot = self.slot_in_turns(others) or self.idle_slot(
+                claim.commit, others if self.settings.build else ()
+            )
             slot.anew = claim.commit
             if self.settings.build:
                 slot.ready = ""
         self.put_into(slot, claim)
+
+    def slot_in_turns(self, others: Sequence[Slot]) -> Optional[Slot]:
+        """One more checkout, where numbers are measured in turns, and those that are idle stand
+        built for the other commits: so each of these is built once more, however often it has its
+        turn."""
+        settings = self.settings
+        is_idle = any(slot.is_idle() and slot not in others for slot in self.slots)
+        if settings.measure is None or not settings.build or not others or is_idle:
+            return None
+        self.slots.append(Slot(self.shop, len(self.slots)))
+        return self.slots[-1]
 
     def put(self, claim: Claim) -> None:
         """Puts a test behind those of the same commit, or into an idle checkout."""

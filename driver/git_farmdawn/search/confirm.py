@@ -4,7 +4,7 @@ there."""
 from __future__ import annotations
 
 import os
-from typing import TYPE_CHECKING, Callable, Dict, List, Optional, Sequence, Set, Tuple
+from typing import TYPE_CHECKING, Callable, Dict, List, NamedTuple, Optional, Sequence, Set, Tuple
 
 from ..host.files import FIRST_RUN, kind_of_log
 from ..known.evidence import WrongEnd, with_answer
@@ -21,6 +21,14 @@ if TYPE_CHECKING:
     from .ends import Ends
 
 TIMES = 3  # where the search says by itself that it is to be done
+
+
+class Further(NamedTuple):
+    """A further test of a commit; its `turn` is how many began before it."""
+
+    test: Test
+    commit: str
+    turn: int
 
 
 class Confirming:
@@ -45,6 +53,7 @@ class Confirming:
         self.doubted: Set[str] = set()  # tests whose answers are to be confirmed
         # whether further tests are made one at a time: they contradict each other
         self.is_apart = known.settings.alone
+        self.is_in_turns = known.settings.measure is not None
 
     # -- what is to be tested ----------------------------------------------------
 
@@ -114,7 +123,7 @@ class Confirming:
         workers. Of each there are to be as many as are `wanted`."""
         wanted = self.wanted if wanted is None else wanted
         while True:
-            waiting: List[Tuple[Test, str]] = []
+            waiting: List[Further] = []
             busy = 0
             for test, commit in commits:
                 if test.wrong is not None:
@@ -124,14 +133,16 @@ class Confirming:
                     for claim in self.claims.alone
                 )
                 busy += under_way
-                waiting += [(test, commit)] * (self.lacking(test, commit, wanted) - under_way)
+                more = self.lacking(test, commit, wanted) - under_way
+                begun = self.tried.get((test.name, commit), 0)
+                waiting += [Further(test, commit, begun + at) for at in range(more)]
             self.look_for_contradictions(commits)
-            for test, commit in sorted(waiting, key=self.order):
-                if self.claims.is_free_again(commit) and not (
-                    self.is_apart and self.claims.places.jobs()
-                ):
+            for test, commit, _ in sorted(waiting, key=self.order):
+                if self.may_begin(commit):
                     self.begin(test, commit)
                     busy += 1
+                elif self.is_in_turns:
+                    break  # none begins before those whose turn comes first
             if not waiting and not busy:
                 return
             self.turn()
@@ -143,11 +154,20 @@ class Confirming:
             all(counts_of(test.seen.all_runs(commit)[0])) for test, commit in commits
         )
 
-    def order(self, one: Tuple[Test, str]) -> Tuple[bool, int]:
+    def may_begin(self, commit: str) -> bool:
+        """Whether one more test of a commit may begin now. One that has its turn waits for no place
+        in a checkout: it would come behind those of its own commit."""
+        places = self.claims.places
+        if self.is_apart and places.jobs() or self.is_in_turns and not places.has_room():
+            return False
+        return self.claims.is_free_again(commit)
+
+    def order(self, one: Further) -> Tuple[bool, int]:
         """Which of several tests begins first: those whose checkout was made anew already, as it
-        may be another commit's next, and then those that have the fewest."""
-        test, commit = one
-        return not self.claims.is_ready_again(commit), self.tried.get((test.name, commit), 0)
+        may be another commit's next, and then those that have the fewest. Numbers are compared
+        that were measured in the same minutes: there each commit has its turn."""
+        is_ready = self.is_in_turns or self.claims.is_ready_again(one.commit)
+        return not is_ready, one.turn
 
     def begin(self, test: Test, commit: str) -> Claim:
         """One more test of a commit, in a checkout that was made anew for it, or is idle."""
