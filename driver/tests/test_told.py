@@ -164,7 +164,7 @@ class Wrong(unittest.TestCase):
                     self.assertEqual(len(repo.sh("cat ../count")), tests)
 
     def test_reasons(self) -> None:
-        """The first bad commit and the first skip are told with their reason and the last lines of
+        """The first failure and the first skip are told with their reason and the last lines of
         their output, all others without; an end that was skipped at its limit, too."""
         repo = Repository(self)
         speaks = "echo first; seq 9; echo number $(cat number); "
@@ -175,6 +175,9 @@ class Wrong(unittest.TestCase):
             (["--build", "seq 9; exit 4"], "true", "skip", "its build failed", 3),
             (["--build", LONG, "--build-timeout", "1s"], "true", "skip", LATE_BUILD, 1),
             (["--quiet"], "exit 3", "", "its test ended with 3", 0),
+            (["--fixed"], "exit 3", "broken", "its test failed", 3),
+            (["--fixed"], "exit 125", "skip", "its test ended with 125", 3),
+            (["--fixed"], "exit 0", "", "its test ended with 0", 0),
         ]
         for words, script, kind, why, count in rows:
             with self.subTest(words=words, script=script):

@@ -7,7 +7,7 @@ from typing import TYPE_CHECKING, Optional, Set
 
 from ..host.files import cut_log, last_lines
 from ..known import several
-from ..telling.facts import FIRST_STOP, SKIP, Row, outcome_of
+from ..telling.facts import FIRST_STOP, SKIP, Row, outcome_of, turned
 from ..telling.voice import left_text
 
 if TYPE_CHECKING:
@@ -19,7 +19,7 @@ if TYPE_CHECKING:
     from .ends import Ends
 
 LONG = 1.0  # seconds of a test beside which it costs nothing that the disk has its outcome at once
-SHOWN_LINES = 3  # of the output of the first bad commit, and of the first one that is skipped
+SHOWN_LINES = 3  # of the output of the first test that fails, and of the first one that is skipped
 
 
 class Keeping:
@@ -144,11 +144,12 @@ class Keeping:
         self.voice.verdict(row, subject, terms, test.mark)
 
     def show_first(self, claim: Claim, status: int) -> None:
-        """Why the first bad commit is bad, and the first one that is skipped is, with the last
-        lines of its output."""
+        """Why the first test that fails does, and the first one that is skipped is, with the last
+        lines of its output. With --fixed those fail whose commit is not fixed."""
         kind = outcome_of(status)
         is_plain = self.settings.quiet or self.settings.by_hand or claim.times
-        if claim.run > 1 or not 0 < status <= SKIP or kind in self.shown or is_plain:
+        succeeds = status == (turned(0) if self.settings.fixed else 0)
+        if claim.run > 1 or status > SKIP or succeeds or kind in self.shown or is_plain:
             return
         self.shown.add(kind)
         self.voice.line("    " + claim.test.seen.how(claim.commit, self.known.builds))
