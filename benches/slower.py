@@ -4,7 +4,7 @@ and how often the command is run. slower.py [SEARCHES]
 
 A line of 300 commits, the first bad one anywhere; from there on the number is greater by 1, 2 or 4 times its spread (the standard
 deviation), and 5 of 100 numbers, or none, are 10 times the spread above. The ends are measured, commits decided, and the ends compared by
-the driver's own functions; what a search tests next, with so many workers, is that of noise.py, and so is how the answer and its parent are
+the driver's own functions; what a search tests next, with so many workers, is that of rounds.py, and so is how the answer and its parent are
 tested again.
 
 slower.py SEARCHES drift: the same on a machine that is slower for a while, by 1 or 2 times the spread, in blocks of 20 to 60 runs that are a
@@ -22,7 +22,7 @@ sys.path.insert(0, os.path.join(os.path.dirname(os.path.dirname(os.path.abspath(
 sys.dont_write_bytecode = True
 
 from git_farmdawn.known.measured import COUNTS, are_apart, between, decide, is_hopeless  # noqa: E402
-from noise import COMMITS, TIMES, confirmed, search  # noqa: E402
+from rounds import COMMITS, TIMES, confirmed, search  # noqa: E402
 
 DIFFERENCES, WILD, WORKERS = (1, 2, 4), (0, 5), (4, 16)
 FAR = 10
@@ -69,7 +69,7 @@ def cell(difference, wild, workers, searches):
         if not tester.measure_ends():
             refused += 1
             continue
-        wrong += confirmed(tester, workers, True) != tester.first
+        wrong += confirmed(tester, workers) != tester.first
         runs += tester.count
     return f"{100 * wrong / searches:.1f} / {100 * refused / searches:.1f} / {runs / max(1, searches - refused):.0f}"
 

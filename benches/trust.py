@@ -1,14 +1,14 @@
 #!/usr/bin/env python3
 """Whole searches of the driver with a test that lies: the rows of a table in docs/TRUST.md.
-trust.py [SEARCHES [FROM [ROW..]]]
+trust.py [SEARCHES [FROM [ROW.. [COLUMN..]]]]
 
 Each search is one of git farmdawn, with its engine and all that it keeps, over a line of 301
 commits, the first bad one anywhere. It is begun in a copy of this process, and its tests are no
 processes: a commit is not checked out, and what a test ends with is drawn here, once for each time
 that the command would run. So a search takes some tenths of a second. A cell has, of 100 searches,
 how many name a wrong commit and how many are refused, and how often one runs the command. FROM is
-the first seed, ROW as 5,0,4. JOBS says how many searches run at once; each is as without the others.
-FARMDAWN names the program, or it is the one that was built.
+the first seed, ROW as 5,0,4, COLUMN as plain. JOBS says how many searches run at once; each is as
+without the others. FARMDAWN names the program, or it is the one that was built.
 """
 import collections
 import concurrent.futures
@@ -166,11 +166,13 @@ def cell(name, row, seeds, jobs):
     )
 
 
-def main(searches="1000", start="0", *rows):
+def main(searches="1000", start="0", *words):
     seeds = range(int(start), int(start) + int(searches))
+    rows = [tuple(map(int, word.split(","))) for word in words if "," in word]
+    asked = [word for word in words if "," not in word]
     with concurrent.futures.ProcessPoolExecutor(JOBS) as jobs:
-        for row in [tuple(map(int, one.split(","))) for one in rows] or ROWS:
-            for name in columns(row[:2]):
+        for row in rows or ROWS:
+            for name in asked or columns(row[:2]):
                 print(
                     "%d, %d | %d | %s | %s" % (*row, name, cell(name, row, seeds, jobs)), flush=True
                 )

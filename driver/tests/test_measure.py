@@ -401,7 +401,8 @@ class Searches(unittest.TestCase):
         room = self.repo.room
         script = 'n=$(cat number); echo $n >>"$0/order"; echo $((100 + 20 * (n >= 7)))'
         build = "echo $(cat number) >>%s/built" % room
-        for words in ([], ["--build", build]):
+        rows: List[List[str]] = [[], ["--build", build]]
+        for words in rows:
             with self.subTest(words):
                 for name in ("order", "built"):
                     with open(os.path.join(room, name), "w", encoding="utf-8"):

@@ -2,7 +2,6 @@
 with a test that lies by a plan."""
 from __future__ import annotations
 
-import importlib.util
 import json
 import os
 import random
@@ -336,38 +335,40 @@ class Searches(Noisy):
         )
 
 
-class Simulated(unittest.TestCase):
-    """The table of docs/TRUST.md, made by benches/noise.py."""
+def shares(cell: str) -> List[float]:
+    """How many of 100 searches were wrong, and how many refused."""
+    return [float(part) for part in cell.split(" / ")[0].split(" + ")]
 
+
+class Simulated(unittest.TestCase):
+    """The table of docs/TRUST.md, made by benches/trust.py."""
+
+    @needs_engine
     def test_table(self) -> None:
-        """The cells at lies of 5 of 100 are what the script says, but for those by odds, which take
-        minutes."""
+        """A few searches of the first row end as the table has it, but for what chance does: as
+        many name a wrong commit, or are refused, and they run as many tests."""
         with open(os.path.join(TOP, "docs", "TRUST.md"), encoding="utf-8") as file:
-            shown = [
-                line.split(" | ") for line in file if line.startswith(("| 5, 0 |", "| 5, 5 |"))
-            ]
-        self.assertEqual([row[1] for row in shown], ["1", "4", "16", "4"])
-        spec = importlib.util.spec_from_file_location(
-            "noise", os.path.join(TOP, "benches", "noise.py")
-        )
-        assert spec is not None and spec.loader is not None
-        noise = importlib.util.module_from_spec(spec)
-        spec.loader.exec_module(noise)
-        for row in shown:
-            lies = [int(word) for word in row[0].strip("| ").split(", ")]
-            for name, cell in zip(
-                ("plain", "retry 1", "repeat 3", "by itself", "confirm 3"), row[2:]
-            ):
-                with self.subTest(lies=lies, workers=row[1], name=name):
-                    self.assertEqual(noise.cell(name, lies, int(row[1]), 1000), cell)
+            row = next(line.strip("|\n ") for line in file if line.startswith("| 5, 0 | 1 |"))
+        columns = ("plain", "`--retry 1`", "`--repeat 3`")
+        words = [sys.executable, os.path.join(TOP, "benches", "trust.py"), "40", "0", "5,0,1"]
+        said = subprocess.run(
+            [*words, *columns], stdout=subprocess.PIPE, universal_newlines=True, check=True
+        ).stdout
+        rows = [line.split(" | ") for line in said.splitlines()]
+        self.assertEqual([one[2] for one in rows], list(columns))
+        for name, due, found in zip(columns, row.split(" | ")[2:], (one[3] for one in rows)):
+            with self.subTest(name=name):
+                for wanted, seen in zip(shares(due), shares(found)):
+                    chance = 4 * (max(wanted, 1) * (100 - wanted) / 40) ** 0.5
+                    self.assertLessEqual(abs(seen - wanted), chance, (due, found))
+                tests = [int(cell.rpartition(" / ")[2]) for cell in (due, found)]
+                self.assertLessEqual(abs(tests[1] - tests[0]), 0.2 * tests[0], (due, found))
 
     def test_manual(self) -> None:
         """What the manual says of --retry and --repeat is what the table has, with one worker."""
         with open(os.path.join(TOP, "docs", "TRUST.md"), encoding="utf-8") as file:
             rows = {
-                line.split(" | ")[0][2:]: [
-                    float(cell.split(" / ")[0]) for cell in line.split(" | ")[2:5]
-                ]
+                line.split(" | ")[0][2:]: [shares(cell)[0] for cell in line.split(" | ")[2:5]]
                 for line in file
                 if re.match(r"\| \d+, \d+ \| 1 \|", line)
             }
